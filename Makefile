@@ -36,11 +36,11 @@ test:
 examples: build
 	@sh tools/examples.sh
 
-# Prints what each crate stands on and which crates use it, or of one crate: make map NAME=gather_licence
+# Prints what each crate stands on and which crates use it, or of one crate: make map NAME=gather_license
 map:
 	@sh tools/map.sh $(NAME)
 
-# Tries the wrong bodies of a crate that the gate leaves out: make wrong NAME=gather_licence
+# Tries the wrong bodies of a crate that the gate leaves out: make wrong NAME=gather_license
 wrong:
 	@sh tools/wrong.sh $(NAME)
 

@@ -13,7 +13,7 @@ use Rattle.policy_core.specs.declared.valid.policy.ValidConfig.{ValidConfig}
 use Rattle.policy_core.specs.valid.Policy.{Policy}
 use Rattle.policy_core.specs.valid.View.{policy_of}
 use Rattle.check_core.specs.unused.Flags.{Flags, flags_by}
-use Rattle.check_core.specs.Check.{AreVerdicts, HasFront, all_hits, gained, packs_of}
+use Rattle.check_core.specs.Check.{AreVerdicts, HasFront, all_hits, sink_with_packs, packs_of}
 use Rattle.check_core.specs.declared.report.CrateReport.{CrateReport}
 use Rattle.check_core.specs.Reports.{report_of, reports_of, verdicts_of}
 use Rattle.check_core.specs.Summary.{gathered_of_license, gathered_of_licenses}
@@ -67,18 +67,18 @@ reports_push policy (here ∷ licenses) (first ∷ verdicts) license verdict are
 abbrev with_pack : ErrorSink → PackOf → ErrorSink
 with_pack sink pack = record sink { packs = sink.packs ++ pack_overridden sink.overrides pack ∷ [] }
 
-gained_push : (sink : ErrorSink) (packs : List PackOf) (pack : PackOf) → with_pack (gained sink packs) pack ≡ gained sink (packs ++ pack ∷ [])
+gained_push : (sink : ErrorSink) (packs : List PackOf) (pack : PackOf) → with_pack (sink_with_packs sink packs) pack ≡ sink_with_packs sink (packs ++ pack ∷ [])
 gained_push sink packs pack =
     let over = pack_overridden sink.overrides in
     ap (λ (all : List PackOf). record sink { packs = all })
     (append_assoc sink.packs (map over packs) (over pack ∷ []) ∙ ap (λ (more : List PackOf). sink.packs ++ more) (sym (map_push over packs pack)))
 
 -- one more pack, where the sink has gained some
-pub more_gained : (old new last : ErrorSink) (packs : List PackOf) (pack : PackOf) → new ≡ gained old packs
-    → last ≡ record new { packs = new.packs ++ pack_overridden new.overrides pack ∷ [] } → last ≡ gained old (packs ++ pack ∷ [])
+pub more_gained : (old new last : ErrorSink) (packs : List PackOf) (pack : PackOf) → new ≡ sink_with_packs old packs
+    → last ≡ record new { packs = new.packs ++ pack_overridden new.overrides pack ∷ [] } → last ≡ sink_with_packs old (packs ++ pack ∷ [])
 more_gained old new last packs pack before pushed = pushed ∙ ap (λ (sink : ErrorSink). with_pack sink pack) before ∙ gained_push old packs pack
 
-pub nothing_gained : (sink : ErrorSink) → sink ≡ gained sink []
+pub nothing_gained : (sink : ErrorSink) → sink ≡ sink_with_packs sink []
 nothing_gained sink = ap (λ (all : List PackOf). record sink { packs = all }) (sym (append-nil sink.packs))
 
 -- ---- so far
@@ -88,7 +88,7 @@ pub record SoFar (policy : ValidConfig) (licenses : List KrateLicense) (reports 
   pub are : AreVerdicts (policy_of policy) (gathered_of_licenses licenses) (verdicts_of reports)
   pub reported : reports ≡ reports_of licenses (verdicts_of reports)
   pub hit : flags ≡ flags_by policy (all_hits (policy_of policy) (gathered_of_licenses licenses) (verdicts_of reports))
-  pub told : new ≡ gained old (packs_of (policy_of policy) (gathered_of_licenses licenses) (verdicts_of reports))
+  pub told : new ≡ sink_with_packs old (packs_of (policy_of policy) (gathered_of_licenses licenses) (verdicts_of reports))
 
 pub one_more : (policy : ValidConfig) (licenses : List KrateLicense) (reports : List CrateReport) (flags : Flags) (old new : ErrorSink) (license : KrateLicense) (report : CrateReport) (pack : PackOf)
     (later : Flags) (last : ErrorSink) → SoFar policy licenses reports flags old new
@@ -116,7 +116,7 @@ one_more policy licenses reports flags old new license report pack later last so
           ∙ ap (flags_by policy) (sym (hits_push valid asked verdicts one report.verdict so_far.are) ∙ sym (ap₂ (all_hits valid) asked_next verdicts_next));
       told =
           more_gained old new last (packs_of valid asked verdicts) pack so_far.told pushed
-          ∙ ap (gained old)
+          ∙ ap (sink_with_packs old)
           (ap (λ (here : PackOf). packs_of valid asked verdicts ++ here ∷ []) pack_is ∙ sym (packs_push valid asked verdicts one report.verdict so_far.are)
           ∙ sym (ap₂ (packs_of valid) asked_next verdicts_next));
     }
@@ -131,7 +131,7 @@ has_front policy licenses front rest reports flags old new whole so_far =
       count = length front;
       verdicts = verdicts_of reports;
       are = subst (λ (some : List KrateLicense). AreVerdicts (policy_of policy) (gathered_of_licenses some) (verdicts_of reports)) (sym first) so_far.are;
-      front = subst (λ (some : List KrateLicense). new ≡ gained old (packs_of (policy_of policy) (gathered_of_licenses some) (verdicts_of reports))) (sym first) so_far.told;
+      front = subst (λ (some : List KrateLicense). new ≡ sink_with_packs old (packs_of (policy_of policy) (gathered_of_licenses some) (verdicts_of reports))) (sym first) so_far.told;
     }
 
 -- of no crate
@@ -140,20 +140,20 @@ no_front policy licenses sink = record { count = 0; verdicts = []; are = tt; fro
 
 -- of all crates
 pub whole_front : (policy : Policy) (licenses : List KrateLicense) (verdicts : List Verdict) (old new : ErrorSink) → AreVerdicts policy (gathered_of_licenses licenses) verdicts
-    → new ≡ gained old (packs_of policy (gathered_of_licenses licenses) verdicts) → HasFront policy licenses old new
+    → new ≡ sink_with_packs old (packs_of policy (gathered_of_licenses licenses) verdicts) → HasFront policy licenses old new
 whole_front policy licenses verdicts old new are front =
     let all : take (length licenses) licenses ≡ licenses = take_all (length licenses) licenses (omega arith) in
     record {
       count = length licenses;
       verdicts = verdicts;
       are = subst (λ (some : List KrateLicense). AreVerdicts policy (gathered_of_licenses some) verdicts) (sym all) are;
-      front = subst (λ (some : List KrateLicense). new ≡ gained old (packs_of policy (gathered_of_licenses some) verdicts)) (sym all) front;
+      front = subst (λ (some : List KrateLicense). new ≡ sink_with_packs old (packs_of policy (gathered_of_licenses some) verdicts)) (sym all) front;
     }
 
 -- some packs, and then others
-pub gained_then : (old new last : ErrorSink) (packs more : List PackOf) → new ≡ gained old packs → last ≡ gained new more → last ≡ gained old (packs ++ more)
+pub gained_then : (old new last : ErrorSink) (packs more : List PackOf) → new ≡ sink_with_packs old packs → last ≡ sink_with_packs new more → last ≡ sink_with_packs old (packs ++ more)
 gained_then old new last packs more before after =
     let over = pack_overridden old.overrides in
-    after ∙ ap (λ (sink : ErrorSink). gained sink more) before
+    after ∙ ap (λ (sink : ErrorSink). sink_with_packs sink more) before
     ∙ ap (λ (all : List PackOf). record old { packs = all })
     (append_assoc old.packs (map over packs) (map over more) ∙ ap (λ (all : List PackOf). old.packs ++ all) (sym (map-append over packs more)))

@@ -3,7 +3,7 @@ use Rattle.std.proofs.Common.{◌≡◌, refl, sym, ap, subst, ℕ, zero, suc, �
 use Rattle.std.specs.Prelude.{Any, slice_index_or}
 use Rattle.std.specs.Option.{option_to_list}
 use Rattle.spdx_terms.specs.declared.term.ExpressionReq.{ExpressionReq}
-use Rattle.graph_core.specs.Krate.{Record}
+use Rattle.graph_core.specs.Krate.{CrateRecord}
 use Rattle.spdx_core.specs.declared.certificates.verdict.Hit.{Hit}
 use Rattle.spdx_core.specs.declared.certificates.verdict.Hit.TheVariants.{Allowed, Exception}
 use Rattle.spdx_core.specs.declared.certificates.verdict.Verdict.{Verdict}
@@ -85,7 +85,7 @@ module _ (policy : Policy) (hit : Hit) where
   one_of (Some one) (inl same) = ap Some same
   one_of (Some one) (inr none) = absurd none
 
-  term_of : (krate : Record) (terms : List ExpressionReq) → IsHit (hits_in (term_hits policy krate terms)) → Among (λ (term : ExpressionReq). hit_of policy krate term.req ≡ Some hit) terms
+  term_of : (krate : CrateRecord) (terms : List ExpressionReq) → IsHit (hits_in (term_hits policy krate terms)) → Among (λ (term : ExpressionReq). hit_of policy krate term.req ≡ Some hit) terms
   term_of krate [] is = absurd is
   term_of krate (term ∷ terms) is =
       elim (among_both (λ one. one ≡ hit) (option_to_list (hit_of policy krate term.req)) (hits_in (term_hits policy krate terms)) is) [
@@ -93,7 +93,7 @@ module _ (policy : Policy) (hit : Hit) where
         | inr second ↦ inr (term_of krate terms second)
       ]
 
-  hit_in : (krate : Record) (terms : List ExpressionReq) → Among (λ (term : ExpressionReq). hit_of policy krate term.req ≡ Some hit) terms → IsHit (hits_in (term_hits policy krate terms))
+  hit_in : (krate : CrateRecord) (terms : List ExpressionReq) → Among (λ (term : ExpressionReq). hit_of policy krate term.req ≡ Some hit) terms → IsHit (hits_in (term_hits policy krate terms))
   hit_in krate [] found = absurd found
   hit_in krate (term ∷ terms) (inl is) =
       among_first (λ one. one ≡ hit) (option_to_list (hit_of policy krate term.req)) (hits_in (term_hits policy krate terms))
@@ -103,12 +103,12 @@ module _ (policy : Policy) (hit : Hit) where
 
   -- ---- of crates
 
-  info_has : (krate : Record) (info : LicenseInfo) → IsHit (hits_of policy krate info) → HasTerm policy krate hit info
+  info_has : (krate : CrateRecord) (info : LicenseInfo) → IsHit (hits_of policy krate info) → HasTerm policy krate hit info
   info_has krate Unlicensed is = absurd is
   info_has krate (SpdxExpression expression nfo) is =
       somewhere (λ (term : ExpressionReq). hit_of policy krate term.req ≡ Some hit) expression.terms (term_of krate expression.terms is)
 
-  has_info : (krate : Record) (info : LicenseInfo) → HasTerm policy krate hit info → IsHit (hits_of policy krate info)
+  has_info : (krate : CrateRecord) (info : LicenseInfo) → HasTerm policy krate hit info → IsHit (hits_of policy krate info)
   has_info krate Unlicensed has = absurd has
   has_info krate (SpdxExpression expression nfo) has =
       hit_in krate expression.terms (among (λ (term : ExpressionReq). hit_of policy krate term.req ≡ Some hit) expression.terms has)

@@ -7,14 +7,14 @@ use Rattle.std.proofs.lemmas.List.{take-map}
 use Rattle.std.proofs.lemmas.List.Elements.{All-from_recursion, All-map, All-nil, All-push, All-take, All-weaker, recursion_from_All}
 use Rattle.deny_text.specs.declared.span.Span.{Span}
 use Rattle.spdx_terms.specs.declared.term.ExpressionReq.{ExpressionReq}
-use Rattle.graph_core.specs.Krate.{Record}
+use Rattle.graph_core.specs.Krate.{CrateRecord}
 use Rattle.spdx_core.specs.declared.certificates.verdict.Verdict.{Verdict}
 use Rattle.diag_core.specs.declared.label.Label.{Label}
 use Rattle.diag_core.specs.declared.overrides.DiagnosticOverrides.{DiagnosticOverrides}
 use Rattle.diag_core.specs.declared.overrides.ErrorSink.{ErrorSink}
 use Rattle.diag_core.specs.declared.pack.Diag.{Diag}
 use Rattle.diag_core.specs.File.{File, source_of_file}
-use Rattle.diag_core.specs.Overrides.{overridden, pack_overridden}
+use Rattle.diag_core.specs.Overrides.{finding_at_level, pack_overridden}
 use Rattle.diag_core.specs.Pack.{PackOf, with_crate}
 use Rattle.gather_core.specs.findings.Cuts.{LabelLies, labels_of}
 use Rattle.gather_core.specs.findings.License.{InfoStands, PlaceLies}
@@ -34,7 +34,7 @@ use Rattle.check_core.specs.findings.Findings as findings
 use Rattle.check_core.specs.findings.Laws.{term_text}
 use Rattle.check_core.specs.findings.Places.{LabelPoints, PointsBy}
 use Rattle.check_core.proofs.findings.PointLemmas.{labels_point}
-use Rattle.check_core.specs.Check.{HasFront, all_hits, findings_of, gained, packs_of}
+use Rattle.check_core.specs.Check.{HasFront, all_hits, findings_of, sink_with_packs, packs_of}
 use Rattle.check_core.specs.Labels.{FindingLies, GainLies, InfoPoints, PackLies, VerdictPoints}
 use Rattle.check_core.specs.declared.report.CrateReport.{CrateReport}
 use Rattle.check_core.specs.Reports.{verdicts_of}
@@ -79,11 +79,11 @@ terms_lie files nfo text (term ∷ terms) [] points = absurd points
 terms_lie files nfo text (term ∷ terms) (label ∷ labels) points =
     (pointing_lies files nfo (term_text text term) label points.0, terms_lie files nfo text terms labels points.1)
 
-judged_lies : (files : List File) (accepted : Bool) (labels : List Label) (notes : List (List ℕ)) → All (LabelLies files) labels → FindingLies files (findings.judged accepted labels notes)
+judged_lies : (files : List File) (accepted : Bool) (labels : List Label) (notes : List (List ℕ)) → All (LabelLies files) labels → FindingLies files (findings.expression_finding accepted labels notes)
 judged_lies files true labels notes lie = lie
 judged_lies files false labels notes lie = lie
 
-verdict_lies : (files : List File) (policy : Policy) (krate : Record) (info : LicenseInfo) (notes : List (List ℕ)) → InfoPoints files policy krate info
+verdict_lies : (files : List File) (policy : Policy) (krate : CrateRecord) (info : LicenseInfo) (notes : List (List ℕ)) → InfoPoints files policy krate info
     → FindingLies files (verdict_finding policy krate info notes)
 verdict_lies files policy krate Unlicensed notes points = All-nil (LabelLies files)
 verdict_lies files policy krate (SpdxExpression expression nfo) notes points =
@@ -120,7 +120,7 @@ gathered_lies files gathered all =
 findings_lie : (files : List File) (policy : Policy) (asked : GatheredCrate) (private : Bool) → All (LabelLies files) (labels_of asked.gathered) → VerdictPoints files policy asked
     → All (FindingLies files) (findings_by private policy asked)
 findings_lie files policy asked true lie points =
-    All-from_recursion (FindingLies files) (findings.skipped asked.krate ∷ []) (All-nil (LabelLies files), tt)
+    All-from_recursion (FindingLies files) (findings.skipped_finding asked.krate ∷ []) (All-nil (LabelLies files), tt)
 findings_lie files policy asked false lie points =
     All-push (FindingLies files) asked.gathered (verdict_finding policy asked.krate asked.info asked.notes) (gathered_lies files asked.gathered lie)
     (verdict_lies files policy asked.krate asked.info asked.notes points)
@@ -158,9 +158,9 @@ last_lies files policy licenses verdicts lie =
 
 at_level : (files : List File) (overrides : Option DiagnosticOverrides) (pack : PackOf) → PackLies files pack → PackLies files (pack_overridden overrides pack)
 at_level files None pack lies = lies
-at_level files (Some overrides) pack lies = All-map (FindingLies files) (overridden overrides) pack.findings lies
+at_level files (Some overrides) pack lies = All-map (FindingLies files) (finding_at_level overrides) pack.findings lies
 
-gain : (files : List File) (old new : ErrorSink) (packs : List PackOf) → new ≡ gained old packs → All (PackLies files) packs → GainLies files old new
+gain : (files : List File) (old new : ErrorSink) (packs : List PackOf) → new ≡ sink_with_packs old packs → All (PackLies files) packs → GainLies files old new
 gain files old new packs is lie =
     let over = pack_overridden old.overrides in (
       map over packs,
@@ -177,14 +177,14 @@ module _ (files : List File) (policy : ValidConfig) (licenses : List KrateLicens
       (recursion_from_All (VerdictPoints files (policy_of policy)) (gathered_of_licenses licenses) points))
 
   -- of all packs
-  pub whole_gain : (old new : ErrorSink) (verdicts : List Verdict) → new ≡ gained old (findings_of policy (gathered_of_licenses licenses) verdicts) → EntriesLie files policy → GainLies files old new
+  pub whole_gain : (old new : ErrorSink) (verdicts : List Verdict) → new ≡ sink_with_packs old (findings_of policy (gathered_of_licenses licenses) verdicts) → EntriesLie files policy → GainLies files old new
   whole_gain old new verdicts is lie =
       let packs = packs_of (policy_of policy) (gathered_of_licenses licenses) verdicts in
       let last = last_pack policy (all_hits (policy_of policy) (gathered_of_licenses licenses) verdicts) in
       gain files old new (packs ++ last ∷ []) is (All-push (PackLies files) packs last (all_lie verdicts) (last_lies files policy licenses verdicts lie))
 
   -- of those of some crates alone
-  pub part_gain : (old new : ErrorSink) (verdicts : List Verdict) → new ≡ gained old (packs_of (policy_of policy) (gathered_of_licenses licenses) verdicts) → GainLies files old new
+  pub part_gain : (old new : ErrorSink) (verdicts : List Verdict) → new ≡ sink_with_packs old (packs_of (policy_of policy) (gathered_of_licenses licenses) verdicts) → GainLies files old new
   part_gain old new verdicts is = gain files old new (packs_of (policy_of policy) (gathered_of_licenses licenses) verdicts) is (all_lie verdicts)
 
 -- of those of some first crates
@@ -197,14 +197,14 @@ front_gain files policy licenses old new placed points front =
 
 -- after any answer
 pub any_gain : {E : Type 0} (files : List File) (policy : ValidConfig) (licenses : List KrateLicense) (old new : ErrorSink) (result : Result (List CrateReport) E) → All (IsPlacedAt files) licenses
-    → All (VerdictPoints files (policy_of policy)) (gathered_of_licenses licenses) → IfOk result (λ reports. new ≡ gained old (findings_of policy (gathered_of_licenses licenses) (verdicts_of reports)))
+    → All (VerdictPoints files (policy_of policy)) (gathered_of_licenses licenses) → IfOk result (λ reports. new ≡ sink_with_packs old (findings_of policy (gathered_of_licenses licenses) (verdicts_of reports)))
     → OnErr result (HasFront (policy_of policy) licenses old new) → EntriesLie files policy → GainLies files old new
 any_gain files policy licenses old new (Ok reports) placed points packs front lie = whole_gain files policy licenses placed points old new (verdicts_of reports) packs lie
 any_gain files policy licenses old new (Err error) placed points packs front lie = front_gain files policy licenses old new placed points front
 
 -- ---- where an expression stands
 
-info_points : (files : List File) (policy : Policy) (krate : Record) (info : LicenseInfo) → IsExpressionIn info → InfoStands files info → InfoPoints files policy krate info
+info_points : (files : List File) (policy : Policy) (krate : CrateRecord) (info : LicenseInfo) → IsExpressionIn info → InfoStands files info → InfoPoints files policy krate info
 info_points files policy krate Unlicensed facts stands = tt
 info_points files policy krate (SpdxExpression expression nfo) facts stands = labels_point files expression nfo (term_hits policy krate expression.terms) facts stands
 

@@ -6,7 +6,7 @@ use Rattle.spdx_terms.specs.declared.term.ExpressionReq.{ExpressionReq}
 use Rattle.spdx_terms.specs.declared.term.LicenseReq.{LicenseReq}
 use Rattle.spdx_core.specs.Grammar.{ExpressionTree}
 use Rattle.spdx_core.specs.Reading.{ExpressionView}
-use Rattle.graph_core.specs.Krate.{Record}
+use Rattle.graph_core.specs.Krate.{CrateRecord}
 use Rattle.policy_core.specs.valid.Policy.{Grant, IsPrivate, Policy}
 use Rattle.check_core.specs.evaluate.Evaluation.{is_allowed}
 use Rattle.check_core.specs.evaluate.Laws.{with_allowed, with_exception}
@@ -28,7 +28,7 @@ as_good_if false true more = inr refl
 as_good_if false false more = inl refl
 
 -- a policy that allows no less, and passes over the same crates
-module _ (policy other : Policy) (krate : Record) (to : IsPrivate policy krate → IsPrivate other krate) (from : IsPrivate other krate → IsPrivate policy krate)
+module _ (policy other : Policy) (krate : CrateRecord) (to : IsPrivate policy krate → IsPrivate other krate) (from : IsPrivate other krate → IsPrivate policy krate)
     (more : (terms : List ExpressionReq) (tree : ExpressionTree) → IsTrue (is_allowed policy krate terms tree) → IsTrue (is_allowed other krate terms tree)) where
   judged_as_good : (expression : Option ExpressionView) → IsAsGood (judgement_of policy krate expression) (judgement_of other krate expression)
   judged_as_good None = refl
@@ -47,13 +47,13 @@ module _ (policy other : Policy) (krate : Record) (to : IsPrivate policy krate �
       subst (λ (j : Judgement). IsAsGood j after) (sym first.is)
       (subst (λ (j : Judgement). IsAsGood (verdict_of first.private policy krate expression) j) (sym after_is) (verdict_as_good first.private expression))
 
-pub more_allowed_as_good : (policy : Policy) (krate : Record) (expression : Option ExpressionView) (place : ℕ) (licensee : LicenseReq) (before after : Judgement)
+pub more_allowed_as_good : (policy : Policy) (krate : CrateRecord) (expression : Option ExpressionView) (place : ℕ) (licensee : LicenseReq) (before after : Judgement)
     → IsJudged policy krate expression before → IsJudged (with_allowed policy place licensee) krate expression after → IsAsGood before after
 more_allowed_as_good policy krate expression place licensee =
     as_good policy (with_allowed policy place licensee) krate (λ is. record { ignores = is.ignores; private = is.private }) (λ is. record { ignores = is.ignores; private = is.private })
     (λ terms tree. more_allowed policy krate terms tree place licensee) expression
 
-pub more_exceptions_as_good : (policy : Policy) (krate : Record) (expression : Option ExpressionView) (grant : Grant) (before after : Judgement)
+pub more_exceptions_as_good : (policy : Policy) (krate : CrateRecord) (expression : Option ExpressionView) (grant : Grant) (before after : Judgement)
     → IsJudged policy krate expression before → IsJudged (with_exception policy grant) krate expression after → IsAsGood before after
 more_exceptions_as_good policy krate expression grant =
     as_good policy (with_exception policy grant) krate (λ is. record { ignores = is.ignores; private = is.private }) (λ is. record { ignores = is.ignores; private = is.private })

@@ -6,25 +6,25 @@ use Rattle.std.specs.Ordering.{is_lt}
 use Rattle.std.proofs.lemmas.List.Elements.{recursion_from_All}
 use Rattle.deny_text.specs.Path.{components_of, path_order}
 use Rattle.spdx_core.specs.Reading.{ExpressionView}
-use Rattle.graph_core.specs.Krate.{Record}
+use Rattle.graph_core.specs.Krate.{CrateRecord}
 use Rattle.spdx_core.specs.declared.certificates.verdict.Hit.{Hit}
 use Rattle.spdx_core.specs.declared.certificates.verdict.Verdict.{Verdict}
 use Rattle.spdx_core.specs.declared.certificates.verdict.Verdict.TheVariants.{Skipped, Unlicensed, Accepted, Rejected}
 use Rattle.spdx_core.specs.certificates.Certificates.{hit_at}
 use Rattle.tree_core.specs.file_reads.Heard.{ReadResult}
-use Rattle.gather_licence.specs.files.Ears.{FolderReads, has_hash, holds, looked_of, matches, tried_of}
-use Rattle.gather_licence.specs.files.NamedFile.{NamedFileView}
-use Rattle.gather_licence.specs.files.Pack.{first_spellings, license_files_in, in_path_order, pack_paths, placed, same_path, wanted_of}
-use Rattle.gather_licence.specs.files.View.{normal_heard}
-use Rattle.gather_licence.specs.expression.Scanned.{Scanner, file_scanned}
-use Rattle.gather_licence.specs.Clarification.{ClarificationView, named_files, held_in, named_in}
-use Rattle.gather_licence.specs.Priority.{LicenseAnswer, answer_in, by_seen, field_of, files_scanned, holding, priority_of, seen_by, settling_by}
+use Rattle.gather_license.specs.files.KnownReads.{FolderReads, has_hash, holds, looked_of, matches, tried_of}
+use Rattle.gather_license.specs.files.NamedFile.{NamedFileView}
+use Rattle.gather_license.specs.files.Pack.{first_spellings, license_files_in, in_path_order, pack_paths, paths_with, same_path, wanted_of}
+use Rattle.gather_license.specs.files.View.{normal_heard}
+use Rattle.gather_license.specs.expression.Scanned.{Scanner, file_scanned}
+use Rattle.gather_license.specs.Clarification.{ClarificationView, named_files, held_in, named_in}
+use Rattle.gather_license.specs.Priority.{LicenseAnswer, answer_in, by_seen, field_of, files_scanned, holding_clarification, priority_of, seen_by, settling_by}
 use Rattle.gather_core.specs.Entries.{clarifications_of, entries_of}
 use Rattle.policy_core.specs.valid.Policy.{Policy}
 use Rattle.policy_core.specs.valid.View.{policy_of}
 use Rattle.check_core.specs.evaluate.Evaluation.{term_hits}
 use Rattle.check_core.proofs.LawLemmas.{same_test}
-use Rattle.check_core.specs.Own.{HearTheSame, VerdictIsByEars, VerdictIsOwn, ears_there, expression_by, paths_around, clarified_paths}
+use Rattle.check_core.specs.Own.{HearTheSame, VerdictIsByKnownReads, VerdictIsOwn, known_reads_there, expression_by, paths_around, clarified_paths}
 use Rattle.check_core.specs.Verdicts.{skipped, unlicensed, accepted, rejected, IsCertifiedOrUnlicensed, IsVerdictShown, IsVerdict, is_skipped, judgement_in, verdict_of}
 
 -- ---- lists
@@ -69,18 +69,18 @@ module _ (P : List ℕ → Type 0) where
   place_if true path next paths rest here there all more = (here, (there, all))
   place_if false path next paths rest here there all more = (there, more)
 
-  place_one : (path : List ℕ) (paths : List (List ℕ)) → P path → AllByRecursion P paths → AllByRecursion P (placed path paths)
+  place_one : (path : List ℕ) (paths : List (List ℕ)) → P path → AllByRecursion P paths → AllByRecursion P (paths_with path paths)
   place_one path [] here all = (here, tt)
   place_one path (next ∷ paths) here all =
-      place_if (is_lt (path_order path next)) path next paths (placed path paths) here all.0 all.1 (place_one path paths here all.1)
+      place_if (is_lt (path_order path next)) path next paths (paths_with path paths) here all.0 all.1 (place_one path paths here all.1)
 
-  place_each : (sorted paths : List (List ℕ)) → AllByRecursion P sorted → AllByRecursion P paths → AllByRecursion P (fold (λ sorted path. placed path sorted) sorted paths)
+  place_each : (sorted paths : List (List ℕ)) → AllByRecursion P sorted → AllByRecursion P paths → AllByRecursion P (fold (λ sorted path. paths_with path sorted) sorted paths)
   place_each sorted [] first all = first
-  place_each sorted (path ∷ paths) first all = place_each (placed path sorted) paths (place_one path sorted all.0 first) all.1
+  place_each sorted (path ∷ paths) first all = place_each (paths_with path sorted) paths (place_one path sorted all.0 first) all.1
 
 -- what is heard of a file, as it is kept
 abbrev heard_by : FolderReads → List ℕ → List ℕ × ReadResult
-heard_by ears path = (path, normal_heard (ears.file (components_of path)))
+heard_by known_reads path = (path, normal_heard (known_reads.file (components_of path)))
 
 -- ---- what is read by two ears
 
@@ -133,7 +133,7 @@ module _ (one other : FolderReads) where
   same_heard (path ∷ paths) same =
       ap₂ (λ (heard : ReadResult) (rest : List (List ℕ × ReadResult)). let it : List ℕ × ReadResult = (path, normal_heard heard) in it ∷ rest) same.0 (same_heard paths same.1)
 
-  same_holding : (clarifications : List ClarificationView) → AllByRecursion SameFor (named_files clarifications) → holding one clarifications ≡ holding other clarifications
+  same_holding : (clarifications : List ClarificationView) → AllByRecursion SameFor (named_files clarifications) → holding_clarification one clarifications ≡ holding_clarification other clarifications
   same_holding [] same = refl
   same_holding (first ∷ more) same = ap₂ (λ b rest. cond b (Some first) rest) (same_holds (named_in first) same.0) (same_holding more same.1)
 
@@ -150,7 +150,7 @@ module _ (one other : FolderReads) where
     same_each more (all_behind SameAt (clarified_paths first) (flat_map clarified_paths more) same),
   )
 
-  same_priority : (scanner : Scanner) (clarifications : List ClarificationView) (krate : Record) → HearTheSame clarifications krate one other
+  same_priority : (scanner : Scanner) (clarifications : List ClarificationView) (krate : CrateRecord) → HearTheSame clarifications krate one other
       → priority_of scanner clarifications krate one ≡ priority_of scanner clarifications krate other
   same_priority scanner clarifications krate hear =
       let found = license_files_in one.listing krate.license_file in
@@ -191,7 +191,7 @@ same_items [] (y ∷ ys) same = let bad : [] ≡ Some y ∷ map Some ys = same i
 same_items (x ∷ xs) [] same = let bad : Some x ∷ map Some xs ≡ [] = same in cc
 same_items (x ∷ xs) (y ∷ ys) same = ap₂ (λ first rest. first ∷ rest) (ap (first_of x) same) (same_items xs ys (ap rest_of same))
 
-same_accepted : (policy : Policy) (krate : Record) (expression : Option ExpressionView) (choice places : List ℕ) (hits others : List Hit)
+same_accepted : (policy : Policy) (krate : CrateRecord) (expression : Option ExpressionView) (choice places : List ℕ) (hits others : List Hit)
     → IsCertifiedOrUnlicensed policy krate expression (Accepted choice hits) → IsCertifiedOrUnlicensed policy krate expression (Accepted places others) → Accepted choice hits ≡ Accepted places others
 same_accepted policy krate None choice places hits others first second = let bad : Accepted choice hits ≡ Unlicensed = first in cc
 same_accepted policy krate (Some expression) choice places hits others first second =
@@ -199,13 +199,13 @@ same_accepted policy krate (Some expression) choice places hits others first sec
     ap₂ Accepted choices
     (same_items hits others (first.place_by_place ∙ ap (map (hit_at (term_hits policy krate expression.terms))) choices ∙ sym second.place_by_place))
 
-same_rejected : (policy : Policy) (krate : Record) (expression : Option ExpressionView) (least fewest blocks others : List ℕ)
+same_rejected : (policy : Policy) (krate : CrateRecord) (expression : Option ExpressionView) (least fewest blocks others : List ℕ)
     → IsCertifiedOrUnlicensed policy krate expression (Rejected least blocks) → IsCertifiedOrUnlicensed policy krate expression (Rejected fewest others) → Rejected least blocks ≡ Rejected fewest others
 same_rejected policy krate None least fewest blocks others first second = let bad : Rejected least blocks ≡ Unlicensed = first in cc
 same_rejected policy krate (Some expression) least fewest blocks others first second =
     ap₂ Rejected (ap (λ o. unwrap_or o least) (sym first.least_is ∙ second.least_is)) (first.blocks_are ∙ sym second.blocks_are)
 
-same_shown : (policy : Policy) (krate : Record) (expression : Option ExpressionView) (first second : Verdict) → judgement_in first ≡ judgement_in second
+same_shown : (policy : Policy) (krate : CrateRecord) (expression : Option ExpressionView) (first second : Verdict) → judgement_in first ≡ judgement_in second
     → IsVerdictShown (is_skipped first) policy krate expression first → IsVerdictShown (is_skipped second) policy krate expression second → first ≡ second
 same_shown policy krate expression Skipped Skipped same shown also = refl
 same_shown policy krate expression Skipped Unlicensed same shown also = let bad : skipped ≡ unlicensed = same in cc
@@ -224,7 +224,7 @@ same_shown policy krate expression (Rejected least blocks) Unlicensed same shown
 same_shown policy krate expression (Rejected least blocks) (Accepted choice hits) same shown also = let bad : rejected ≡ accepted = same in cc
 same_shown policy krate expression (Rejected least blocks) (Rejected fewest others) same shown also = same_rejected policy krate expression least fewest blocks others shown also
 
-same_verdict : (policy : Policy) (krate : Record) (expression : Option ExpressionView) (first second : Verdict) → IsVerdict policy krate expression first
+same_verdict : (policy : Policy) (krate : CrateRecord) (expression : Option ExpressionView) (first second : Verdict) → IsVerdict policy krate expression first
     → IsVerdict policy krate expression second → first ≡ second
 same_verdict policy krate expression first second is also =
     let private : is.judged.private ≡ also.judged.private = same_test is.judged.private also.judged.private (λ p. p) (λ p. p) is.judged.tells also.judged.tells in
@@ -233,12 +233,12 @@ same_verdict policy krate expression first second is also =
 
 -- ---- laws
 
-pub by_ears : VerdictIsByEars
-by_ears scanner policy krate one other first second hear is also =
+pub by_known_reads : VerdictIsByKnownReads
+by_known_reads scanner policy krate one other first second hear is also =
     let same : expression_by scanner policy krate one ≡ expression_by scanner policy krate other =
     ap (λ answer. option_map (λ (one : LicenseAnswer). one.expression) answer) (same_priority one other scanner (clarifications_of krate (entries_of policy)) krate hear) in
     same_verdict (policy_of policy) krate (expression_by scanner policy krate one) first second is
     (subst (λ (e : Option ExpressionView). IsVerdict (policy_of policy) krate e second) (sym same) also)
 
 pub by_own : VerdictIsOwn
-by_own scanner policy krate one other = by_ears scanner policy krate (ears_there krate one) (ears_there krate other)
+by_own scanner policy krate one other = by_known_reads scanner policy krate (known_reads_there krate one) (known_reads_there krate other)

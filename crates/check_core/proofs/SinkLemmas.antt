@@ -5,7 +5,7 @@ use Rattle.diag_core.specs.File.{File}
 use Rattle.diag_core.specs.Overrides.{pack_overridden}
 use Rattle.diag_core.specs.Pack.{PackOf}
 use Rattle.diag_core.specs.declared.overrides.ErrorSink.{ErrorSink}
-use Rattle.check_core.specs.Check.{gained}
+use Rattle.check_core.specs.Check.{sink_with_packs}
 use Rattle.check_core.specs.Labels.{GainLies, PackLies}
 
 -- without overrides each pack is as it was
@@ -13,7 +13,7 @@ pub not_overridden : (packs : List PackOf) → map (pack_overridden None) packs 
 not_overridden [] = refl
 not_overridden (pack ∷ packs) = ap (λ rest. pack ∷ rest) (not_overridden packs)
 
-pub packs_gained : (old new : ErrorSink) (packs : List PackOf) → old.packs ≡ [] → new ≡ gained old packs → new.packs ≡ map (pack_overridden old.overrides) packs
+pub packs_gained : (old new : ErrorSink) (packs : List PackOf) → old.packs ≡ [] → new ≡ sink_with_packs old packs → new.packs ≡ map (pack_overridden old.overrides) packs
 packs_gained old new packs empty is =
     ap (λ (one : ErrorSink). one.packs) is ∙ ap (λ held. held ++ map (pack_overridden old.overrides) packs) empty
 

@@ -5,7 +5,7 @@ use Rattle.std.proofs.lemmas.Bool.{cond-true, cond-false}
 use Rattle.std.specs.declared.alloc.AllocError.{AllocError}
 use Rattle.spdx_core.specs.Grammar.{ExpressionTree}
 use Rattle.spdx_core.specs.Reading.{ExpressionView}
-use Rattle.graph_core.specs.Krate.{Record}
+use Rattle.graph_core.specs.Krate.{CrateRecord}
 use Rattle.spdx_core.specs.declared.certificates.verdict.Hit.{Hit}
 use Rattle.spdx_core.specs.declared.certificates.verdict.Verdict.{Verdict}
 use Rattle.spdx_core.specs.declared.certificates.verdict.Verdict.TheVariants.{Skipped, Unlicensed, Accepted, Rejected}
@@ -18,7 +18,7 @@ use Rattle.check_core.specs.declared.crate_check.JudgedCrate.{JudgedCrate}
 use Rattle.check_core.specs.Verdicts.{accepted, rejected, IsCertifiedOrUnlicensed, IsCertified, IsVerdictShown, IsVerdict, is_skipped, judgement_in, judgement_of, verdict_of}
 
 -- what was kept is what the policy says of each term
-pub certified : (policy : Policy) (krate : Record) (expression : ExpressionView) (kept : List (Option Hit)) (verdict : Verdict) → kept ≡ term_hits policy krate expression.terms
+pub certified : (policy : Policy) (krate : CrateRecord) (expression : ExpressionView) (kept : List (Option Hit)) (verdict : Verdict) → kept ≡ term_hits policy krate expression.terms
     → CertificateAnswers kept expression.tree (Ok verdict) → IsCertified policy krate expression verdict
 certified policy krate expression kept Skipped is shows = absurd shows
 certified policy krate expression kept Unlicensed is shows = absurd shows
@@ -33,7 +33,7 @@ accepted_by : (has_hit : ℕ → Bool) (tree : ExpressionTree) (choice : List �
 accepted_by has_hit tree choice true is first = is
 accepted_by has_hit tree choice false is first = let none : None ≡ Some choice = sym (no_choice has_hit tree is) ∙ first in cc
 
-answered_is : (policy : Policy) (krate : Record) (expression : Option ExpressionView) (verdict : Verdict) → IsCertifiedOrUnlicensed policy krate expression verdict
+answered_is : (policy : Policy) (krate : CrateRecord) (expression : Option ExpressionView) (verdict : Verdict) → IsCertifiedOrUnlicensed policy krate expression verdict
     → (judgement_in verdict ≡ judgement_of policy krate expression) × (is_skipped verdict ≡ false)
 answered_is policy krate None verdict is = (ap judgement_in is, ap is_skipped is)
 answered_is policy krate (Some expression) Skipped shows = absurd shows
@@ -47,7 +47,7 @@ answered_is policy krate (Some expression) (Rejected least blocks) shows =
 
 -- ---- verdicts
 
-pub skipped_verdict : (policy : Policy) (krate : Record) (expression : Option ExpressionView) (private : Bool) (verdict : Verdict) → IsTrue private ↔ IsPrivate policy krate → private ≡ true
+pub skipped_verdict : (policy : Policy) (krate : CrateRecord) (expression : Option ExpressionView) (private : Bool) (verdict : Verdict) → IsTrue private ↔ IsPrivate policy krate → private ≡ true
     → verdict ≡ Skipped → IsVerdict policy krate expression verdict
 skipped_verdict policy krate expression private verdict tells passed is = record {
   judged = record {
@@ -58,7 +58,7 @@ skipped_verdict policy krate expression private verdict tells passed is = record
   shown = subst (λ (v : Verdict). IsVerdictShown (is_skipped v) policy krate expression v) (sym is) refl;
 }
 
-pub answered_verdict : (policy : Policy) (krate : Record) (expression : Option ExpressionView) (private : Bool) (verdict : Verdict) → IsTrue private ↔ IsPrivate policy krate → private ≡ false
+pub answered_verdict : (policy : Policy) (krate : CrateRecord) (expression : Option ExpressionView) (private : Bool) (verdict : Verdict) → IsTrue private ↔ IsPrivate policy krate → private ≡ false
     → IsCertifiedOrUnlicensed policy krate expression verdict → IsVerdict policy krate expression verdict
 answered_verdict policy krate expression private verdict tells asked answered =
     let told = answered_is policy krate expression verdict answered in
@@ -71,11 +71,11 @@ answered_verdict policy krate expression private verdict tells asked answered =
       shown = subst (λ (s : Bool). IsVerdictShown s policy krate expression verdict) (sym told.1) answered;
     }
 
-pub answered_not_skipped : (policy : Policy) (krate : Record) (expression : Option ExpressionView) (verdict : Verdict) → IsCertifiedOrUnlicensed policy krate expression verdict → is_skipped verdict ≡ false
+pub answered_not_skipped : (policy : Policy) (krate : CrateRecord) (expression : Option ExpressionView) (verdict : Verdict) → IsCertifiedOrUnlicensed policy krate expression verdict → is_skipped verdict ≡ false
 answered_not_skipped policy krate expression verdict answered = (answered_is policy krate expression verdict answered).1
 
 -- of a crate that was asked, unless memory was short
-pub answered_check : (policy : Policy) (krate : Record) (expression : Option ExpressionView) (private : Bool) → IsTrue private ↔ IsPrivate policy krate → private ≡ false
+pub answered_check : (policy : Policy) (krate : CrateRecord) (expression : Option ExpressionView) (private : Bool) → IsTrue private ↔ IsPrivate policy krate → private ≡ false
     → (result : Result JudgedCrate AllocError) → IfOk result (λ judged. IsCertifiedOrUnlicensed policy krate expression judged.report.verdict)
     → IfOk result (λ judged. IsVerdict policy krate expression judged.report.verdict)
 answered_check policy krate expression private tells asked (Ok judged) answered = answered_verdict policy krate expression private judged.report.verdict tells asked answered

@@ -38,12 +38,12 @@ findings_of policy asked verdicts = packs_of (policy_of policy) asked verdicts +
 -- ---- what a sink has gained
 
 -- a sink with more packs behind its own, each at the levels that its overrides say
-abbrev pub gained : ErrorSink → List PackOf → ErrorSink
-gained sink packs = record sink { packs = sink.packs ++ map (pack_overridden sink.overrides) packs }
+abbrev pub sink_with_packs : ErrorSink → List PackOf → ErrorSink
+sink_with_packs sink packs = record sink { packs = sink.packs ++ map (pack_overridden sink.overrides) packs }
 
 -- a sink has gained the packs of some first crates, by the verdicts on these, and nothing else
 pub record HasFront (policy : Policy) (licenses : List KrateLicense) (old new : ErrorSink) : Type 0 where
   pub count : ℕ
   pub verdicts : List Verdict
   pub are : AreVerdicts policy (gathered_of_licenses (take count licenses)) verdicts
-  pub front : new ≡ gained old (packs_of policy (gathered_of_licenses (take count licenses)) verdicts)
+  pub front : new ≡ sink_with_packs old (packs_of policy (gathered_of_licenses (take count licenses)) verdicts)

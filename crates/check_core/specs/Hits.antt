@@ -2,7 +2,7 @@
 use Rattle.std.specs.Prelude.{◌≡◌, ◌↔◌, ◌⊎◌, ℕ, false, List, [], ◌∷◌, Some, Any}
 use Rattle.std.specs.List.{AllZip}
 use Rattle.spdx_terms.specs.declared.term.ExpressionReq.{ExpressionReq}
-use Rattle.graph_core.specs.Krate.{Record}
+use Rattle.graph_core.specs.Krate.{CrateRecord}
 use Rattle.spdx_core.specs.declared.certificates.verdict.Hit.{Hit}
 use Rattle.spdx_core.specs.declared.certificates.verdict.Hit.TheVariants.{Allowed, Exception}
 use Rattle.spdx_core.specs.declared.certificates.verdict.Verdict.{Verdict}
@@ -22,13 +22,13 @@ use Rattle.check_core.specs.Verdicts.{is_skipped}
 
 -- each term of a crate's expression is told at its own place by what allows it
 abbrev pub TermsAreTold : Type 0
-TermsAreTold = (policy : Policy) (krate : Record) (nfo : LicenseExprInfo) (terms : List ExpressionReq)
+TermsAreTold = (policy : Policy) (krate : CrateRecord) (nfo : LicenseExprInfo) (terms : List ExpressionReq)
     → AllZip (λ term label. label ≡ term_label nfo term.span (hit_of policy krate term.req)) terms (term_labels nfo terms (term_hits policy krate terms))
 
 -- ---- hits of crates
 
 -- a crate's expression has a term that this allows
-abbrev pub HasTerm : Policy → Record → Hit → LicenseInfo → Type 0
+abbrev pub HasTerm : Policy → CrateRecord → Hit → LicenseInfo → Type 0
 HasTerm policy krate hit Unlicensed = ⊥
 HasTerm policy krate hit (SpdxExpression expression nfo) = Any (λ (term : ExpressionReq). hit_of policy krate term.req ≡ Some hit) expression.terms
 

@@ -1,6 +1,6 @@
 -- Where the labels of what the check tells lie, and what those of terms cut out.
 use Rattle.std.specs.Prelude.{◌≡◌, List, ◌++◌, All, ⊤}
-use Rattle.graph_core.specs.Krate.{Record}
+use Rattle.graph_core.specs.Krate.{CrateRecord}
 use Rattle.diag_core.specs.declared.overrides.ErrorSink.{ErrorSink}
 use Rattle.diag_core.specs.declared.pack.Diag.{Diag}
 use Rattle.diag_core.specs.File.{File}
@@ -26,7 +26,7 @@ GainLies files old new = (packs : List PackOf) × (new.packs ≡ old.packs ++ pa
 
 -- the labels of a verdict: the first cuts out the expression, and each further one just its own term, or where the text was
 -- written with escapes each is the whole string
-abbrev pub InfoPoints : List File → Policy → Record → LicenseInfo → Type 0
+abbrev pub InfoPoints : List File → Policy → CrateRecord → LicenseInfo → Type 0
 InfoPoints files policy krate Unlicensed = ⊤
 InfoPoints files policy krate (SpdxExpression expression nfo) = LabelsPoint files expression nfo (term_hits policy krate expression.terms)
 

@@ -2,7 +2,7 @@
 use Rattle.std.specs.Prelude.{◌≡◌, ◌⊎◌, ℕ, Option}
 use Rattle.spdx_terms.specs.declared.term.LicenseReq.{LicenseReq}
 use Rattle.spdx_core.specs.Reading.{ExpressionView}
-use Rattle.graph_core.specs.Krate.{Record}
+use Rattle.graph_core.specs.Krate.{CrateRecord}
 use Rattle.policy_core.specs.valid.Policy.{Grant, Policy}
 use Rattle.check_core.specs.evaluate.Laws.{with_allowed, with_exception}
 use Rattle.check_core.specs.Verdicts.{Judgement, skipped, unlicensed, accepted, rejected, IsJudged}
@@ -16,10 +16,10 @@ IsAsGood rejected after = (after ≡ rejected) ⊎ (after ≡ accepted)
 
 -- one more allowed licensee, at any place of the sorted list
 abbrev pub MoreAllowedIsAsGood : Type 0
-MoreAllowedIsAsGood = (policy : Policy) (krate : Record) (expression : Option ExpressionView) (place : ℕ) (licensee : LicenseReq) (before after : Judgement)
+MoreAllowedIsAsGood = (policy : Policy) (krate : CrateRecord) (expression : Option ExpressionView) (place : ℕ) (licensee : LicenseReq) (before after : Judgement)
     → IsJudged policy krate expression before → IsJudged (with_allowed policy place licensee) krate expression after → IsAsGood before after
 
 -- one more exception behind all others
 abbrev pub MoreExceptionsAreAsGood : Type 0
-MoreExceptionsAreAsGood = (policy : Policy) (krate : Record) (expression : Option ExpressionView) (grant : Grant) (before after : Judgement)
+MoreExceptionsAreAsGood = (policy : Policy) (krate : CrateRecord) (expression : Option ExpressionView) (grant : Grant) (before after : Judgement)
     → IsJudged policy krate expression before → IsJudged (with_exception policy grant) krate expression after → IsAsGood before after

@@ -5,23 +5,23 @@ use Rattle.deny_text.specs.Path.{components_of}
 use Rattle.tree_core.specs.Content.{Content, resolve}
 use Rattle.tree_core.specs.declared.reads.ReadKind.TheVariants.{LicenseFile}
 use Rattle.spdx_core.specs.Reading.{ExpressionView}
-use Rattle.graph_core.specs.Krate.{Record}
+use Rattle.graph_core.specs.Krate.{CrateRecord}
 use Rattle.spdx_core.specs.declared.certificates.verdict.Verdict.{Verdict}
 use Rattle.tree_core.specs.file_reads.Heard.{ReadResult, listing_heard, read_place, there_heard}
-use Rattle.gather_licence.specs.files.Ears.{FolderReads}
-use Rattle.gather_licence.specs.files.Pack.{license_files_in}
-use Rattle.gather_licence.specs.expression.Scanned.{Scanner}
-use Rattle.gather_licence.specs.Clarification.{ClarificationView, named_in}
-use Rattle.gather_licence.specs.Priority.{folder_of, priority_of}
+use Rattle.gather_license.specs.files.KnownReads.{FolderReads}
+use Rattle.gather_license.specs.files.Pack.{license_files_in}
+use Rattle.gather_license.specs.expression.Scanned.{Scanner}
+use Rattle.gather_license.specs.Clarification.{ClarificationView, named_in}
+use Rattle.gather_license.specs.Priority.{folder_of, priority_of}
 use Rattle.gather_core.specs.Entries.{clarifications_of, entries_of}
 use Rattle.policy_core.specs.declared.valid.policy.ValidConfig.{ValidConfig}
 use Rattle.policy_core.specs.valid.View.{policy_of}
 use Rattle.check_core.specs.Verdicts.{IsVerdict}
 
 -- the expression of a crate, by what is heard
-abbrev pub expression_by : Scanner → ValidConfig → Record → FolderReads → Option ExpressionView
-expression_by scanner policy krate ears =
-    option_map (λ answer. answer.expression) (priority_of scanner (clarifications_of krate (entries_of policy)) krate ears)
+abbrev pub expression_by : Scanner → ValidConfig → CrateRecord → FolderReads → Option ExpressionView
+expression_by scanner policy krate known_reads =
+    option_map (λ answer. answer.expression) (priority_of scanner (clarifications_of krate (entries_of policy)) krate known_reads)
 
 -- ---- the files of a crate
 
@@ -30,17 +30,17 @@ clarified_paths one = map (λ named. named.path) (named_in one)
 
 -- at most these are read: the licence files of its folder and the file that its record names, by the listing, and the files
 -- that clarifications name
-abbrev pub paths_around : ReadResult → List ClarificationView → Record → List (List ℕ)
+abbrev pub paths_around : ReadResult → List ClarificationView → CrateRecord → List (List ℕ)
 paths_around listing clarifications krate = license_files_in listing krate.license_file ++ flat_map clarified_paths clarifications
 
 -- the same is heard of its folder and of its files
-pub record HearTheSame (clarifications : List ClarificationView) (krate : Record) (one other : FolderReads) : Type 0 where
+pub record HearTheSame (clarifications : List ClarificationView) (krate : CrateRecord) (one other : FolderReads) : Type 0 where
   pub listing : one.listing ≡ other.listing
   pub files : All (λ path. one.file (components_of path) ≡ other.file (components_of path)) (paths_around one.listing clarifications krate)
 
 -- what a content has of a crate's folder and of its files, so what reads of them let hear that do not fail
-abbrev pub ears_there : Record → Content → FolderReads
-ears_there krate content = record {
+abbrev pub known_reads_there : CrateRecord → Content → FolderReads
+known_reads_there krate content = record {
   listing = listing_heard content (resolve (folder_of krate));
   file = λ parts. there_heard LicenseFile content (read_place LicenseFile (resolve (folder_of krate)) parts);
 }
@@ -48,15 +48,15 @@ ears_there krate content = record {
 -- ---- laws
 
 -- equal ears, equal verdicts with equal certificates
-abbrev pub VerdictIsByEars : Type 0
-VerdictIsByEars = (scanner : Scanner) (policy : ValidConfig) (krate : Record) (one other : FolderReads) (first second : Verdict)
+abbrev pub VerdictIsByKnownReads : Type 0
+VerdictIsByKnownReads = (scanner : Scanner) (policy : ValidConfig) (krate : CrateRecord) (one other : FolderReads) (first second : Verdict)
     → HearTheSame (clarifications_of krate (entries_of policy)) krate one other
     → IsVerdict (policy_of policy) krate (expression_by scanner policy krate one) first
     → IsVerdict (policy_of policy) krate (expression_by scanner policy krate other) second → first ≡ second
 
 -- contents that hold the same there give equal verdicts
 abbrev pub VerdictIsOwn : Type 0
-VerdictIsOwn = (scanner : Scanner) (policy : ValidConfig) (krate : Record) (one other : Content) (first second : Verdict)
-    → HearTheSame (clarifications_of krate (entries_of policy)) krate (ears_there krate one) (ears_there krate other)
-    → IsVerdict (policy_of policy) krate (expression_by scanner policy krate (ears_there krate one)) first
-    → IsVerdict (policy_of policy) krate (expression_by scanner policy krate (ears_there krate other)) second → first ≡ second
+VerdictIsOwn = (scanner : Scanner) (policy : ValidConfig) (krate : CrateRecord) (one other : Content) (first second : Verdict)
+    → HearTheSame (clarifications_of krate (entries_of policy)) krate (known_reads_there krate one) (known_reads_there krate other)
+    → IsVerdict (policy_of policy) krate (expression_by scanner policy krate (known_reads_there krate one)) first
+    → IsVerdict (policy_of policy) krate (expression_by scanner policy krate (known_reads_there krate other)) second → first ≡ second

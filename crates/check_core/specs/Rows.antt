@@ -23,17 +23,17 @@ use Rattle.check_core.specs.Verdicts.{Judgement, skipped, unlicensed, accepted, 
 abbrev term : LicenseReq → ℕ → ℕ → ExpressionReq
 term req start end = record { req = req; span = record { start = start; end = end } }
 
-abbrev clarified : ExpressionView → LicenseInfo
-clarified expression = SpdxExpression expression (record { file_id = 0; offset = 50; whole = None; source = UserOverride })
+abbrev clarified_license : ExpressionView → LicenseInfo
+clarified_license expression = SpdxExpression expression (record { file_id = 0; offset = 50; whole = None; source = UserOverride })
 
-abbrev one : LicenseInfo
-one = clarified (record { text = codes "MIT"; terms = term mit 0 3 ∷ []; tree = leaf 0 })
+abbrev one_term : LicenseInfo
+one_term = clarified_license (record { text = codes "MIT"; terms = term mit 0 3 ∷ []; tree = leaf 0 })
 
-abbrev some : LicenseInfo
-some = clarified (record { text = codes "MIT OR Zlib"; terms = term mit 0 3 ∷ term zlib 7 11 ∷ []; tree = either (leaf 0) (leaf 1) })
+abbrev either_term : LicenseInfo
+either_term = clarified_license (record { text = codes "MIT OR Zlib"; terms = term mit 0 3 ∷ term zlib 7 11 ∷ []; tree = either (leaf 0) (leaf 1) })
 
-abbrev all : LicenseInfo
-all = clarified (record { text = codes "MIT AND ISC"; terms = term mit 0 3 ∷ term isc 8 11 ∷ []; tree = both (leaf 0) (leaf 1) })
+abbrev both_terms : LicenseInfo
+both_terms = clarified_license (record { text = codes "MIT AND ISC"; terms = term mit 0 3 ∷ term isc 8 11 ∷ []; tree = both (leaf 0) (leaf 1) })
 
 -- ---- the crate `a`
 
@@ -45,8 +45,8 @@ pub record CodeAndNotes : Type 0 where
 abbrev seen_of : Diag → CodeAndNotes
 seen_of finding = record { code = finding.diag.code; notes = finding.diag.notes }
 
-abbrev seen : List ℕ → List (List ℕ) → CodeAndNotes
-seen code notes = record { code = Some code; notes = notes }
+abbrev code_and_notes : List ℕ → List (List ℕ) → CodeAndNotes
+code_and_notes code notes = record { code = Some code; notes = notes }
 
 pub record CheckRow : Type 0 where
   pub skips : Bool
@@ -57,8 +57,8 @@ pub record CheckRow : Type 0 where
   pub findings : List CodeAndNotes
 
 -- with a finding and a note that were gathered
-abbrev asked : LicenseInfo → GatheredCrate
-asked info = record { krate = crate_a; info = info; gathered = finding Warning GatherFailure [] [] [] ∷ []; notes = codes "a note" ∷ [] }
+abbrev gathered_crate : LicenseInfo → GatheredCrate
+gathered_crate info = record { krate = crate_a; info = info; gathered = finding Warning GatherFailure [] [] [] ∷ []; notes = codes "a note" ∷ [] }
 
 -- what the definitions make of a row
 abbrev pub judged_row : CheckRow → CheckRow
@@ -67,8 +67,8 @@ judged_row row = record {
   policy = row.policy;
   info = row.info;
   judgement = verdict_of row.skips row.policy crate_a (expression_of row.info);
-  hits = hits_by row.skips row.policy (asked row.info);
-  findings = map seen_of (findings_by row.skips row.policy (asked row.info));
+  hits = hits_by row.skips row.policy (gathered_crate row.info);
+  findings = map seen_of (findings_by row.skips row.policy (gathered_crate row.info));
 }
 
 -- of a crate that is not passed over
@@ -79,37 +79,37 @@ row licensees grants info judgement code hits = record {
   info = info;
   judgement = judgement;
   hits = hits;
-  findings = seen (codes "gather-failure") [] ∷ seen code (codes "a note" ∷ []) ∷ [];
+  findings = code_and_notes (codes "gather-failure") [] ∷ code_and_notes code (codes "a note" ∷ []) ∷ [];
 }
 
 -- of one that is
-abbrev passed : LicenseInfo → CheckRow
-passed info = record {
+abbrev accepted_row : LicenseInfo → CheckRow
+accepted_row info = record {
   skips = true;
   policy = policy (mit ∷ []) [];
   info = info;
   judgement = skipped;
   hits = [];
-  findings = seen (codes "skipped-private-workspace-crate") [] ∷ [];
+  findings = code_and_notes (codes "skipped-private-workspace-crate") [] ∷ [];
 }
 
 abbrev pub rows : List CheckRow
 rows =
-    row (mit ∷ []) [] one accepted (codes "accepted") (Allowed 0 ∷ [])
+    row (mit ∷ []) [] one_term accepted (codes "accepted") (Allowed 0 ∷ [])
     -- a term that the choice passes by counts as a hit
-    ∷ row (mit ∷ zlib ∷ []) [] some accepted (codes "accepted") (Allowed 0 ∷ Allowed 1 ∷ [])
-    ∷ row (zlib ∷ []) [] some accepted (codes "accepted") (Allowed 0 ∷ [])
+    ∷ row (mit ∷ zlib ∷ []) [] either_term accepted (codes "accepted") (Allowed 0 ∷ Allowed 1 ∷ [])
+    ∷ row (zlib ∷ []) [] either_term accepted (codes "accepted") (Allowed 0 ∷ [])
     -- and so does a term of a crate that is rejected
-    ∷ row (mit ∷ []) [] all rejected (codes "rejected") (Allowed 0 ∷ [])
-    ∷ row [] [] one rejected (codes "rejected") []
+    ∷ row (mit ∷ []) [] both_terms rejected (codes "rejected") (Allowed 0 ∷ [])
+    ∷ row [] [] one_term rejected (codes "rejected") []
     -- of two equal entries the second is no hit
-    ∷ row (mit ∷ mit ∷ []) [] one accepted (codes "accepted") (Allowed 0 ∷ [])
+    ∷ row (mit ∷ mit ∷ []) [] one_term accepted (codes "accepted") (Allowed 0 ∷ [])
     -- the first exception of the crate alone is asked, and before what is allowed
-    ∷ row [] (grant (codes "a") (isc ∷ []) ∷ grant (codes "a") (mit ∷ []) ∷ []) one rejected (codes "rejected") []
-    ∷ row (mit ∷ []) (grant (codes "b") (mit ∷ []) ∷ grant (codes "a") (isc ∷ mit ∷ []) ∷ []) one accepted (codes "accepted") (Exception 1 1 ∷ [])
+    ∷ row [] (grant (codes "a") (isc ∷ []) ∷ grant (codes "a") (mit ∷ []) ∷ []) one_term rejected (codes "rejected") []
+    ∷ row (mit ∷ []) (grant (codes "b") (mit ∷ []) ∷ grant (codes "a") (isc ∷ mit ∷ []) ∷ []) one_term accepted (codes "accepted") (Exception 1 1 ∷ [])
     -- without an expression
     ∷ row (mit ∷ []) [] Unlicensed unlicensed (codes "unlicensed") []
     -- passed over, also without an expression
-    ∷ passed one
-    ∷ passed Unlicensed
+    ∷ accepted_row one_term
+    ∷ accepted_row Unlicensed
     ∷ []

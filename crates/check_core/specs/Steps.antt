@@ -1,7 +1,7 @@
 -- How many entries the check asks at most.
 use Rattle.std.specs.Prelude.{◌↔◌, ℕ, ◌+◌, Bool, true, false, IsTrue, List, [], ◌∷◌}
 use Rattle.std.specs.List.{AllZip}
-use Rattle.graph_core.specs.Krate.{Record}
+use Rattle.graph_core.specs.Krate.{CrateRecord}
 use Rattle.gather_core.specs.declared.findings.license.LicenseInfo.{LicenseInfo}
 use Rattle.gather_core.specs.declared.findings.license.LicenseInfo.TheVariants.{SpdxExpression, Unlicensed}
 use Rattle.policy_core.specs.valid.Policy.{IsPrivate, Policy}
@@ -9,7 +9,7 @@ use Rattle.check_core.specs.evaluate.Entries.{entries_of_terms}
 use Rattle.check_core.specs.Turns.{GatheredCrate}
 
 -- those for the terms of a crate's expression; none where it has no expression
-abbrev pub entries_of_info : Policy → Record → LicenseInfo → ℕ
+abbrev pub entries_of_info : Policy → CrateRecord → LicenseInfo → ℕ
 entries_of_info policy krate Unlicensed = 0
 entries_of_info policy krate (SpdxExpression expression nfo) = entries_of_terms policy krate expression.terms
 

@@ -1,6 +1,6 @@
 -- What is told of each crate, and after all of them.
 use Rattle.std.specs.Prelude.{ℕ, Bool, true, false, List, [], ◌∷◌, ◌++◌}
-use Rattle.graph_core.specs.Krate.{Record}
+use Rattle.graph_core.specs.Krate.{CrateRecord}
 use Rattle.spdx_core.specs.declared.certificates.verdict.Hit.{Hit}
 use Rattle.diag_core.specs.declared.pack.Diag.{Diag}
 use Rattle.diag_core.specs.Pack.{PackOf}
@@ -14,11 +14,11 @@ use Rattle.check_core.specs.evaluate.Evaluation.{is_allowed, term_hits}
 use Rattle.check_core.specs.unused.Flags.{Flags}
 use Rattle.check_core.specs.unused.Unused.{hits_in}
 use Rattle.check_core.specs.findings.Findings as findings
-use Rattle.check_core.specs.findings.Findings.{verdict_labels, judged, pack_of}
+use Rattle.check_core.specs.findings.Findings.{verdict_labels, expression_finding, pack_of}
 
 -- a crate, its licence, what was found on the way to that, and what is noted
 pub record GatheredCrate : Type 0 where
-  pub krate : Record
+  pub krate : CrateRecord
   pub info : LicenseInfo
   pub gathered : List Diag
   pub notes : List (List ℕ)
@@ -26,21 +26,21 @@ pub record GatheredCrate : Type 0 where
 -- ---- of one crate
 
 -- the one verdict finding of a crate that is not passed over
-abbrev pub verdict_finding : Policy → Record → LicenseInfo → List (List ℕ) → Diag
-verdict_finding policy krate Unlicensed notes = findings.unlicensed krate notes
+abbrev pub verdict_finding : Policy → CrateRecord → LicenseInfo → List (List ℕ) → Diag
+verdict_finding policy krate Unlicensed notes = findings.unlicensed_finding krate notes
 verdict_finding policy krate (SpdxExpression expression nfo) notes =
-    judged (is_allowed policy krate expression.terms expression.tree) (verdict_labels expression nfo (term_hits policy krate expression.terms)) notes
+    expression_finding (is_allowed policy krate expression.terms expression.tree) (verdict_labels expression nfo (term_hits policy krate expression.terms)) notes
 
 -- That it is skipped, alone; or else what was gathered, in its order, and then the verdict with the gathered notes.
 abbrev pub findings_by : Bool → Policy → GatheredCrate → List Diag
-findings_by true policy asked = findings.skipped asked.krate ∷ []
+findings_by true policy asked = findings.skipped_finding asked.krate ∷ []
 findings_by false policy asked = asked.gathered ++ verdict_finding policy asked.krate asked.info asked.notes ∷ []
 
 abbrev pub pack_by : Bool → Policy → GatheredCrate → PackOf
 pack_by private policy asked = pack_of asked.krate (findings_by private policy asked)
 
 -- the hits of all terms of its expression, also of those that no choice takes; a crate that is passed over has none
-abbrev pub hits_of : Policy → Record → LicenseInfo → List Hit
+abbrev pub hits_of : Policy → CrateRecord → LicenseInfo → List Hit
 hits_of policy krate Unlicensed = []
 hits_of policy krate (SpdxExpression expression nfo) = hits_in (term_hits policy krate expression.terms)
 

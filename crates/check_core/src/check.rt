@@ -15,7 +15,7 @@ ghost use Rattle.check_core.specs.unused.Unused as unused;
 ghost use Rattle.check_core.specs.findings.Places.{PlaceFits};
 ghost use Rattle.gather_core.specs.findings.License.{InfoStands, Stands};
 ghost use Rattle.gather_core.specs.Premises.{IsPlacedAt};
-ghost use Rattle.check_core.specs.Check.{AreVerdicts, HasFront, all_hits, findings_of, gained, packs_of};
+ghost use Rattle.check_core.specs.Check.{AreVerdicts, HasFront, all_hits, findings_of, sink_with_packs, packs_of};
 ghost use Rattle.check_core.specs.Labels.{GainLies, PackLies, VerdictPoints};
 ghost use Rattle.check_core.specs.Reports.{reports_of, verdicts_of};
 ghost use Rattle.check_core.specs.Steps.{ArePassedOver, entries_of_all};
@@ -127,7 +127,7 @@ fn judge_in_order<L: Ledger>(
         AreVerdicts (policy_of policy.now) (gathered_of_licenses licenses.entry) (verdicts_of reports)) }
     ensures reports { IfOk result (λ reports. reports ≡ reports_of licenses.entry (verdicts_of reports)) }
     ensures packs { IfOk result (λ reports.
-        sink.new ≡ gained sink.old
+        sink.new ≡ sink_with_packs sink.old
         (packs_of (policy_of policy.now) (gathered_of_licenses licenses.entry) (verdicts_of reports))) }
     ensures flags { IfOk result (λ reports. checker.new.flags ≡ flags_by policy.now
         (all_hits (policy_of policy.now) (gathered_of_licenses licenses.entry) (verdicts_of reports))) }
@@ -155,7 +155,7 @@ fn tell_unused(
     sink: &mut ErrorSink,
 ) -> Result<(), AllocError>
     ensures ok { (hits : List Hit) → checker.now.flags ≡ flags_by policy.now hits
-        → OnOk result (sink.new ≡ gained sink.old (unused.last_pack policy.now hits ∷ [])) }
+        → OnOk result (sink.new ≡ sink_with_packs sink.old (unused.last_pack policy.now hits ∷ [])) }
     ensures err { OnErr result (sink.new ≡ sink.old) }
 {
     let last = checker.finish(alloc, policy)?;
@@ -179,7 +179,7 @@ fn judge_with_room<L: Ledger>(
         AreVerdicts (policy_of policy.now) (gathered_of_licenses licenses.entry) (verdicts_of reports)) }
     ensures reports { IfOk result (λ reports. reports ≡ reports_of licenses.entry (verdicts_of reports)) }
     ensures packs { IfOk result (λ reports.
-        sink.new ≡ gained sink.old
+        sink.new ≡ sink_with_packs sink.old
         (findings_of policy.now (gathered_of_licenses licenses.entry) (verdicts_of reports))) }
     ensures front { OnErr result (HasFront (policy_of policy.now) licenses.entry sink.old sink.new) }
     ensures steps { steps.old ≤ steps.new }
@@ -209,7 +209,7 @@ pub fn check<L: Ledger>(
         AreVerdicts (policy_of ctx.now.cfg) (gathered_of_licenses summary.entry.nfos) (verdicts_of reports)) }
     ensures reports { IfOk result (λ reports. reports ≡ reports_of summary.entry.nfos (verdicts_of reports)) }
     ensures packs { IfOk result (λ reports.
-        sink.new ≡ gained sink.old
+        sink.new ≡ sink_with_packs sink.old
         (findings_of ctx.now.cfg (gathered_of_licenses summary.entry.nfos) (verdicts_of reports))) }
     ensures front { OnErr result (HasFront (policy_of ctx.now.cfg) summary.entry.nfos sink.old sink.new) }
     // where the policy's entries have places of their files, each label does

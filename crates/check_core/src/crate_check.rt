@@ -74,7 +74,7 @@ impl Model for Checker {
 fn skip(alloc: Global, license: KrateLicense<'_>) -> Result<JudgedCrate, AllocError>
     ensures report { IfOk result (λ judged. judged.report ≡ report_of license.entry Verdict.Skipped) }
     ensures pack { let krate = krate_of license.entry in
-        IfOk result (λ judged. judged.pack ≡ findings.pack_of krate (findings.skipped krate ∷ [])) }
+        IfOk result (λ judged. judged.pack ≡ findings.pack_of krate (findings.skipped_finding krate ∷ [])) }
 {
     let told = skipped(alloc, license.krate)?;
     let pack = pack_of(alloc, license.krate, Diags::new(alloc), told)?;
@@ -103,7 +103,7 @@ fn tell(
 fn tell_unlicensed(alloc: Global, license: &KrateLicense<'_>) -> Result<ToldVerdict, AllocError>
     ensures verdict { IfOk result (λ answer. answer.verdict ≡ Verdict.Unlicensed) }
     ensures told { IfOk result (λ answer.
-        answer.told ≡ findings.unlicensed (krate_of license.now) license.now.notes) }
+        answer.told ≡ findings.unlicensed_finding (krate_of license.now) license.now.notes) }
 {
     let told = unlicensed(alloc, license.krate, license.notes.items())?;
     Ok(ToldVerdict {

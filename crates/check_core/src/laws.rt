@@ -1,7 +1,7 @@
 //! What holds of all policies and crates. These functions do nothing: their contracts are the laws.
 ghost use Rattle.check_core.specs.Hits.{TellsTheUnneeded, TermsAreTold};
 ghost use Rattle.check_core.specs.Laws.{MoreAllowedIsAsGood, MoreExceptionsAreAsGood};
-ghost use Rattle.check_core.specs.Own.{VerdictIsByEars, VerdictIsOwn};
+ghost use Rattle.check_core.specs.Own.{VerdictIsByKnownReads, VerdictIsOwn};
 
 /// A further allowed licensee, at any place of the list, rejects no crate that was accepted, and a crate that
 /// was skipped or has no expression stays what it is.
@@ -16,8 +16,8 @@ pub fn more_exceptions_are_as_good()
 
 /// Where the same is heard of a crate's folder, of the licence files in it, and of the files that its record or a
 /// clarification for it names, its verdict is the same, with what shows it.
-pub fn verdict_is_by_ears()
-    ensures { VerdictIsByEars }
+pub fn verdict_is_by_known_reads()
+    ensures { VerdictIsByKnownReads }
 {}
 
 /// So it is by two contents that hold the same there.

@@ -3,11 +3,11 @@ use Rattle.std.proofs.Common.{◌≡◌, ◌∙◌, refl, sym, ap, ap₂, subst,
 use Rattle.std.specs.List.{AllByRecursion}
 use Rattle.spdx_core.specs.declared.certificates.verdict.Hit.{Hit}
 use Rattle.spdx_core.specs.declared.certificates.verdict.Hit.TheVariants.{Allowed, Exception}
-use Rattle.check_record.specs.declared.decode_parts.Chosen.{Chosen}
+use Rattle.check_record.specs.declared.decode_parts.ChoiceAndHits.{ChoiceAndHits}
 use Rattle.check_record.specs.declared.decode_parts.PlaceHit.{PlaceHit}
 use Rattle.check_record.specs.Items.{IsHit, IsNumber}
 use Rattle.check_record.specs.Spelling.{chosen_text, hit_text, place_hit_text, place_text}
-use Rattle.check_record.specs.Reading.{◌>>=◌, allowed_at, begins, begins_digit, behind, chosen_on, exception_at, hit_at, number_at, place_hit_at, places_on}
+use Rattle.check_record.specs.Reading.{◌>>=◌, allowed_at, begins, begins_digit, rest_behind, chosen_on, exception_at, hit_at, number_at, place_hit_at, places_on}
 use Rattle.check_record.proofs.Numbers.{number_again, number_takes}
 use Rattle.check_record.proofs.Steps.{begins_is, behind_is, bind_some, pick, some_is}
 
@@ -36,8 +36,8 @@ hit_pair hit rest = (hit, rest)
 exception_takes : (bytes : List ℕ) (hit : Hit) (rest : List ℕ) → exception_at bytes ≡ Some (hit, rest) → TakesHit (101 ∷ bytes) hit rest
 unfolding exception_at
 exception_takes bytes hit rest e =
-    let x = bind_some (number_at bytes) (λ exception. behind 46 exception.1 >>= λ left. number_at left >>= λ entry. Some (Exception exception.0 entry.0, entry.1)) (hit, rest) e in
-    let d = bind_some (behind 46 x.0.1) (λ left. number_at left >>= λ entry. Some (Exception x.0.0 entry.0, entry.1)) (hit, rest) x.2 in
+    let x = bind_some (number_at bytes) (λ exception. rest_behind 46 exception.1 >>= λ left. number_at left >>= λ entry. Some (Exception exception.0 entry.0, entry.1)) (hit, rest) e in
+    let d = bind_some (rest_behind 46 x.0.1) (λ left. number_at left >>= λ entry. Some (Exception x.0.0 entry.0, entry.1)) (hit, rest) x.2 in
     let y = bind_some (number_at d.0) (λ entry. Some (Exception x.0.0 entry.0, entry.1)) (hit, rest) d.2 in
     let m = number_takes bytes x.0.0 x.0.1 x.1 in
     let n = number_takes d.0 y.0.0 y.0.1 y.1 in
@@ -58,10 +58,10 @@ allowed_takes bytes hit rest e =
 pub hit_takes : (bytes : List ℕ) (hit : Hit) (rest : List ℕ) → hit_at bytes ≡ Some (hit, rest) → TakesHit bytes hit rest
 unfolding hit_at
 hit_takes bytes hit rest e =
-    elim (pick (begins 108 bytes) (allowed_at (drop 1 bytes)) (behind 101 bytes >>= exception_at) (Some (hit, rest)) e) [
+    elim (pick (begins 108 bytes) (allowed_at (drop 1 bytes)) (rest_behind 101 bytes >>= exception_at) (Some (hit, rest)) e) [
       | inl p ↦ subst (λ (r : List ℕ). TakesHit r hit rest) (sym (begins_is 108 bytes p.0)) (allowed_takes (drop 1 bytes) hit rest p.1)
       | inr p ↦
-          let b = bind_some (behind 101 bytes) exception_at (hit, rest) p.1 in
+          let b = bind_some (rest_behind 101 bytes) exception_at (hit, rest) p.1 in
           subst (λ (r : List ℕ). TakesHit r hit rest) (sym (behind_is 101 bytes b.0 b.1)) (exception_takes b.0 hit rest b.2)
     ]
 
@@ -89,8 +89,8 @@ found_pair found rest = (found, rest)
 place_hit_takes : (bytes : List ℕ) (found : PlaceHit) (rest : List ℕ) → place_hit_at bytes ≡ Some (found, rest) → TakesPlaceHit bytes found rest
 unfolding place_hit_at
 place_hit_takes bytes found rest e =
-    let x = bind_some (number_at bytes) (λ place. behind 61 place.1 >>= λ left. hit_at left >>= λ hit. Some (place_hit place.0 hit.0, hit.1)) (found, rest) e in
-    let d = bind_some (behind 61 x.0.1) (λ left. hit_at left >>= λ hit. Some (place_hit x.0.0 hit.0, hit.1)) (found, rest) x.2 in
+    let x = bind_some (number_at bytes) (λ place. rest_behind 61 place.1 >>= λ left. hit_at left >>= λ hit. Some (place_hit place.0 hit.0, hit.1)) (found, rest) e in
+    let d = bind_some (rest_behind 61 x.0.1) (λ left. hit_at left >>= λ hit. Some (place_hit x.0.0 hit.0, hit.1)) (found, rest) x.2 in
     let y = bind_some (hit_at d.0) (λ hit. Some (place_hit x.0.0 hit.0, hit.1)) (found, rest) d.2 in
     let m = number_takes bytes x.0.0 x.0.1 x.1 in
     let h = hit_takes d.0 y.0.0 y.0.1 y.1 in
@@ -110,7 +110,7 @@ place_hit_shortens bytes found rest e =
 
 -- ---- a choice
 
-abbrev chosen : List ℕ → List Hit → Chosen
+abbrev chosen : List ℕ → List Hit → ChoiceAndHits
 chosen choice hits = record { choice = choice; hits = hits }
 
 chosen_ends : (places : List ℕ) (hits : List Hit) (rest : List ℕ) → begins_digit rest ≡ false → begins_digit (chosen_text places hits ++ rest) ≡ false
@@ -150,7 +150,7 @@ chosen_count (place ∷ places) (hit ∷ hits) rest as_many =
     omega (arith, length-append (front ++ more) rest, length-append front more, length-append more rest)
 
 -- the places and hits that a choice has behind others, and what stands behind it
-pub record TakesChosen (choice : List ℕ) (hits : List Hit) (bytes : List ℕ) (all : Chosen) (rest : List ℕ) : Type 0 where
+pub record TakesChosen (choice : List ℕ) (hits : List Hit) (bytes : List ℕ) (all : ChoiceAndHits) (rest : List ℕ) : Type 0 where
   pub places : List ℕ
   pub found : List Hit
   pub choice_is : all.choice ≡ choice ++ places
@@ -160,15 +160,15 @@ pub record TakesChosen (choice : List ℕ) (hits : List Hit) (bytes : List ℕ) 
   pub numbers : AllByRecursion IsNumber places
   pub each : AllByRecursion IsHit found
 
-abbrev chosen_pair : Chosen → List ℕ → Chosen × List ℕ
+abbrev chosen_pair : ChoiceAndHits → List ℕ → ChoiceAndHits × List ℕ
 chosen_pair all rest = (all, rest)
 
-abbrev some_of : Chosen → List ℕ → Option (Chosen × List ℕ)
+abbrev some_of : ChoiceAndHits → List ℕ → Option (ChoiceAndHits × List ℕ)
 some_of all rest = Some (all, rest)
 
-nothing_chosen : (choice : List ℕ) (hits : List Hit) (bytes : List ℕ) (all : Chosen) (rest : List ℕ) → some_of (chosen choice hits) bytes ≡ some_of all rest → TakesChosen choice hits bytes all rest
+nothing_chosen : (choice : List ℕ) (hits : List Hit) (bytes : List ℕ) (all : ChoiceAndHits) (rest : List ℕ) → some_of (chosen choice hits) bytes ≡ some_of all rest → TakesChosen choice hits bytes all rest
 nothing_chosen choice hits bytes all rest e =
-    subst (λ (q : Chosen × List ℕ). TakesChosen choice hits bytes q.0 q.1) (some_is (chosen_pair (chosen choice hits) bytes) (chosen_pair all rest) e) (record {
+    subst (λ (q : ChoiceAndHits × List ℕ). TakesChosen choice hits bytes q.0 q.1) (some_is (chosen_pair (chosen choice hits) bytes) (chosen_pair all rest) e) (record {
       places = [];
       found = [];
       choice_is = sym (append-nil choice);
@@ -179,7 +179,7 @@ nothing_chosen choice hits bytes all rest e =
       each = tt;
     })
 
-pub chosen_takes : (most : ℕ) (choice : List ℕ) (hits : List Hit) (bytes : List ℕ) (all : Chosen) (rest : List ℕ)
+pub chosen_takes : (most : ℕ) (choice : List ℕ) (hits : List Hit) (bytes : List ℕ) (all : ChoiceAndHits) (rest : List ℕ)
     → chosen_on most choice hits bytes ≡ Some (all, rest) → TakesChosen choice hits bytes all rest
 unfolding chosen_on
 chosen_takes zero choice hits bytes all rest e = nothing_chosen choice hits bytes all rest e

@@ -4,13 +4,13 @@ use Rattle.std.specs.List.{AllByRecursion}
 use Rattle.std.specs.Str.{is_utf8}
 use Rattle.std.proofs.lemmas.Str.{IsUtf8-from_is_utf8, is_utf8-from_IsUtf8}
 use Rattle.spdx_core.specs.declared.certificates.verdict.Hit.{Hit}
-use Rattle.check_record.specs.declared.decode_parts.Chosen.{Chosen}
+use Rattle.check_record.specs.declared.decode_parts.ChoiceAndHits.{ChoiceAndHits}
 use Rattle.check_record.specs.declared.items.RecordItem.{RecordItem}
 use Rattle.check_record.specs.declared.items.RecordVerdict.{RecordVerdict}
 use Rattle.check_record.specs.declared.items.RecordVerdict.TheVariants.{Skipped, Unlicensed, Accepted, Rejected}
 use Rattle.check_record.specs.Items.{ArePlaces, IsChosen, IsHit, IsNumber, IsRecordItem, IsRecordVerdict, some_rise}
 use Rattle.check_record.specs.Spelling.{chosen_text, item_text, place_text, verdict_text}
-use Rattle.check_record.specs.Reading.{◌>>=◌, accepted_at, begins, behind, chosen_on, id_at, item_at, items_on, lettered_at, number_at, places_on, rejected_at, text_of}
+use Rattle.check_record.specs.Reading.{◌>>=◌, accepted_at, begins, rest_behind, chosen_on, id_at, item_at, items_on, lettered_at, number_at, places_on, rejected_at, text_of}
 use Rattle.check_record.proofs.Hits.{Ends, chosen_again, chosen_count, chosen_takes, places_again, places_count, places_take}
 use Rattle.check_record.proofs.Numbers.{number_again, number_takes}
 use Rattle.check_record.proofs.Steps.{begins_is, behind_is, bind_some, passes, pick, some_is}
@@ -87,16 +87,16 @@ letter_takes byte bytes one verdict rest letter is first e =
 lettered_takes : (bytes : List ℕ) (verdict : RecordVerdict) (rest : List ℕ) → lettered_at bytes ≡ Some (verdict, rest) → TakesVerdict bytes verdict rest
 unfolding lettered_at
 lettered_takes bytes verdict rest e =
-    let accepted = cond (begins 97 bytes) (accepted_at (drop 1 bytes)) (behind 114 bytes >>= rejected_at) in
+    let accepted = cond (begins 97 bytes) (accepted_at (drop 1 bytes)) (rest_behind 114 bytes >>= rejected_at) in
     let unlicensed = cond (begins 117 bytes) (Some (Unlicensed, drop 1 bytes)) accepted in
     elim (pick (begins 115 bytes) (Some (Skipped, drop 1 bytes)) unlicensed (Some (verdict, rest)) e) [
       | inl p ↦ letter_takes 115 bytes Skipped verdict rest refl tt p.0 (some_is (verdict_pair Skipped (drop 1 bytes)) (verdict_pair verdict rest) p.1)
       | inr p ↦ elim (pick (begins 117 bytes) (Some (Unlicensed, drop 1 bytes)) accepted (Some (verdict, rest)) p.1) [
         | inl q ↦ letter_takes 117 bytes Unlicensed verdict rest refl tt q.0 (some_is (verdict_pair Unlicensed (drop 1 bytes)) (verdict_pair verdict rest) q.1)
-        | inr q ↦ elim (pick (begins 97 bytes) (accepted_at (drop 1 bytes)) (behind 114 bytes >>= rejected_at) (Some (verdict, rest)) q.1) [
+        | inr q ↦ elim (pick (begins 97 bytes) (accepted_at (drop 1 bytes)) (rest_behind 114 bytes >>= rejected_at) (Some (verdict, rest)) q.1) [
           | inl r ↦ subst (λ (b : List ℕ). TakesVerdict b verdict rest) (sym (begins_is 97 bytes r.0)) (accepted_takes (drop 1 bytes) verdict rest r.1)
           | inr r ↦
-              let b = bind_some (behind 114 bytes) rejected_at (verdict, rest) r.1 in
+              let b = bind_some (rest_behind 114 bytes) rejected_at (verdict, rest) r.1 in
               subst (λ (x : List ℕ). TakesVerdict x verdict rest) (sym (behind_is 114 bytes b.0 b.1)) (rejected_takes b.0 verdict rest b.2)
         ]
       ]
@@ -150,8 +150,8 @@ text_takes count bytes text rest e =
 id_takes : (bytes text rest : List ℕ) → id_at bytes ≡ Some (text, rest) → TakesId bytes text rest
 unfolding id_at
 id_takes bytes text rest e =
-    let x = bind_some (number_at bytes) (λ count. behind 58 count.1 >>= λ left. text_of count.0 left) (text, rest) e in
-    let d = bind_some (behind 58 x.0.1) (λ left. text_of x.0.0 left) (text, rest) x.2 in
+    let x = bind_some (number_at bytes) (λ count. rest_behind 58 count.1 >>= λ left. text_of count.0 left) (text, rest) e in
+    let d = bind_some (rest_behind 58 x.0.1) (λ left. text_of x.0.0 left) (text, rest) x.2 in
     let n = number_takes bytes x.0.0 x.0.1 x.1 in
     let t = text_takes x.0.0 d.0 text rest d.2 in
     record {
@@ -193,12 +193,12 @@ item_pair item rest = (item, rest)
 pub item_takes : (bytes : List ℕ) (item : RecordItem) (rest : List ℕ) → item_at bytes ≡ Some (item, rest) → TakesItem bytes item rest
 unfolding item_at
 item_takes bytes item rest e =
-    let m = bind_some (behind 99 bytes) (λ mark. behind 32 mark >>= λ space. id_at space >>= λ id. behind 32 id.1 >>= λ letter. lettered_at letter >>= λ verdict. behind 10 verdict.1 >>= λ left. Some (item_of id.0 verdict.0, left)) (item, rest) e in
-    let s = bind_some (behind 32 m.0) (λ space. id_at space >>= λ id. behind 32 id.1 >>= λ letter. lettered_at letter >>= λ verdict. behind 10 verdict.1 >>= λ left. Some (item_of id.0 verdict.0, left)) (item, rest) m.2 in
-    let i = bind_some (id_at s.0) (λ id. behind 32 id.1 >>= λ letter. lettered_at letter >>= λ verdict. behind 10 verdict.1 >>= λ left. Some (item_of id.0 verdict.0, left)) (item, rest) s.2 in
-    let l = bind_some (behind 32 i.0.1) (λ letter. lettered_at letter >>= λ verdict. behind 10 verdict.1 >>= λ left. Some (item_of i.0.0 verdict.0, left)) (item, rest) i.2 in
-    let v = bind_some (lettered_at l.0) (λ verdict. behind 10 verdict.1 >>= λ left. Some (item_of i.0.0 verdict.0, left)) (item, rest) l.2 in
-    let f = bind_some (behind 10 v.0.1) (λ left. Some (item_of i.0.0 v.0.0, left)) (item, rest) v.2 in
+    let m = bind_some (rest_behind 99 bytes) (λ mark. rest_behind 32 mark >>= λ space. id_at space >>= λ id. rest_behind 32 id.1 >>= λ letter. lettered_at letter >>= λ verdict. rest_behind 10 verdict.1 >>= λ left. Some (item_of id.0 verdict.0, left)) (item, rest) e in
+    let s = bind_some (rest_behind 32 m.0) (λ space. id_at space >>= λ id. rest_behind 32 id.1 >>= λ letter. lettered_at letter >>= λ verdict. rest_behind 10 verdict.1 >>= λ left. Some (item_of id.0 verdict.0, left)) (item, rest) m.2 in
+    let i = bind_some (id_at s.0) (λ id. rest_behind 32 id.1 >>= λ letter. lettered_at letter >>= λ verdict. rest_behind 10 verdict.1 >>= λ left. Some (item_of id.0 verdict.0, left)) (item, rest) s.2 in
+    let l = bind_some (rest_behind 32 i.0.1) (λ letter. lettered_at letter >>= λ verdict. rest_behind 10 verdict.1 >>= λ left. Some (item_of i.0.0 verdict.0, left)) (item, rest) i.2 in
+    let v = bind_some (lettered_at l.0) (λ verdict. rest_behind 10 verdict.1 >>= λ left. Some (item_of i.0.0 verdict.0, left)) (item, rest) l.2 in
+    let f = bind_some (rest_behind 10 v.0.1) (λ left. Some (item_of i.0.0 v.0.0, left)) (item, rest) v.2 in
     let id = id_takes s.0 i.0.0 i.0.1 i.1 in
     let verdict = lettered_takes l.0 v.0.0 v.0.1 v.1 in
     let count = decimal (length i.0.0) in

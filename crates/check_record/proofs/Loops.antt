@@ -3,7 +3,7 @@ use Rattle.std.proofs.Common.{◌≡◌, ◌∙◌, refl, sym, ap, ℕ, zero, su
 use Rattle.std.specs.Str.{is_utf8}
 use Rattle.std.proofs.lemmas.Str.{IsUtf8-from_is_utf8, is_utf8-from_IsUtf8}
 use Rattle.spdx_core.specs.declared.certificates.verdict.Hit.{Hit}
-use Rattle.check_record.specs.declared.decode_parts.Chosen.{Chosen}
+use Rattle.check_record.specs.declared.decode_parts.ChoiceAndHits.{ChoiceAndHits}
 use Rattle.check_record.specs.declared.decode_parts.PlaceHit.{PlaceHit}
 use Rattle.check_record.specs.declared.error.RecordError.{RecordError}
 use Rattle.check_record.specs.declared.error.RecordError.TheVariants.{Syntax, Memory}
@@ -41,7 +41,7 @@ digits_end number (byte ∷ bytes) other = rw other refl
 
 -- ---- a choice
 
-abbrev chosen : List ℕ → List Hit → Chosen
+abbrev chosen : List ℕ → List Hit → ChoiceAndHits
 chosen choice hits = record { choice = choice; hits = hits }
 
 chosen_end : (most : ℕ) (choice : List ℕ) (hits : List Hit) (bytes : List ℕ) → begins 32 bytes ≡ false → chosen_on most choice hits bytes ≡ Some (chosen choice hits, bytes)
@@ -94,7 +94,7 @@ pub chosen_last : (choice : List ℕ) (hits : List Hit) (bytes : List ℕ) → b
 chosen_last choice hits bytes other = chosen_end (length bytes) choice hits bytes other
 
 -- what fails at a step fails all
-pub chosen_fails : (error : RecordError) (choice : List ℕ) (hits : List Hit) (bytes : List ℕ) (all : Read Chosen) → begins 32 bytes ≡ true → Misses error (place_hit_at (drop 1 bytes))
+pub chosen_fails : (error : RecordError) (choice : List ℕ) (hits : List Hit) (bytes : List ℕ) (all : Read ChoiceAndHits) → begins 32 bytes ≡ true → Misses error (place_hit_at (drop 1 bytes))
     → chosen_on (length bytes) choice hits bytes ≡ all → Misses error all
 chosen_fails Syntax choice hits bytes all first e same = sym same ∙ chosen_missing (length bytes) choice hits bytes first e (omega arith)
 chosen_fails Memory choice hits bytes all first e same = tt

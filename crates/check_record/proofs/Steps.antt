@@ -3,7 +3,7 @@ use Rattle.std.proofs.Common.{◌≡◌, ◌⊎◌, ◌∙◌, refl, sym, ap, in
 use Rattle.std.specs.List.{starts_with}
 use Rattle.std.proofs.lemmas.Bool.Decides.{Decides-eqb}
 use Rattle.std.proofs.lemmas.Slice.Eq.{starts_is}
-use Rattle.check_record.specs.Reading.{◌>>=◌, begins, behind, behind_text}
+use Rattle.check_record.specs.Reading.{◌>>=◌, begins, rest_behind, behind_text}
 
 abbrev pub some : {A : Type 0} → A → Option A
 some x = Some x
@@ -39,7 +39,7 @@ pub begins_is : (byte : ℕ) (bytes : List ℕ) → begins byte bytes ≡ true �
 begins_is byte [] e = absurd (true≢false (sym e))
 begins_is byte (first ∷ bytes) e = ap (λ (b : ℕ). b ∷ bytes) (eqb-true first byte e)
 
-pub behind_is : (byte : ℕ) (bytes rest : List ℕ) → behind byte bytes ≡ Some rest → bytes ≡ byte ∷ rest
+pub behind_is : (byte : ℕ) (bytes rest : List ℕ) → rest_behind byte bytes ≡ Some rest → bytes ≡ byte ∷ rest
 behind_is byte bytes rest e =
     let p = passes (begins byte bytes) (Some (drop 1 bytes)) rest e in
     begins_is byte bytes p.0 ∙ ap (λ (r : List ℕ). byte ∷ r) (some_is (drop 1 bytes) rest p.1)

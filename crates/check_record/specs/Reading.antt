@@ -5,7 +5,7 @@ use Rattle.std.specs.List.{starts_with}
 use Rattle.std.specs.Str.{is_utf8}
 use Rattle.spdx_core.specs.declared.certificates.verdict.Hit.{Hit}
 use Rattle.spdx_core.specs.declared.certificates.verdict.Hit.TheVariants.{Allowed, Exception}
-use Rattle.check_record.specs.declared.decode_parts.Chosen.{Chosen}
+use Rattle.check_record.specs.declared.decode_parts.ChoiceAndHits.{ChoiceAndHits}
 use Rattle.check_record.specs.declared.decode_parts.PlaceHit.{PlaceHit}
 use Rattle.check_record.specs.declared.error.RecordError.{RecordError}
 use Rattle.check_record.specs.declared.error.RecordError.TheVariants.{Syntax, Memory}
@@ -40,8 +40,8 @@ begins byte [] = false
 begins byte (first ∷ bytes) = first == byte
 
 -- what stands behind a byte
-abbrev pub behind : ℕ → List ℕ → Option (List ℕ)
-behind byte bytes = if begins byte bytes then Some (drop 1 bytes) else None
+abbrev pub rest_behind : ℕ → List ℕ → Option (List ℕ)
+rest_behind byte bytes = if begins byte bytes then Some (drop 1 bytes) else None
 
 -- ---- numbers
 
@@ -73,22 +73,22 @@ allowed_at bytes = do
 unfoldable pub exception_at : List ℕ → Read Hit
 exception_at bytes = do
   exception ← number_at bytes
-  rest ← behind 46 exception.1
+  rest ← rest_behind 46 exception.1
   entry ← number_at rest
   Some (Exception exception.0 entry.0, entry.1)
 
 unfoldable pub hit_at : List ℕ → Read Hit
-hit_at bytes = if begins 108 bytes then allowed_at (drop 1 bytes) else (behind 101 bytes >>= exception_at)
+hit_at bytes = if begins 108 bytes then allowed_at (drop 1 bytes) else (rest_behind 101 bytes >>= exception_at)
 
 unfoldable pub place_hit_at : List ℕ → Read PlaceHit
 place_hit_at bytes = do
   place ← number_at bytes
-  rest ← behind 61 place.1
+  rest ← rest_behind 61 place.1
   hit ← hit_at rest
   Some (record { place = place.0; hit = hit.0 }, hit.1)
 
 -- at most so many places with their hits, each behind a space, behind those so far
-unfoldable pub chosen_on : ℕ → List ℕ → List Hit → List ℕ → Read Chosen
+unfoldable pub chosen_on : ℕ → List ℕ → List Hit → List ℕ → Read ChoiceAndHits
 chosen_on zero choice hits bytes = Some (record { choice = choice; hits = hits }, bytes)
 chosen_on (suc most) choice hits bytes =
     if begins 32 bytes
@@ -121,7 +121,7 @@ lettered_at bytes =
     if begins 115 bytes then Some (Skipped, drop 1 bytes)
     else (if begins 117 bytes then Some (Unlicensed, drop 1 bytes)
     else (if begins 97 bytes then accepted_at (drop 1 bytes)
-    else (behind 114 bytes >>= rejected_at)))
+    else (rest_behind 114 bytes >>= rejected_at)))
 
 -- so many bytes, where they are a text
 unfoldable pub text_of : ℕ → List ℕ → Read (List ℕ)
@@ -132,17 +132,17 @@ text_of count bytes =
 unfoldable pub id_at : List ℕ → Read (List ℕ)
 id_at bytes = do
   count ← number_at bytes
-  rest ← behind 58 count.1
+  rest ← rest_behind 58 count.1
   text_of count.0 rest
 
 unfoldable pub item_at : List ℕ → Read RecordItem
 item_at bytes = do
-  mark ← behind 99 bytes
-  space ← behind 32 mark
+  mark ← rest_behind 99 bytes
+  space ← rest_behind 32 mark
   id ← id_at space
-  letter ← behind 32 id.1
+  letter ← rest_behind 32 id.1
   verdict ← lettered_at letter
-  rest ← behind 10 verdict.1
+  rest ← rest_behind 10 verdict.1
   Some (record { id = id.0; verdict = verdict.0 }, rest)
 
 -- at most so many lines behind those so far

@@ -22,7 +22,7 @@ pub struct PlaceHit {
 
 /// The places of a choice, and their hits.
 #[derive(Drop)]
-pub struct Chosen {
+pub struct ChoiceAndHits {
     pub choice: TermPlaces,
     pub hits: Hits,
 }
@@ -68,7 +68,7 @@ fn read_place_hit(bytes: &[u8]) -> Result<(PlaceHit, &[u8]), RecordError>
 
 /// Places with their hits, each behind a space.
 #[tactic(auto, using(crate::proofs::Loops::chosen_more, crate::proofs::Loops::chosen_last, crate::proofs::Loops::place_hit_smaller))]
-fn read_chosen(alloc: Global, bytes: &[u8]) -> Result<(Chosen, &[u8]), RecordError>
+fn read_chosen(alloc: Global, bytes: &[u8]) -> Result<(ChoiceAndHits, &[u8]), RecordError>
     ensures { Reads (λ read. (read.0, read.1.now)) result
         (spec.chosen_on (length bytes.now) [] [] bytes.now) }
 {
@@ -84,7 +84,7 @@ fn read_chosen(alloc: Global, bytes: &[u8]) -> Result<(Chosen, &[u8]), RecordErr
         hits.push(next.hit)?;
         rest = after;
     }
-    Ok((Chosen { choice, hits }, rest))
+    Ok((ChoiceAndHits { choice, hits }, rest))
 }
 
 /// Places, each behind a space.

@@ -26,7 +26,7 @@ pub fn behind_first(bytes: &[u8]) -> &[u8]
 
 /// What stands behind a byte.
 pub fn behind(bytes: &[u8], byte: u8) -> Result<&[u8], RecordError>
-    ensures { Reads (λ rest. rest.now) result (spec.behind byte bytes.now) }
+    ensures { Reads (λ rest. rest.now) result (spec.rest_behind byte bytes.now) }
 {
     if begins(bytes, byte) {
         Ok(behind_first(bytes))

@@ -1,6 +1,6 @@
 -- Crates named `a`, policies, recorded verdicts, and why they are not right, worked out by hand from the rules.
 use Rattle.std.proofs.Common.{◌≡◌, ℕ, Bool, true, false, List, [], ◌∷◌, map, Option, Some, None, codes, refl}
-use Rattle.graph_core.specs.Krate.{Record}
+use Rattle.graph_core.specs.Krate.{CrateRecord}
 use Rattle.spdx_terms.specs.declared.term.ExpressionReq.{ExpressionReq}
 use Rattle.spdx_terms.specs.declared.term.LicenseItem.TheVariants.{Spdx}
 use Rattle.spdx_terms.specs.declared.term.LicenseReq.{LicenseReq}
@@ -58,10 +58,10 @@ mit_and_either = of_terms (both (leaf 0) (either (leaf 1) (leaf 2))) (mit ∷ ap
 abbrev the_id : List ℕ
 the_id = codes "a 1.0.0"
 
-abbrev crate_b : Record
+abbrev crate_b : CrateRecord
 crate_b = record crate_a { name = codes "b"; id = codes "b 1.0.0" }
 
-abbrev seen : Record → Bool → Option ExpressionView → SeenCrate
+abbrev seen : CrateRecord → Bool → Option ExpressionView → SeenCrate
 seen krate private expression = record { krate = krate; private = private; expression = expression }
 
 abbrev item : List ℕ → RecordVerdict → RecordItem

@@ -20,8 +20,8 @@ use Rattle.check_core.specs.evaluate.Evaluation.{exception_numbers}
 use Rattle.check_core.proofs.evaluate.EvaluationLemmas.{spec_of, specs_are}
 use Rattle.check_record.specs.declared.items.RecordItem.{RecordItem}
 use Rattle.check_record.specs.Items.{ids_of}
-use Rattle.check_verify.specs.declared.answer.Answer.TheVariants.{No}
-use Rattle.check_verify.specs.declared.answer.Fault.{Fault}
+use Rattle.check_verify.specs.declared.answer.VerifyAnswer.TheVariants.{No}
+use Rattle.check_verify.specs.declared.answer.VerdictFault.{VerdictFault}
 use Rattle.check_verify.specs.declared.answer.NoReason.{NoReason}
 use Rattle.check_verify.specs.declared.answer.NoReason.TheVariants.{Crates}
 use Rattle.check_verify.specs.Crates.{SeenCrate, fault_of}
@@ -110,7 +110,7 @@ module _ (policy : Policy) (licenses : List KrateLicense) (flags : List Bool) (i
 
   -- the crate has one
   pub first_here : (license : KrateLicense) (private : Bool) (item : RecordItem) → drop place licenses ≡ license ∷ drop (place + 1) licenses → drop place flags ≡ private ∷ drop (place + 1) flags
-      → drop place items ≡ item ∷ drop (place + 1) items → (fault : Fault) → Some fault ≡ fault_of policy (seen_as license private) item.verdict
+      → drop place items ≡ item ∷ drop (place + 1) items → (fault : VerdictFault) → Some fault ≡ fault_of policy (seen_as license private) item.verdict
       → (reason : NoReason) → reason ≡ reason_with (krate_of license).id fault → Some reason ≡ left (drop place licenses) (drop place flags) (drop place items)
   first_here license private item of_license of_flag of_item fault is reason told =
       ap Some told
@@ -122,7 +122,7 @@ module _ (policy : Policy) (licenses : List KrateLicense) (flags : List Bool) (i
   steps_left license item of_license of_item =
       ap (λ some. all_steps policy some (drop place items)) of_license ∙ ap (all_steps policy (license ∷ drop (place + 1) licenses)) of_item
 
-pub none_of : (found : Option Fault) → ((fault : Fault) → found ≡ Some fault → ⊥) → None ≡ found
+pub none_of : (found : Option VerdictFault) → ((fault : VerdictFault) → found ≡ Some fault → ⊥) → None ≡ found
 none_of None other = refl
 none_of (Some fault) other = absurd (other fault refl)
 

@@ -6,16 +6,16 @@ use Rattle.std.specs.Str.{bytes_eq}
 use Rattle.policy_core.specs.valid.Policy.{Policy}
 use Rattle.check_record.specs.declared.items.RecordItem.{RecordItem}
 use Rattle.check_record.specs.Items.{ids_of}
-use Rattle.check_verify.specs.declared.answer.Answer.{Answer}
-use Rattle.check_verify.specs.declared.answer.Answer.TheVariants.{Yes, No}
-use Rattle.check_verify.specs.declared.answer.Fault.{Fault}
-use Rattle.check_verify.specs.declared.answer.Fault.TheVariants as fault
+use Rattle.check_verify.specs.declared.answer.VerifyAnswer.{VerifyAnswer}
+use Rattle.check_verify.specs.declared.answer.VerifyAnswer.TheVariants.{Yes, No}
+use Rattle.check_verify.specs.declared.answer.VerdictFault.{VerdictFault}
+use Rattle.check_verify.specs.declared.answer.VerdictFault.TheVariants as fault
 use Rattle.check_verify.specs.declared.answer.NoReason.{NoReason}
 use Rattle.check_verify.specs.declared.answer.NoReason.TheVariants.{Crates, Variant, NotAChoice, NotSatisfied, HasHit, NotBlocking}
 use Rattle.check_verify.specs.Crates.{SeenCrate, fault_of}
 
 -- a fault with the id of its crate
-abbrev pub reason_with : List ℕ → Fault → NoReason
+abbrev pub reason_with : List ℕ → VerdictFault → NoReason
 reason_with id fault.Variant = Variant id
 reason_with id fault.NotAChoice = NotAChoice id
 reason_with id fault.NotSatisfied = NotSatisfied id
@@ -36,6 +36,6 @@ abbrev pub reason_of : Policy → List SeenCrate → List RecordItem → Option 
 reason_of policy crates items = if pointwise bytes_eq (ids_seen crates) (ids_of items) then first_reason policy crates items else Some Crates
 
 -- the answer is yes exactly where there is no reason
-abbrev pub answer_by : Option NoReason → Answer
+abbrev pub answer_by : Option NoReason → VerifyAnswer
 answer_by None = Yes
 answer_by (Some reason) = No reason

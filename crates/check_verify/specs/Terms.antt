@@ -6,11 +6,11 @@ use Rattle.std.specs.Str.{bytes_eq}
 use Rattle.spdx_terms.specs.declared.term.ExpressionReq.{ExpressionReq}
 use Rattle.spdx_terms.specs.declared.term.LicenseReq.{LicenseReq}
 use Rattle.spdx_core.specs.Grammar.{ExpressionTree}
-use Rattle.graph_core.specs.Krate.{Record}
+use Rattle.graph_core.specs.Krate.{CrateRecord}
 use Rattle.spdx_core.specs.declared.certificates.verdict.Hit.{Hit}
 use Rattle.spdx_core.specs.declared.certificates.verdict.Hit.TheVariants.{Allowed, Exception}
 use Rattle.spdx_core.specs.certificates.Choices.{choices_of}
-use Rattle.policy_core.specs.valid.Policy.{Policy, first_exception, granted, hit_by}
+use Rattle.policy_core.specs.valid.Policy.{Policy, first_exception, granted_licensees, hit_by}
 use Rattle.policy_core.specs.valid.Satisfied.{satisfies}
 use Rattle.check_core.specs.evaluate.Entries.{entries_by}
 
@@ -29,7 +29,7 @@ meet_each tree places = list_all (λ choice. list_any (is_among places) choice) 
 -- ---- entries
 
 -- the exceptions that count for a crate: the first that matches it, alone
-abbrev pub counted_of : Policy → Record → List ℕ
+abbrev pub counted_of : Policy → CrateRecord → List ℕ
 counted_of policy krate = option_to_list (first_exception policy krate)
 
 -- the entry at a place satisfies a term; behind the end of the list there is none
@@ -40,7 +40,7 @@ satisfies_at licensees entry term = option_map_or (λ licensee. satisfies licens
 abbrev pub is_allowed_by : Policy → List ℕ → LicenseReq → Hit → Bool
 is_allowed_by policy counted term (Allowed entry) = satisfies_at policy.allowed entry term
 is_allowed_by policy counted term (Exception exception entry) =
-    is_among counted exception && satisfies_at (granted policy.exceptions exception) entry term
+    is_among counted exception && satisfies_at (granted_licensees policy.exceptions exception) entry term
 
 -- each hit allows the term at its place
 abbrev pub are_allowed : Policy → List ℕ → List ExpressionReq → List ℕ → List Hit → Bool
@@ -62,8 +62,8 @@ entries_at policy counted terms place = option_map_or (λ (term : ExpressionReq)
 
 -- ---- lists with something at some places. Only the contracts of private calls cite these.
 
-abbrev pub repeated : {A : Type 0} → ℕ → A → List A
-repeated count item = replicate count item
+abbrev pub copies_of : {A : Type 0} → ℕ → A → List A
+copies_of count item = replicate count item
 
 abbrev pub kept_at : {A : Type 0} → List A → List ℕ → A → List A
 kept_at items [] item = items

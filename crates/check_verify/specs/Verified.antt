@@ -7,12 +7,12 @@ use Rattle.spdx_core.specs.Reading.{ExpressionView}
 use Rattle.gather_core.specs.findings.License.{expression_of}
 use Rattle.gather_core.specs.declared.summary.KrateLicense.{KrateLicense}
 use Rattle.gather_core.specs.Gathered.{krate_of}
-use Rattle.graph_core.specs.Krate.{Record}
+use Rattle.graph_core.specs.Krate.{CrateRecord}
 use Rattle.policy_core.specs.valid.Policy.{IsPrivate, Policy, first_exception}
 use Rattle.check_record.specs.declared.items.RecordItem.{RecordItem}
 use Rattle.check_record.specs.declared.items.RecordVerdict.{RecordVerdict}
 use Rattle.check_record.specs.declared.items.RecordVerdict.TheVariants.{Skipped, Unlicensed, Accepted, Rejected}
-use Rattle.check_verify.specs.declared.answer.Answer.{Answer}
+use Rattle.check_verify.specs.declared.answer.VerifyAnswer.{VerifyAnswer}
 use Rattle.check_verify.specs.declared.answer.NoReason.{NoReason}
 use Rattle.check_verify.specs.Crates.{SeenCrate}
 use Rattle.check_verify.specs.Reasons.{answer_by, first_reason, reason_of}
@@ -25,7 +25,7 @@ pub record IsSeen (policy : Policy) (license : KrateLicense) (seen : SeenCrate) 
   pub expression : seen.expression ≡ expression_of license.lic_info
 
 -- the answer is that over the crates as they are seen
-pub record IsVerified (policy : Policy) (licenses : List KrateLicense) (items : List RecordItem) (answer : Answer) : Type 0 where
+pub record IsVerified (policy : Policy) (licenses : List KrateLicense) (items : List RecordItem) (answer : VerifyAnswer) : Type 0 where
   pub crates : List SeenCrate
   pub seen : AllZip (IsSeen policy) licenses crates
   pub is : answer ≡ answer_by (reason_of policy crates items)
@@ -57,7 +57,7 @@ terms_in expression = option_map_or (λ (view : ExpressionView). view.terms) exp
 
 -- One for each recorded hit, and for each recorded place of a rejected crate as many as there are entries for its term:
 -- those of its licence family.
-abbrev pub steps_for : Policy → Record → Option ExpressionView → RecordVerdict → ℕ
+abbrev pub steps_for : Policy → CrateRecord → Option ExpressionView → RecordVerdict → ℕ
 steps_for policy krate expression Skipped = 0
 steps_for policy krate expression Unlicensed = 0
 steps_for policy krate expression (Accepted choice hits) = length hits

@@ -6,7 +6,7 @@ use deny_text::Text;
 
 /// What is wrong with a crate's recorded verdict.
 #[derive(Clone, Copy, Debug, Drop, PartialEq, Eq)]
-pub enum Fault {
+pub enum VerdictFault {
     Variant,
     NotAChoice,
     NotSatisfied,
@@ -33,20 +33,20 @@ pub enum NoReason {
 
 /// Whether a record is right.
 #[derive(Debug, Drop)]
-pub enum Answer {
+pub enum VerifyAnswer {
     Yes,
     No(NoReason),
 }
 
 /// A fault with the id of its crate.
-pub fn with_id(id: Text, fault: Fault) -> NoReason
+pub fn with_id(id: Text, fault: VerdictFault) -> NoReason
     ensures { result ≡ spec.reason_with id fault }
 {
     match fault {
-        Fault::Variant => NoReason::Variant(id),
-        Fault::NotAChoice => NoReason::NotAChoice(id),
-        Fault::NotSatisfied => NoReason::NotSatisfied(id),
-        Fault::HasHit => NoReason::HasHit(id),
-        Fault::NotBlocking => NoReason::NotBlocking(id),
+        VerdictFault::Variant => NoReason::Variant(id),
+        VerdictFault::NotAChoice => NoReason::NotAChoice(id),
+        VerdictFault::NotSatisfied => NoReason::NotSatisfied(id),
+        VerdictFault::HasHit => NoReason::HasHit(id),
+        VerdictFault::NotBlocking => NoReason::NotBlocking(id),
     }
 }

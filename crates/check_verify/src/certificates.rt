@@ -11,7 +11,7 @@ use std::alloc::{AllocError, Global};
 
 /// For each of so many places the same.
 fn each(alloc: Global, count: usize, kept: Option<Hit>) -> Result<Vec<Option<Hit>>, AllocError>
-    ensures { IfOk result (λ list. list.items ≡ spec.repeated count kept) }
+    ensures { IfOk result (λ list. list.items ≡ spec.copies_of count kept) }
 {
     let mut list = Vec::with_capacity(alloc, count)?;
     'places: for _place in 0..count {

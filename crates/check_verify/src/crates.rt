@@ -10,7 +10,7 @@ ghost use Rattle.check_core.specs.evaluate.Entries.{entry_families};
 ghost use Rattle.check_verify.specs.Terms.{entries_at};
 ghost use Rattle.check_verify.specs.Verified.{steps_for};
 
-use crate::answer::Fault;
+use crate::answer::VerdictFault;
 use crate::certificates::{is_choice, meet_each};
 use crate::entries::{any_has_hit, are_allowed};
 use check_core::evaluate::EntryIndex;
@@ -26,7 +26,7 @@ use std::sync::ledger::Ledger;
 
 /// A crate with the exception that counts for it, and where the entries of each licence family stand in the policy.
 #[derive(Clone, Copy)]
-pub struct Asked<'k> {
+pub struct CrateInPolicy<'k> {
     pub krate: &'k Krate,
     pub counted: Option<usize>,
     pub index: &'k EntryIndex,
@@ -36,12 +36,12 @@ pub struct Asked<'k> {
 fn choice_fault<L: Ledger>(
     alloc: Global,
     policy: &ValidConfig,
-    asked: &Asked<'_>,
+    asked: &CrateInPolicy<'_>,
     expr: &Expression,
     choice: &[usize],
     hits: &[Hit],
     steps: &mut Steps<L>,
-) -> Result<Option<Fault>, AllocError>
+) -> Result<Option<VerdictFault>, AllocError>
     requires counted { asked.now.counted
         ≡ first_exception (policy_of policy.now) (record_of asked.now.krate.now) }
     requires families { entry_families (policy_of policy.now) ≡ asked.now.index.now }
@@ -50,13 +50,13 @@ fn choice_fault<L: Ledger>(
     ensures bound { steps.new ≤ steps.old + length hits.now }
 {
     if !is_choice(alloc, expr, choice)? {
-        return Ok(Some(Fault::NotAChoice));
+        return Ok(Some(VerdictFault::NotAChoice));
     }
     let terms = expr.requirements();
     if are_allowed(policy, asked.counted, terms, choice, hits, steps) {
         Ok(None)
     } else {
-        Ok(Some(Fault::NotSatisfied))
+        Ok(Some(VerdictFault::NotSatisfied))
     }
 }
 
@@ -64,11 +64,11 @@ fn choice_fault<L: Ledger>(
 fn blocks_fault<L: Ledger>(
     alloc: Global,
     policy: &ValidConfig,
-    asked: &Asked<'_>,
+    asked: &CrateInPolicy<'_>,
     expr: &Expression,
     blocks: &[usize],
     steps: &mut Steps<L>,
-) -> Result<Option<Fault>, AllocError>
+) -> Result<Option<VerdictFault>, AllocError>
     requires counted { asked.now.counted
         ≡ first_exception (policy_of policy.now) (record_of asked.now.krate.now) }
     requires families { entry_families (policy_of policy.now) ≡ asked.now.index.now }
@@ -85,12 +85,12 @@ fn blocks_fault<L: Ledger>(
         blocks,
         steps,
     ) {
-        return Ok(Some(Fault::HasHit));
+        return Ok(Some(VerdictFault::HasHit));
     }
     if meet_each(alloc, expr, blocks)? {
         Ok(None)
     } else {
-        Ok(Some(Fault::NotBlocking))
+        Ok(Some(VerdictFault::NotBlocking))
     }
 }
 
@@ -98,11 +98,11 @@ fn blocks_fault<L: Ledger>(
 fn certificate_fault<L: Ledger>(
     alloc: Global,
     policy: &ValidConfig,
-    asked: &Asked<'_>,
+    asked: &CrateInPolicy<'_>,
     expr: &Expression,
     verdict: &RecordVerdict,
     steps: &mut Steps<L>,
-) -> Result<Option<Fault>, AllocError>
+) -> Result<Option<VerdictFault>, AllocError>
     requires counted { asked.now.counted
         ≡ first_exception (policy_of policy.now) (record_of asked.now.krate.now) }
     requires families { entry_families (policy_of policy.now) ≡ asked.now.index.now }
@@ -127,27 +127,27 @@ fn certificate_fault<L: Ledger>(
         RecordVerdict::Rejected { blocks } => {
             blocks_fault(alloc, policy, asked, expr, blocks.items(), steps)
         }
-        RecordVerdict::Skipped | RecordVerdict::Unlicensed => Ok(Some(Fault::Variant)),
+        RecordVerdict::Skipped | RecordVerdict::Unlicensed => Ok(Some(VerdictFault::Variant)),
     }
 }
 
 /// What is wrong with the verdict on a crate that the policy passes over.
-fn skipped_fault(verdict: &RecordVerdict) -> Option<Fault>
+fn skipped_fault(verdict: &RecordVerdict) -> Option<VerdictFault>
     ensures { result ≡ spec.skipped_fault verdict.now }
 {
     match verdict {
         RecordVerdict::Skipped => None,
-        _ => Some(Fault::Variant),
+        _ => Some(VerdictFault::Variant),
     }
 }
 
 /// What is wrong with the verdict on a crate without an expression.
-fn unlicensed_fault(verdict: &RecordVerdict) -> Option<Fault>
+fn unlicensed_fault(verdict: &RecordVerdict) -> Option<VerdictFault>
     ensures { result ≡ spec.unlicensed_fault verdict.now }
 {
     match verdict {
         RecordVerdict::Unlicensed => None,
-        _ => Some(Fault::Variant),
+        _ => Some(VerdictFault::Variant),
     }
 }
 
@@ -155,11 +155,11 @@ fn unlicensed_fault(verdict: &RecordVerdict) -> Option<Fault>
 fn asked_fault<L: Ledger>(
     alloc: Global,
     policy: &ValidConfig,
-    asked: &Asked<'_>,
+    asked: &CrateInPolicy<'_>,
     info: &LicenseInfo,
     verdict: &RecordVerdict,
     steps: &mut Steps<L>,
-) -> Result<Option<Fault>, AllocError>
+) -> Result<Option<VerdictFault>, AllocError>
     requires counted { asked.now.counted
         ≡ first_exception (policy_of policy.now) (record_of asked.now.krate.now) }
     requires families { entry_families (policy_of policy.now) ≡ asked.now.index.now }
@@ -181,12 +181,12 @@ fn asked_fault<L: Ledger>(
 pub fn fault_of<L: Ledger>(
     alloc: Global,
     policy: &ValidConfig,
-    asked: &Asked<'_>,
+    asked: &CrateInPolicy<'_>,
     private: bool,
     info: &LicenseInfo,
     verdict: &RecordVerdict,
     steps: &mut Steps<L>,
-) -> Result<Option<Fault>, AllocError>
+) -> Result<Option<VerdictFault>, AllocError>
     requires counted { asked.now.counted
         ≡ first_exception (policy_of policy.now) (record_of asked.now.krate.now) }
     requires families { entry_families (policy_of policy.now) ≡ asked.now.index.now }

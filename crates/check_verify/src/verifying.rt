@@ -11,8 +11,8 @@ ghost use Rattle.check_core.specs.evaluate.Evaluation.{exception_numbers};
 ghost use Rattle.check_record.specs.Items.{ids_of};
 ghost use Rattle.check_verify.specs.Verified.{IsFirst, IsFlagged, IsVerified, all_steps, ids_gathered};
 
-use crate::answer::{Answer, NoReason, with_id};
-use crate::crates::{Asked, fault_of};
+use crate::answer::{VerifyAnswer, NoReason, with_id};
+use crate::crates::{CrateInPolicy, fault_of};
 use check_core::evaluate::EntryIndex;
 use check_record::{Record, RecordItem};
 use deny_text::{Steps, Text};
@@ -74,7 +74,7 @@ fn first_reason<L: Ledger>(
             return Ok(None);
         };
         let license = &licenses[place];
-        let asked = Asked {
+        let asked = CrateInPolicy {
             krate: license.krate,
             counted: exceptions.first(policy.exceptions.items(), license.krate),
             index,
@@ -106,7 +106,7 @@ pub fn verify<L: Ledger>(
     summary: &Summary<'_>,
     policy: &ValidConfig,
     steps: &mut Steps<L>,
-) -> Result<Answer, AllocError>
+) -> Result<VerifyAnswer, AllocError>
     ensures answer { IfOk result
         (IsVerified (policy_of policy.now) summary.now.nfos verdict_file.now) }
     ensures bound { steps.new
@@ -116,7 +116,7 @@ pub fn verify<L: Ledger>(
     let items = verdict_file.items();
     let flags = private_flags(alloc, policy, licenses)?;
     if !same_ids(licenses, items) {
-        return Ok(Answer::No(NoReason::Crates));
+        return Ok(VerifyAnswer::No(NoReason::Crates));
     }
     let exceptions = SpecIndex::of(alloc, policy.exceptions.items())?;
     let index = EntryIndex::of(alloc, policy)?;
@@ -131,7 +131,7 @@ pub fn verify<L: Ledger>(
         items,
         steps,
     )? {
-        Some(reason) => Ok(Answer::No(reason)),
-        None => Ok(Answer::Yes),
+        Some(reason) => Ok(VerifyAnswer::No(reason)),
+        None => Ok(VerifyAnswer::Yes),
     }
 }

@@ -4,7 +4,7 @@ use Rattle.std.specs.Prelude.{if◌then◌else◌}
 use Rattle.tree_core.specs.Call.{Call}
 use Rattle.tree_core.specs.Content.{Content}
 use Rattle.diag_stats.specs.ExitCode.{has_errors}
-use Rattle.run_request.specs.declared.check.Args.{Args}
+use Rattle.run_request.specs.declared.check.CheckArgs.{CheckArgs}
 use Rattle.run_request.specs.declared.request.Request.{Request}
 use Rattle.run_request.specs.declared.request.Subcommand.{Subcommand}
 use Rattle.run_request.specs.declared.request.Subcommand.TheVariants.{Check, List as Listing, Sample, Record, Verify}
@@ -12,14 +12,14 @@ use Rattle.run_overrides.specs.Levels.{HasNoOverrides}
 use Rattle.run_found.specs.declared.error.Error.{Error}
 use Rattle.run_found.specs.Hearing.{RequestHearing, TreeSeen}
 use Rattle.run_found.specs.Written.{SinkSeen}
-use Rattle.run_found.specs.lists.Given.{ListsGiven}
-use Rattle.run_command.specs.Given.{CommandArguments, CommandAsked, command_by}
+use Rattle.run_found.specs.own_names.Given.{ListsGiven}
+use Rattle.run_command.specs.Given.{CommandArguments, CommandRequest, command_by}
 use Rattle.run_command.specs.Lawful.{CommandHearing, IsRunHeard}
 use Rattle.run_command.specs.Prelude.{ComesTo, Runs, came, from_there, stopped, up_to}
 use Rattle.run_command.proofs.PreludeLemmas.{comes_by, run_heard}
 use Rattle.run_check.specs.declared.report.Report.{Report}
 use Rattle.run_check.specs.Given.{check_options}
-use Rattle.run_check.specs.Headline.{TellsAgainst, is_against}
+use Rattle.run_check.specs.Headline.{ZeroMeansNoneRejected, is_against}
 use Rattle.run_check.specs.Report.{TellsVerdicts}
 use Rattle.run_check.specs.Script.{WritesCheck}
 use Rattle.run_check.proofs.HeadlineLemmas.{headline_read}
@@ -38,17 +38,17 @@ use Rattle.deny_run.proofs.EndLemmas.{checked_as, listed_other, recorded_other, 
 -- ---- a check
 
 -- what is told of a check that has its report: what was heard, and the verdicts
-pub record IsReported (asked : CommandAsked) (tree : TreeSeen) (report : Report) : Type 0 where
+pub record IsReported (asked : CommandRequest) (tree : TreeSeen) (report : Report) : Type 0 where
   pub hearing : CommandHearing
   pub had : ListsGiven
   pub heard : IsRunHeard asked tree hearing had
   pub tells : TellsVerdicts (command_by asked.command had) hearing.found report
-  pub against : TellsAgainst (command_by asked.command had) (Ok report)
+  pub against : ZeroMeansNoneRejected (command_by asked.command had) (Ok report)
 
 ok_apart : {report : Report} {error : Error} → ◌≡◌ {A = Result Report Error} (Ok report) (Err error) → ⊥
 ok_apart e = absurd (cc)
 
-module _ (show : Bool) (asked : CommandAsked) (tree : TreeSeen) (out err : SinkSeen) (report : Report) where
+module _ (show : Bool) (asked : CommandRequest) (tree : TreeSeen) (out err : SinkSeen) (report : Report) where
   by_writes : (told : Option Content) (count : ℕ) (calls : List Call) (lists : ListsGiven) (comes : ComesTo asked (up_to tree told count calls) (Ok lists)) (sink : SinkSeen) → WritesCheck (command_by asked.command lists) (from_there tree told count calls) sink (Ok report) → IsReported asked tree report
   by_writes told count calls lists comes sink writes =
       let own = command_by asked.command lists in
@@ -73,8 +73,8 @@ module _ (show : Bool) (asked : CommandAsked) (tree : TreeSeen) (out err : SinkS
 
 -- a report that is an end is that of a check of the words' request
 pub record IsCheckOf (given : RunArguments) (outcome : Outcome) (tree : TreeSeen) (report : Report) : Type 0 where
-  pub args : Args
-  pub asked : CommandAsked
+  pub args : CheckArgs
+  pub asked : CommandRequest
   pub asks : AsksCheck given outcome args asked
   pub is : IsReported asked tree report
 
@@ -125,23 +125,23 @@ module _ (given : RunArguments) (seen : RunSeen) (outcome : Outcome) (is : IsOut
   no_error true e = absurd (cc)
   no_error false e = refl
 
-  same_args : {one other : Args} → Check one ≡ Check other → one ≡ other
+  same_args : {one other : CheckArgs} → Check one ≡ Check other → one ≡ other
   same_args e = cc
 
   same_told : {one other : Request} → ◌≡◌ {A = Option Request} (Some one) (Some other) → one ≡ other
   same_told e = cc
 
-  args_are : (report : Report) (own : IsCheckOf given outcome seen.tree report) (args : Args) (asked : CommandAsked) → AsksCheck given outcome args asked → own.args ≡ args
+  args_are : (report : Report) (own : IsCheckOf given outcome seen.tree report) (args : CheckArgs) (asked : CommandRequest) → AsksCheck given outcome args asked → own.args ≡ args
   args_are report own args asked asks =
       same_args (sym own.asks.command ∙ ap (λ (one : Request). one.command) (same_told (sym own.asks.told ∙ asks.told)) ∙ asks.command)
 
   module _ (status_is : outcome.status ≡ exit_status outcome.ended) where
-    tells_against : (report : Report) (args : Args) (asked : CommandAsked) → outcome.ended ≡ Checked report → AsksCheck given outcome args asked → HasNoOverrides args.lint_levels → outcome.status ≡ 0
+    tells_against : (report : Report) (args : CheckArgs) (asked : CommandRequest) → outcome.ended ≡ Checked report → AsksCheck given outcome args asked → HasNoOverrides args.lint_levels → outcome.status ≡ 0
         → All (λ crate. is_against crate.verdict ≡ false) report.crates
     tells_against report args asked ended asks none zero =
         let own = check_of report ended in
         own.is.against report refl
-        (subst (λ (one : CommandAsked). HasNoOverrides one.command.options.levels) (sym own.asks.is) (subst (λ (one : Args). HasNoOverrides one.lint_levels) (sym (args_are report own args asked asks)) none))
+        (subst (λ (one : CommandRequest). HasNoOverrides one.command.options.levels) (sym own.asks.is) (subst (λ (one : CheckArgs). HasNoOverrides one.lint_levels) (sym (args_are report own args asked asks)) none))
         (no_error (has_errors report.stats) (sym (ap exit_status ended) ∙ sym status_is ∙ zero))
 
     pub headline : Headline given seen outcome

@@ -6,7 +6,7 @@ use Rattle.tree_core.specs.Content.{Content}
 use Rattle.tree_core.specs.Faults.{Rose}
 use Rattle.spdx_terms.specs.catalog.Catalog.{CatalogLists}
 use Rattle.spdx_terms.specs.declared.catalog.identifier.Match.{Match}
-use Rattle.run_request.specs.declared.list.Args.{Args}
+use Rattle.run_request.specs.declared.list.ListArgs.{ListArgs}
 use Rattle.run_request.specs.declared.request.Request.{Request}
 use Rattle.run_request.specs.declared.request.Subcommand.{Subcommand}
 use Rattle.run_request.specs.declared.request.Subcommand.TheVariants.{Check, List as Listing, Sample, Record, Verify}
@@ -16,10 +16,10 @@ use Rattle.run_found.specs.declared.reads.CrateRead.{CrateRead}
 use Rattle.run_found.specs.Error.{EndsLawful as EndsCommand, MayEndLawful, cause_of}
 use Rattle.run_found.specs.Hearing.{HasMade, TreeSeen}
 use Rattle.run_found.specs.Written.{SinkSeen}
-use Rattle.run_found.specs.lists.Given.{ListsGiven}
-use Rattle.run_command.specs.Given.{CommandArguments, CommandAsked, CommandOptions, command_asked, command_by}
+use Rattle.run_found.specs.own_names.Given.{ListsGiven}
+use Rattle.run_command.specs.Given.{CommandArguments, CommandRequest, CommandOptions, command_asked, command_by}
 use Rattle.run_command.specs.Lawful.{CommandHearing, IsLawfulOver, IsLawfulRun}
-use Rattle.run_command.specs.Stops.{RequestInput}
+use Rattle.run_command.specs.Stops.{PolicyAndCrates}
 use Rattle.run_command.proofs.LawfulLemmas.{NoRefusal}
 use Rattle.run_command.proofs.PreludeLemmas.{lawful_over, lawful_run}
 use Rattle.run_command.proofs.WrittenLemmas.{writes_lawful}
@@ -43,9 +43,9 @@ use Rattle.deny_run.proofs.VerifyLemmas.{verifies_lawful, verifies_made, verify_
 use Rattle.deny_run.proofs.WordLemmas.{none_answered, same_request}
 
 -- what is lawful, by what was read or by a content
-pub data IsLawfulOn (asked : CommandAsked) (tree : TreeSeen) : Type 0 where
-  by_read : (hearing : CommandHearing) (had : ListsGiven) (behind : List Call) (input : RequestInput) → IsLawfulRun asked tree hearing had behind input → IsLawfulOn asked tree
-  by_content : (content : Content) → tree.told ≡ Some content → (Rose tree.count_before tree.count_after → ⊥) → (hearing : CommandHearing) (had : ListsGiven) (input : RequestInput)
+pub data IsLawfulOn (asked : CommandRequest) (tree : TreeSeen) : Type 0 where
+  by_read : (hearing : CommandHearing) (had : ListsGiven) (behind : List Call) (input : PolicyAndCrates) → IsLawfulRun asked tree hearing had behind input → IsLawfulOn asked tree
+  by_content : (content : Content) → tree.told ≡ Some content → (Rose tree.count_before tree.count_after → ⊥) → (hearing : CommandHearing) (had : ListsGiven) (input : PolicyAndCrates)
       → IsLawfulOver asked content tree.count_before hearing had input → IsLawfulOn asked tree
 
 wanting_end : {X : Type 0} (answer : Result X Error) → EndsCommand answer → EndsBy IsWanting answer
@@ -54,7 +54,7 @@ wanting_end {X} (Err error) ends = ends
 
 -- ---- a command
 
-module _ {X : Type 0} (end_by : X → RunEnd) (asked : CommandAsked) (IsDone : SinkSeen → SinkSeen → CommandArguments → TreeSeen → Result X Error → Type 0) (seen : RunSeen) (answer : Result RunEnd Error)
+module _ {X : Type 0} (end_by : X → RunEnd) (asked : CommandRequest) (IsDone : SinkSeen → SinkSeen → CommandArguments → TreeSeen → Result X Error → Type 0) (seen : RunSeen) (answer : Result RunEnd Error)
     (runs : RunsAs end_by asked IsDone seen answer) (MayRefuse : Error → Type 0) (wanting : (error : Error) → MayEndLawful (cause_of error) → MayRefuse error)
     (makes : (own : CommandArguments) (rest : TreeSeen) → IsDone seen.out seen.err own rest runs.value → HasMade rest)
     (done : (own : CommandArguments) (rest : TreeSeen) → NoRefusal own rest → IsDone seen.out seen.err own rest runs.value → EndsBy MayRefuse runs.value) where

@@ -11,18 +11,18 @@ use Rattle.diag_core.specs.File.{File}
 use Rattle.diag_stats.specs.ExitCode.{has_errors}
 use Rattle.diag_stats.specs.declared.stats.AllStats.{AllStats}
 use Rattle.policy_core.specs.declared.valid.policy.ValidConfig.{ValidConfig}
-use Rattle.gather_core.specs.Calls.{CrateReads}
+use Rattle.gather_core.specs.Calls.{ReadsOfCrate}
 use Rattle.gather_core.specs.declared.summary.KrateLicense.{KrateLicense}
 use Rattle.gather_core.proofs.ZipLemmas.{zip_weaker}
 use Rattle.run_found.specs.declared.error.Error.{Error}
 use Rattle.run_found.specs.Hearing.{RequestHearing, TellsContent}
-use Rattle.run_found.specs.lists.Given.{ListsGiven}
-use Rattle.run_found.specs.lists.Heard.{given_heard, lists_calls}
+use Rattle.run_found.specs.own_names.Given.{ListsGiven}
+use Rattle.run_found.specs.own_names.Heard.{given_heard, lists_calls}
 use Rattle.run_command.specs.Found.{HearsAllDue, calls_of}
-use Rattle.run_command.specs.Given.{CommandArguments, CommandAsked, command_by, handed_in}
+use Rattle.run_command.specs.Given.{CommandArguments, CommandRequest, command_by, handed_in}
 use Rattle.run_command.specs.Lawful.{CommandHearing, run_calls, there_call}
 use Rattle.run_command.specs.Settled.{IsSettled}
-use Rattle.run_command.specs.Stops.{Asks, RequestInput}
+use Rattle.run_command.specs.Stops.{Asks, PolicyAndCrates}
 use Rattle.run_command.proofs.AlikeLemmas.{IsAlike}
 use Rattle.run_command.proofs.OwnLemmas.{lists_same}
 use Rattle.check_core.specs.declared.report.CrateReport.{CrateReport}
@@ -45,7 +45,7 @@ module _ (given : CommandArguments) (level : LevelFilter) (found : RequestHearin
     metadata = own.metadata;
   }
 
-  asks_as : (asked : RequestInput) → Asks given found asked → Asks other found asked
+  asks_as : (asked : PolicyAndCrates) → Asks given found asked → Asks other found asked
   asks_as asked own = record {
     carried = own.carried;
     policy = record {
@@ -73,7 +73,7 @@ module _ (given : CommandArguments) (level : LevelFilter) (found : RequestHearin
   }
 
   module _ (report : Report) where
-    report_as : (one : CrateReads) (crate : CrateReport) → IsReportOf given report.policy one crate → IsReportOf other report.policy one crate
+    report_as : (one : ReadsOfCrate) (crate : CrateReport) → IsReportOf given report.policy one crate → IsReportOf other report.policy one crate
     report_as one crate own = record {
       id = own.id;
       reads = own.reads;
@@ -117,11 +117,11 @@ level_law given level tree hearing had report ran is = (
 -- ---- two runs over one content
 
 -- the calls for a run's names and texts, and those of its check, say what the content has
-record TellsBoth (given : CommandAsked) (content : Content) (hearing : CommandHearing) (had : ListsGiven) : Type 0 where
+record TellsBoth (given : CommandRequest) (content : Content) (hearing : CommandHearing) (had : ListsGiven) : Type 0 where
   lists : AllByRecursion (TellsContent content) (lists_calls (handed_in given.command) given.own hearing.lists)
   found : AllByRecursion (TellsContent content) (calls_of (command_by given.command had) hearing.found)
 
-tells_both : (given : CommandAsked) (content : Content) (hearing : CommandHearing) (had : ListsGiven) (count : ℕ) → IsHeardOf given content count hearing had → TellsBoth given content hearing had
+tells_both : (given : CommandRequest) (content : Content) (hearing : CommandHearing) (had : ListsGiven) (count : ℕ) → IsHeardOf given content count hearing had → TellsBoth given content hearing had
 tells_both given content hearing had count heard =
     let Tells = TellsContent content in
     let lists = lists_calls (handed_in given.command) given.own hearing.lists in
@@ -153,7 +153,7 @@ some_heard heard own is none = absurd (apart (sym none ∙ is))
     apart e = cc
 
 -- two checks of one content have the same names and texts
-lists_alike : (given : CommandAsked) (content : Content) (one other : CommandHearing) (had own : ListsGiven) → given_heard (handed_in given.command) given.own one.lists ≡ Some (Ok had)
+lists_alike : (given : CommandRequest) (content : Content) (one other : CommandHearing) (had own : ListsGiven) → given_heard (handed_in given.command) given.own one.lists ≡ Some (Ok had)
     → given_heard (handed_in given.command) given.own other.lists ≡ Some (Ok own) → AllByRecursion (TellsContent content) (lists_calls (handed_in given.command) given.own one.lists)
     → AllByRecursion (TellsContent content) (lists_calls (handed_in given.command) given.own other.lists) → had ≡ own
 lists_alike given content one other had own first second tells told =

@@ -18,7 +18,7 @@ use Rattle.deny_run.specs.Words.{AnswersWords}
 use Rattle.deny_run.proofs.EndLemmas.{labels_end}
 use Rattle.deny_run.proofs.HeadlineLemmas.{headline}
 use Rattle.deny_run.proofs.LawfulLemmas.{complete}
-use Rattle.deny_run.proofs.RunLemmas.{answer_ends, answer_made, answer_never, answer_uncarried}
+use Rattle.deny_run.proofs.RunLemmas.{answer_ends, answer_made, answer_never, answer_unsupported}
 
 module _ (given : RunArguments) (seen : RunSeen) (answered : Answered) (written : Option (List ℕ)) (count : ℕ) (early : seen.err.before ≤ count) (late : count ≤ seen.err.after) (out_later : seen.out.before ≤ seen.out.after)
     (is : IsAnswered given (record seen { err = sink_to seen.err written count }) answered) (line : EndsLine answered.answer (sink_from seen.err written count)) where
@@ -47,7 +47,7 @@ module _ (given : RunArguments) (seen : RunSeen) (answered : Answered) (written 
   is_run = record {
     outcome = is_outcome;
     words = is.words;
-    uncarried = λ request options what told asks none. answer_uncarried given first answered.answer answered.request is.answers request options what told asks none;
+    unsupported = λ request options what told asks none. answer_unsupported given first answered.answer answered.request is.answers request options what told asks none;
     policy = λ e. answer_never given first answered.answer answered.request is.answers e;
     later = record { made = answer_made given first answered.answer answered.request is.answers; out = out_later; err = (let both : seen.err.before ≤ seen.err.after = omega (arith, early, late) in both) };
     counts = λ error e. counts_of answered.answer is.counts (answer_ends given first answered.answer answered.request is.answers) error e;

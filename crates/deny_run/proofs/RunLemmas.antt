@@ -4,10 +4,10 @@ use Rattle.std.proofs.Common.{◌≡◌, ◌∙◌, refl, sym, ap, subst, ℕ, L
 use Rattle.tree_core.proofs.MadeLemmas.{some_made}
 use Rattle.tree_core.specs.texts.Cause.{ReadCounts}
 use Rattle.tree_core.specs.declared.texts.fault.ReadFault.TheVariants.{Absent}
-use Rattle.graph_workspace.specs.declared.error.What.{What}
+use Rattle.graph_workspace.specs.declared.error.UnsupportedPart.{UnsupportedPart}
 use Rattle.spdx_terms.specs.catalog.Catalog.{CatalogLists}
 use Rattle.spdx_terms.specs.declared.catalog.identifier.Match.{Match}
-use Rattle.run_request.specs.declared.list.Args.{Args}
+use Rattle.run_request.specs.declared.list.ListArgs.{ListArgs}
 use Rattle.run_request.specs.declared.request.Request.{Request}
 use Rattle.run_request.specs.declared.request.Subcommand.{Subcommand}
 use Rattle.run_request.specs.declared.request.Subcommand.TheVariants.{Check, List as Listing, Sample, Record, Verify}
@@ -17,10 +17,10 @@ use Rattle.run_found.specs.declared.reads.CrateRead.{CrateRead}
 use Rattle.run_found.specs.Error.{cause_of}
 use Rattle.run_found.specs.Hearing.{HasMade, TreeSeen}
 use Rattle.run_found.specs.Written.{SinkSeen}
-use Rattle.run_command.specs.Given.{CommandArguments, CommandAsked, CommandOptions, command_asked}
+use Rattle.run_command.specs.Given.{CommandArguments, CommandRequest, CommandOptions, command_asked}
 use Rattle.run_command.specs.Prelude.{IsUntouched, Runs}
 use Rattle.run_command.proofs.AbsentLemmas.{runs_never}
-use Rattle.run_command.proofs.PreludeLemmas.{runs_made, runs_uncarried}
+use Rattle.run_command.proofs.PreludeLemmas.{runs_made, runs_unsupported}
 use Rattle.run_command.proofs.WrittenLemmas.{writes_made, writes_never}
 use Rattle.run_check.specs.declared.report.Report.{Report}
 use Rattle.run_list.specs.Listed.{listing_text}
@@ -42,14 +42,14 @@ use Rattle.deny_run.proofs.VerifyLemmas.{verifies_made, verifies_never}
 
 -- ---- of each command
 
-pub lists_made : (args : Args) (out err : SinkSeen) (own : CommandArguments) (tree : TreeSeen) (value : Result (List CrateRead) Error) → ListsAs args out err own tree value → HasMade tree
+pub lists_made : (args : ListArgs) (out err : SinkSeen) (own : CommandArguments) (tree : TreeSeen) (value : Result (List CrateRead) Error) → ListsAs args out err own tree value → HasMade tree
 lists_made args out err own tree value lists =
     writes_made own tree err out (IsListing (record { command = own; args = args })) (λ listing. listing_text (record { command = own; args = args }) listing.crates) (λ listing. listing.reads) value lists
 
 pub records_made : (out err : SinkSeen) (own : CommandArguments) (tree : TreeSeen) (value : Result (List CrateRead) Error) → RecordsAs out err own tree value → HasMade tree
 records_made out err own tree value records = writes_made own tree err out (IsRecorded own) file_in reads_in value records
 
-module _ {X : Type 0} (end_by : X → RunEnd) (asked : CommandAsked) (IsDone : SinkSeen → SinkSeen → CommandArguments → TreeSeen → Result X Error → Type 0) (seen : RunSeen) (answer : Result RunEnd Error)
+module _ {X : Type 0} (end_by : X → RunEnd) (asked : CommandRequest) (IsDone : SinkSeen → SinkSeen → CommandArguments → TreeSeen → Result X Error → Type 0) (seen : RunSeen) (answer : Result RunEnd Error)
     (runs : RunsAs end_by asked IsDone seen answer) where
   run_made : ((own : CommandArguments) (rest : TreeSeen) (value : Result X Error) → IsDone seen.out seen.err own rest value → HasMade rest) → HasMade seen.tree
   run_made makes = runs_made asked (IsDone seen.out seen.err) seen.tree seen.err seen.out runs.value (λ own rest done. makes own rest runs.value done) runs.is_so
@@ -71,15 +71,15 @@ module _ {X : Type 0} (end_by : X → RunEnd) (asked : CommandAsked) (IsDone : S
         both_apart : ◌≡◌ {A = Result RunEnd Error} (Ok own) (Err error) → ⊥
         both_apart e = absurd (cc)
 
-  run_uncarried : (what : What) → asked.command.options.uncarried ≡ Some what → (end_of answer ≡ Refused (NotCarried what)) × IsUntouched seen.tree
-  run_uncarried what is =
-      let refusal = runs_uncarried asked (IsDone seen.out seen.err) seen.tree seen.err seen.out runs.value what is runs.is_so in
+  run_unsupported : (what : UnsupportedPart) → asked.command.options.unsupported ≡ Some what → (end_of answer ≡ Refused (NotCarried what)) × IsUntouched seen.tree
+  run_unsupported what is =
+      let refusal = runs_unsupported asked (IsDone seen.out seen.err) seen.tree seen.err seen.out runs.value what is runs.is_so in
       (ap end_of runs.is ∙ refused_end end_by runs.value (NotCarried what) refusal.0, refusal.1)
 
 -- ---- of a request
 
 module _ (lists : CatalogLists) (match_of : List ℕ → Match) (request : Request) (seen : RunSeen) (answer : Result RunEnd Error) where
-  abbrev asked : CommandOptions → CommandAsked
+  abbrev asked : CommandOptions → CommandRequest
   asked options = command_asked lists match_of request options
 
   pub request_made : (command : Subcommand) → Answers lists match_of request command seen answer → HasMade seen.tree
@@ -120,13 +120,13 @@ module _ (lists : CatalogLists) (match_of : List ℕ → Match) (request : Reque
   same_options : {one other : CommandOptions} → Some one ≡ Some other → one ≡ other
   same_options e = cc
 
-  pub request_uncarried : (command : Subcommand) → Answers lists match_of request command seen answer → (options : CommandOptions) (what : What) → options_of request command ≡ Some options
-      → options.uncarried ≡ Some what → (end_of answer ≡ Refused (NotCarried what)) × IsUntouched seen.tree
-  request_uncarried (Check args) runs options what is none = run_uncarried Checked _ (Checks args.show_stats) seen answer runs what (ap (λ (own : CommandOptions). own.uncarried) (same_options is) ∙ none)
-  request_uncarried (Listing args) runs options what is none = run_uncarried Listed _ (ListsAs args) seen answer runs what (ap (λ (own : CommandOptions). own.uncarried) (same_options is) ∙ none)
-  request_uncarried (Sample size) ends options what is none = absurd (cc)
-  request_uncarried Record runs options what is none = run_uncarried Recorded _ RecordsAs seen answer runs what (ap (λ (own : CommandOptions). own.uncarried) (same_options is) ∙ none)
-  request_uncarried (Verify path) runs options what is none = run_uncarried Verified _ (VerifiesAs path) seen answer runs what (ap (λ (own : CommandOptions). own.uncarried) (same_options is) ∙ none)
+  pub request_unsupported : (command : Subcommand) → Answers lists match_of request command seen answer → (options : CommandOptions) (what : UnsupportedPart) → options_of request command ≡ Some options
+      → options.unsupported ≡ Some what → (end_of answer ≡ Refused (NotCarried what)) × IsUntouched seen.tree
+  request_unsupported (Check args) runs options what is none = run_unsupported Checked _ (Checks args.show_stats) seen answer runs what (ap (λ (own : CommandOptions). own.unsupported) (same_options is) ∙ none)
+  request_unsupported (Listing args) runs options what is none = run_unsupported Listed _ (ListsAs args) seen answer runs what (ap (λ (own : CommandOptions). own.unsupported) (same_options is) ∙ none)
+  request_unsupported (Sample size) ends options what is none = absurd (cc)
+  request_unsupported Record runs options what is none = run_unsupported Recorded _ RecordsAs seen answer runs what (ap (λ (own : CommandOptions). own.unsupported) (same_options is) ∙ none)
+  request_unsupported (Verify path) runs options what is none = run_unsupported Verified _ (VerifiesAs path) seen answer runs what (ap (λ (own : CommandOptions). own.unsupported) (same_options is) ∙ none)
 
 -- ---- of words
 
@@ -170,8 +170,8 @@ module _ (given : RunArguments) (seen : RunSeen) (answer : Result RunEnd Error) 
   answer_ends (Some request) answers = request_ends given.lists given.match_of request seen answer request.command answers.1
   answer_ends None answers = none_ends given seen answer answers.1
 
-  pub answer_uncarried : (told : Option Request) → AnswersOf given told seen answer → (request : Request) (options : CommandOptions) (what : What) → told ≡ Some request → AsksCommand given request options
-      → options.uncarried ≡ Some what → (end_of answer ≡ Refused (NotCarried what)) × IsUntouched seen.tree
-  answer_uncarried told answers request options what is asks none =
+  pub answer_unsupported : (told : Option Request) → AnswersOf given told seen answer → (request : Request) (options : CommandOptions) (what : UnsupportedPart) → told ≡ Some request → AsksCommand given request options
+      → options.unsupported ≡ Some what → (end_of answer ≡ Refused (NotCarried what)) × IsUntouched seen.tree
+  answer_unsupported told answers request options what is asks none =
       let own = subst (λ one. AnswersOf given one seen answer) is answers in
-      request_uncarried given.lists given.match_of request seen answer request.command own.1 options what asks.options_are none
+      request_unsupported given.lists given.match_of request seen answer request.command own.1 options what asks.options_are none

@@ -10,10 +10,10 @@ use Rattle.run_request.specs.declared.request.Subcommand.TheVariants.{Check, Lis
 use Rattle.run_found.specs.declared.error.Error.{Error}
 use Rattle.run_found.specs.declared.error.Error.TheVariants.{RecordRead, RecordSyntax}
 use Rattle.run_found.specs.Error.{MayEndLawful, cause_of}
-use Rattle.run_found.specs.lists.Given.{ListsGiven}
+use Rattle.run_found.specs.own_names.Given.{ListsGiven}
 use Rattle.run_command.specs.Given.{CommandOptions}
 use Rattle.run_command.specs.Lawful.{CommandHearing, IsLawfulOver, IsLawfulRun}
-use Rattle.run_command.specs.Stops.{RequestInput}
+use Rattle.run_command.specs.Stops.{PolicyAndCrates}
 use Rattle.deny_run.specs.declared.outcome.Outcome.{Outcome}
 use Rattle.deny_run.specs.declared.outcome.RunEnd.{RunEnd}
 use Rattle.deny_run.specs.declared.outcome.RunEnd.TheVariants.{Checked, Listed, Recorded, Verified, Refused}
@@ -50,13 +50,13 @@ pub record AsksCommand (given : RunArguments) (request : Request) (options : Com
 -- by what was read
 abbrev pub IsCompleteRead : RunArguments → RunSeen → Outcome → Type 0
 IsCompleteRead given seen outcome =
-    (request : Request) (options : CommandOptions) (hearing : CommandHearing) (had : ListsGiven) (behind : List Call) (asked : RequestInput) → AsksCommand given request options
+    (request : Request) (options : CommandOptions) (hearing : CommandHearing) (had : ListsGiven) (behind : List Call) (asked : PolicyAndCrates) → AsksCommand given request options
     → IsLawfulRun (asked_of given request options) seen.tree hearing had behind asked → IsWithoutFault seen → EndsLawful request.command outcome.ended
 
 -- by a content
 abbrev pub IsCompleteOver : RunArguments → Content → RunSeen → Outcome → Type 0
 IsCompleteOver given content seen outcome =
-    (request : Request) (options : CommandOptions) (hearing : CommandHearing) (had : ListsGiven) (asked : RequestInput) → AsksCommand given request options
+    (request : Request) (options : CommandOptions) (hearing : CommandHearing) (had : ListsGiven) (asked : PolicyAndCrates) → AsksCommand given request options
     → IsLawfulOver (asked_of given request options) content seen.tree.count_before hearing had asked → IsWithoutFault seen → EndsLawful request.command outcome.ended
 
 pub record IsComplete (given : RunArguments) (seen : RunSeen) (outcome : Outcome) : Type 0 where

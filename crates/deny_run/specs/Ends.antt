@@ -4,7 +4,7 @@ use Rattle.tree_core.specs.texts.Cause.{ReadCounts}
 use Rattle.spdx_terms.specs.catalog.Catalog.{CatalogLists}
 use Rattle.spdx_terms.specs.declared.catalog.identifier.Match.{Match}
 use Rattle.check_core.specs.Labels.{PackLies}
-use Rattle.run_request.specs.declared.list.Args.{Args}
+use Rattle.run_request.specs.declared.list.ListArgs.{ListArgs}
 use Rattle.run_request.specs.declared.request.Request.{Request}
 use Rattle.run_request.specs.declared.request.Subcommand.{Subcommand}
 use Rattle.run_request.specs.declared.request.Subcommand.TheVariants.{Check, List as Listing, Sample, Record, Verify}
@@ -14,7 +14,7 @@ use Rattle.run_found.specs.Error.{cause_of}
 use Rattle.run_found.specs.Hearing.{TreeSeen}
 use Rattle.run_found.specs.Written.{SinkSeen}
 use Rattle.run_command.specs.Carried.{plain_options}
-use Rattle.run_command.specs.Given.{CommandArguments, CommandAsked, command_asked}
+use Rattle.run_command.specs.Given.{CommandArguments, CommandRequest, command_asked}
 use Rattle.run_command.specs.Prelude.{IsUntouched, Runs}
 use Rattle.run_check.specs.Given.{check_options}
 use Rattle.run_list.specs.Given.{list_options}
@@ -50,12 +50,12 @@ pub record IsEndBy {X : Type 0} (end_by : X → RunEnd) (IsSo : Result X Error �
 -- ---- a request
 
 -- a command runs behind what comes before it, by its options
-abbrev pub RunsAs : {X : Type 0} → (X → RunEnd) → CommandAsked → (SinkSeen → SinkSeen → CommandArguments → TreeSeen → Result X Error → Type 0) → RunSeen → Result RunEnd Error → Type 0
+abbrev pub RunsAs : {X : Type 0} → (X → RunEnd) → CommandRequest → (SinkSeen → SinkSeen → CommandArguments → TreeSeen → Result X Error → Type 0) → RunSeen → Result RunEnd Error → Type 0
 RunsAs {X} end_by asked IsDone seen answer =
     IsEndBy end_by (λ (value : Result X Error). Runs asked (IsDone seen.out seen.err) seen.tree seen.err seen.out value) answer
 
 -- so a listing, a verdict file, and whether one is right
-abbrev pub ListsAs : Args → SinkSeen → SinkSeen → CommandArguments → TreeSeen → Result (List CrateRead) Error → Type 0
+abbrev pub ListsAs : ListArgs → SinkSeen → SinkSeen → CommandArguments → TreeSeen → Result (List CrateRead) Error → Type 0
 ListsAs args out err own tree value = Lists (record { command = own; args = args }) tree err out value
 
 abbrev pub RecordsAs : SinkSeen → SinkSeen → CommandArguments → TreeSeen → Result (List CrateRead) Error → Type 0

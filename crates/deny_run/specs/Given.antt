@@ -8,7 +8,7 @@ use Rattle.run_request.specs.declared.request.Subcommand.{Subcommand}
 use Rattle.run_request.specs.declared.request.Subcommand.TheVariants.{Check, List as Listing, Sample, Record, Verify}
 use Rattle.run_request.specs.Given.{texts}
 use Rattle.run_command.specs.Carried.{plain_options}
-use Rattle.run_command.specs.Given.{CommandAsked, CommandOptions, command_asked}
+use Rattle.run_command.specs.Given.{CommandRequest, CommandOptions, command_asked}
 use Rattle.run_check.specs.Given.{check_options}
 use Rattle.run_list.specs.Given.{list_options}
 
@@ -31,5 +31,5 @@ options_of request Record = Some (plain_options request.log_ctx request.krate_ct
 options_of request (Verify path) = Some (plain_options request.log_ctx request.krate_ctx)
 
 -- what a request asks of a command with these options
-abbrev pub asked_of : RunArguments → Request → CommandOptions → CommandAsked
+abbrev pub asked_of : RunArguments → Request → CommandOptions → CommandRequest
 asked_of given request options = command_asked given.lists given.match_of request options

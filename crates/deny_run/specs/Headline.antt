@@ -18,13 +18,13 @@ use Rattle.std.specs.Prelude.{◌≡◌, false, All, Some}
 use Rattle.std.specs.Option.{ForSome}
 use Rattle.tree_core.specs.Content.{Content}
 use Rattle.tree_core.specs.Trace.{Says, faults_after}
-use Rattle.run_request.specs.declared.check.Args.{Args}
+use Rattle.run_request.specs.declared.check.CheckArgs.{CheckArgs}
 use Rattle.run_request.specs.declared.request.Request.{Request}
 use Rattle.run_request.specs.declared.request.Subcommand.TheVariants.{Check}
 use Rattle.run_overrides.specs.Levels.{HasNoOverrides}
 use Rattle.run_found.specs.Hearing.{TreeSeen}
-use Rattle.run_found.specs.lists.Given.{ListsGiven}
-use Rattle.run_command.specs.Given.{CommandAsked, command_by}
+use Rattle.run_found.specs.own_names.Given.{ListsGiven}
+use Rattle.run_command.specs.Given.{CommandRequest, command_by}
 use Rattle.run_command.specs.Lawful.{CommandHearing, ComesBy, HasBegun, IsRunHeard, run_calls}
 use Rattle.run_check.specs.declared.report.Report.{Report}
 use Rattle.run_check.specs.Given.{check_options}
@@ -37,7 +37,7 @@ use Rattle.deny_run.specs.Seen.{RunSeen}
 use Rattle.deny_run.specs.Words.{HasRequest}
 
 -- the words ask for this check, and their request is told
-pub record AsksCheck (given : RunArguments) (outcome : Outcome) (args : Args) (asked : CommandAsked) : Type 0 where
+pub record AsksCheck (given : RunArguments) (outcome : Outcome) (args : CheckArgs) (asked : CommandRequest) : Type 0 where
   pub request : Request
   pub of_words : HasRequest given request
   pub told : outcome.request ≡ Some request
@@ -45,15 +45,15 @@ pub record AsksCheck (given : RunArguments) (outcome : Outcome) (args : Args) (a
   pub is : asked ≡ asked_of given request (check_options request.log_ctx args request.krate_ctx)
 
 -- without overrides the status is zero only if no crate is unlicensed or rejected
-abbrev pub TellsAgainst : RunArguments → Outcome → Type 0
-TellsAgainst given outcome =
-    (report : Report) (args : Args) (asked : CommandAsked) → outcome.ended ≡ Checked report → AsksCheck given outcome args asked
+abbrev pub ZeroMeansNoneRejected : RunArguments → Outcome → Type 0
+ZeroMeansNoneRejected given outcome =
+    (report : Report) (args : CheckArgs) (asked : CommandRequest) → outcome.ended ≡ Checked report → AsksCheck given outcome args asked
     → HasNoOverrides args.lint_levels → outcome.status ≡ 0 → All (λ crate. is_against crate.verdict ≡ false) report.crates
 
 -- by what was read: the report gives the verdicts that are asked for by that, and no other call was made
 pub record HasVerdictsRead (given : RunArguments) (tree : TreeSeen) (outcome : Outcome) (report : Report) : Type 0 where
-  pub args : Args
-  pub asked : CommandAsked
+  pub args : CheckArgs
+  pub asked : CommandRequest
   pub asks : AsksCheck given outcome args asked
   pub hearing : CommandHearing
   pub had : ListsGiven
@@ -63,8 +63,8 @@ pub record HasVerdictsRead (given : RunArguments) (tree : TreeSeen) (outcome : O
 -- by a content: the report gives the verdicts that are asked for by calls that say what the content has, but for those that failed, each
 -- of which raised the count of faults
 pub record HasVerdictsIn (given : RunArguments) (content : Content) (tree : TreeSeen) (outcome : Outcome) (report : Report) : Type 0 where
-  pub args : Args
-  pub asked : CommandAsked
+  pub args : CheckArgs
+  pub asked : CommandRequest
   pub asks : AsksCheck given outcome args asked
   pub hearing : CommandHearing
   pub had : ListsGiven
@@ -77,4 +77,4 @@ pub record HasVerdictsIn (given : RunArguments) (content : Content) (tree : Tree
 pub record Headline (given : RunArguments) (seen : RunSeen) (outcome : Outcome) : Type 0 where
   pub read : (report : Report) → outcome.ended ≡ Checked report → HasVerdictsRead given seen.tree outcome report
   pub told : ForSome seen.tree.told (λ content. (report : Report) → outcome.ended ≡ Checked report → HasVerdictsIn given content seen.tree outcome report)
-  pub status : TellsAgainst given outcome
+  pub status : ZeroMeansNoneRejected given outcome

@@ -3,8 +3,8 @@ use Rattle.std.specs.Prelude.{◌≡◌, ℕ, All}
 use Rattle.tree_core.specs.Content.{Content}
 use Rattle.diag_core.specs.declared.severity.LevelFilter.{LevelFilter}
 use Rattle.run_found.specs.Hearing.{TellsContent, TreeSeen}
-use Rattle.run_found.specs.lists.Given.{ListsGiven}
-use Rattle.run_command.specs.Given.{CommandArguments, CommandAsked, command_by}
+use Rattle.run_found.specs.own_names.Given.{ListsGiven}
+use Rattle.run_command.specs.Given.{CommandArguments, CommandRequest, command_by}
 use Rattle.run_command.specs.Lawful.{CommandHearing, ComesBy, HasBegun, IsRunHeard, run_calls}
 use Rattle.run_check.specs.declared.report.Report.{Report}
 use Rattle.run_check.specs.Report.{IsReport}
@@ -15,16 +15,16 @@ use Rattle.deny_run.specs.Run.{exit_status}
 abbrev pub command_at : LevelFilter → CommandArguments → CommandArguments
 command_at level given = record given { request = record given.request { log = record given.request.log { log_level = level } } }
 
-abbrev pub at_level : LevelFilter → CommandAsked → CommandAsked
+abbrev pub at_level : LevelFilter → CommandRequest → CommandRequest
 at_level level given = record given { command = command_at level given.command }
 
 -- what was heard, and the report by that
-pub record IsReported (given : CommandAsked) (hearing : CommandHearing) (had : ListsGiven) (report : Report) : Type 0 where
+pub record IsReported (given : CommandRequest) (hearing : CommandHearing) (had : ListsGiven) (report : Report) : Type 0 where
   pub comes : ComesBy given hearing had
   pub is : IsReport (command_by given.command had) hearing.found report
 
 -- what is heard of a content, where no call fails and no memory is wanting
-pub record IsHeardOf (given : CommandAsked) (content : Content) (count : ℕ) (hearing : CommandHearing) (had : ListsGiven) : Type 0 where
+pub record IsHeardOf (given : CommandRequest) (content : Content) (count : ℕ) (hearing : CommandHearing) (had : ListsGiven) : Type 0 where
   pub begun : HasBegun hearing count
   pub tells : All (TellsContent content) (run_calls given hearing had)
 
@@ -32,7 +32,7 @@ pub record IsHeardOf (given : CommandAsked) (content : Content) (count : ℕ) (h
 -- its status
 abbrev pub LevelChangesNoReport : Type 0
 LevelChangesNoReport =
-    (given : CommandAsked) (level : LevelFilter) (tree : TreeSeen) (hearing : CommandHearing) (had : ListsGiven) (report : Report)
+    (given : CommandRequest) (level : LevelFilter) (tree : TreeSeen) (hearing : CommandHearing) (had : ListsGiven) (report : Report)
     → IsRunHeard given tree hearing had → IsReported given hearing had report
     → IsRunHeard (at_level level given) tree hearing had × IsReported (at_level level given) hearing had report
 
@@ -40,7 +40,7 @@ LevelChangesNoReport =
 -- with a report have equal statuses.
 abbrev pub LevelKeepsStatus : Type 0
 LevelKeepsStatus =
-    (given : CommandAsked) (level : LevelFilter) (content : Content) (count : ℕ)
+    (given : CommandRequest) (level : LevelFilter) (content : Content) (count : ℕ)
     (one other : CommandHearing) (had own : ListsGiven) (report more : Report)
     → IsHeardOf given content count one had → IsReported given one had report
     → IsHeardOf (at_level level given) content count other own → IsReported (at_level level given) other own more

@@ -2,10 +2,10 @@
 use Rattle.std.specs.Prelude.{◌≡◌, ℕ, Option, Some, if◌then◌else◌}
 use Rattle.tree_core.specs.declared.texts.fault.ReadFault.TheVariants.{Absent}
 use Rattle.tree_core.specs.texts.Cause.{ReadCounts}
-use Rattle.graph_workspace.specs.declared.error.What.{What}
+use Rattle.graph_workspace.specs.declared.error.UnsupportedPart.{UnsupportedPart}
 use Rattle.diag_stats.specs.ExitCode.{has_errors}
-use Rattle.check_verify.specs.declared.answer.Answer.{Answer}
-use Rattle.check_verify.specs.declared.answer.Answer.TheVariants.{Yes, No}
+use Rattle.check_verify.specs.declared.answer.VerifyAnswer.{VerifyAnswer}
+use Rattle.check_verify.specs.declared.answer.VerifyAnswer.TheVariants.{Yes, No}
 use Rattle.run_request.specs.declared.request.Request.{Request}
 use Rattle.run_found.specs.declared.error.Error.{Error}
 use Rattle.run_found.specs.declared.error.Error.TheVariants.{ConfigRead, NotCarried}
@@ -25,7 +25,7 @@ use Rattle.deny_run.specs.Words.{AnswersWords}
 -- ---- the status
 
 -- 0 where a verdict file is right, else 4
-abbrev pub answer_status : Answer → ℕ
+abbrev pub answer_status : VerifyAnswer → ℕ
 answer_status Yes = 0
 answer_status (No reason) = 4
 
@@ -48,9 +48,9 @@ outcome_of request ended = record { status = exit_status ended; request = reques
 -- ---- of a run
 
 -- a request of which a part is not carried is refused with the first such part, and no call is made
-abbrev pub RefusesUncarried : RunArguments → RunSeen → Outcome → Type 0
-RefusesUncarried given seen outcome =
-    (request : Request) (options : CommandOptions) (what : What) → outcome.request ≡ Some request → AsksCommand given request options → options.uncarried ≡ Some what
+abbrev pub RefusesUnsupported : RunArguments → RunSeen → Outcome → Type 0
+RefusesUnsupported given seen outcome =
+    (request : Request) (options : CommandOptions) (what : UnsupportedPart) → outcome.request ≡ Some request → AsksCommand given request options → options.unsupported ≡ Some what
     → (outcome.ended ≡ Refused (NotCarried what)) × IsUntouched seen.tree
 
 -- What a run over words promises.
@@ -61,7 +61,7 @@ pub record IsRun (given : RunArguments) (seen : RunSeen) (result : Outcome) : Ty
   -- Words that have a request have it told, and help and mistakes are answered so, but for want of memory and a refused write of help.
   pub words : AnswersWords given result.request result.ended
   -- Where a part of the request is not carried, that is the refusal, and no call is made.
-  pub uncarried : RefusesUncarried given seen result
+  pub unsupported : RefusesUnsupported given seen result
   -- No refusal says that a policy is not there: where none is, the one without entries is taken.
   pub policy : result.ended ≡ Refused (ConfigRead Absent) → ⊥
   -- Calls were made on the tree, and nothing else came of it; no count of a sink fell.

@@ -6,17 +6,17 @@ ghost use Rattle.run_found.specs.Hearing.{seen_between};
 ghost use Rattle.run_found.specs.Written.{sink_between};
 ghost use Rattle.run_command.specs.Given.{command_asked};
 ghost use Rattle.run_command.specs.Prelude.{Runs};
-ghost use Rattle.run_check.specs.Carried.{uncarried_of};
+ghost use Rattle.run_check.specs.Carried.{unsupported_of};
 ghost use Rattle.run_check.specs.Given.{check_arguments_of, check_options};
 ghost use Rattle.run_check.specs.Report.{LabelsLie};
 ghost use Rattle.deny_run.specs.Check.{Checks};
 
 use crate::summary::write_summary;
-use run_check::{Report, check_since, uncarried_in};
+use run_check::{Report, check_since, unsupported_in};
 use run_command::lists_of_request;
 use run_found::Error;
 use run_request::Request;
-use run_request::check::Args;
+use run_request::check::CheckArgs;
 use spdx_core::{Catalog, Identifier};
 use std::alloc::Global;
 use tree_core::{Sink, Tree};
@@ -26,14 +26,14 @@ use tree_core::{Sink, Tree};
 fn check_by<T: Tree, O: Sink, E: Sink, C: Catalog, I: Identifier>(
     alloc: Global,
     request: &Request,
-    args: &Args,
+    args: &CheckArgs,
     tree: &mut T,
     out: &mut O,
     err: &mut E,
     catalog: &C,
     identifier: &I,
 ) -> Result<Report, Error>
-    requires { uncarried_of request.now.log_ctx args.now request.now.krate_ctx ≡ None }
+    requires { unsupported_of request.now.log_ctx args.now request.now.krate_ctx ≡ None }
     ensures checks { Checks args.now.show_stats
         (sink_between O.written O.fault_count out.old out.new)
         (sink_between E.written E.fault_count err.old err.new)
@@ -78,7 +78,7 @@ fn check_by<T: Tree, O: Sink, E: Sink, C: Catalog, I: Identifier>(
 pub(crate) fn check_request<T: Tree, O: Sink, E: Sink, C: Catalog, I: Identifier>(
     alloc: Global,
     request: &Request,
-    args: &Args,
+    args: &CheckArgs,
     tree: &mut T,
     out: &mut O,
     err: &mut E,
@@ -100,8 +100,8 @@ pub(crate) fn check_request<T: Tree, O: Sink, E: Sink, C: Catalog, I: Identifier
     ensures out_later { O.fault_count out.old ≤ O.fault_count out.new }
     ensures err_later { E.fault_count err.old ≤ E.fault_count err.new }
 {
-    let uncarried = uncarried_in(request.log_ctx, args, &request.krate_ctx);
-    match lists_of_request(alloc, tree, request, uncarried, catalog, identifier) {
+    let unsupported = unsupported_in(request.log_ctx, args, &request.krate_ctx);
+    match lists_of_request(alloc, tree, request, unsupported, catalog, identifier) {
         Err(error) => Err(error),
         Ok(found) => check_by(
             alloc,

@@ -10,12 +10,12 @@ ghost use Rattle.run_command.specs.Prelude.{Runs};
 ghost use Rattle.run_list.specs.Given.{list_options};
 ghost use Rattle.deny_run.specs.Ends.{ListsAs, RecordsAs, VerifiesAs};
 
-use run_command::{lists_of_request, uncarried_in};
+use run_command::{lists_of_request, unsupported_in};
 use run_found::{CrateReads, Error};
 use run_list::list_since;
 use run_record::{VerifiedCrates, record_since, verify_since};
 use run_request::Request;
-use run_request::list::Args;
+use run_request::list::ListArgs;
 use spdx_core::{Catalog, Identifier};
 use std::alloc::Global;
 use tree_core::{Sink, Tree};
@@ -24,7 +24,7 @@ use tree_core::{Sink, Tree};
 pub(crate) fn list_request<T: Tree, O: Sink, E: Sink, C: Catalog, I: Identifier>(
     alloc: Global,
     request: &Request,
-    args: Args,
+    args: ListArgs,
     tree: &mut T,
     out: &mut O,
     err: &mut E,
@@ -45,8 +45,8 @@ pub(crate) fn list_request<T: Tree, O: Sink, E: Sink, C: Catalog, I: Identifier>
     ensures out_later { O.fault_count out.old ≤ O.fault_count out.new }
     ensures err_later { E.fault_count err.old ≤ E.fault_count err.new }
 {
-    let uncarried = uncarried_in(request.log_ctx, &request.krate_ctx);
-    match lists_of_request(alloc, tree, request, uncarried, catalog, identifier) {
+    let unsupported = unsupported_in(request.log_ctx, &request.krate_ctx);
+    match lists_of_request(alloc, tree, request, unsupported, catalog, identifier) {
         Err(error) => Err(error),
         Ok(found) => list_since(
             alloc,
@@ -86,8 +86,8 @@ pub(crate) fn record_request<T: Tree, O: Sink, E: Sink, C: Catalog, I: Identifie
     ensures out_later { O.fault_count out.old ≤ O.fault_count out.new }
     ensures err_later { E.fault_count err.old ≤ E.fault_count err.new }
 {
-    let uncarried = uncarried_in(request.log_ctx, &request.krate_ctx);
-    match lists_of_request(alloc, tree, request, uncarried, catalog, identifier) {
+    let unsupported = unsupported_in(request.log_ctx, &request.krate_ctx);
+    match lists_of_request(alloc, tree, request, unsupported, catalog, identifier) {
         Err(error) => Err(error),
         Ok(found) => record_since(
             alloc,
@@ -128,8 +128,8 @@ pub(crate) fn verify_request<T: Tree, O: Sink, E: Sink, C: Catalog, I: Identifie
     ensures out_later { O.fault_count out.old ≤ O.fault_count out.new }
     ensures err_later { E.fault_count err.old ≤ E.fault_count err.new }
 {
-    let uncarried = uncarried_in(request.log_ctx, &request.krate_ctx);
-    match lists_of_request(alloc, tree, request, uncarried, catalog, identifier) {
+    let unsupported = unsupported_in(request.log_ctx, &request.krate_ctx);
+    match lists_of_request(alloc, tree, request, unsupported, catalog, identifier) {
         Err(error) => Err(error),
         Ok(found) => verify_since(
             alloc,

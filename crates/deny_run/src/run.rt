@@ -11,7 +11,7 @@ ghost use Rattle.deny_run.specs.Seen.{EndsLine, run_seen};
 use crate::answer::{Answered, answer_words};
 use crate::outcome::{Outcome, RunEnd};
 use run_found::Error;
-use run_record::Answer;
+use run_record::VerifyAnswer;
 use run_request::Request;
 use spdx_core::{Catalog, Identifier};
 use std::alloc::Global;
@@ -34,12 +34,12 @@ fn end_of<E: Sink>(err: &mut E, answer: Result<RunEnd, Error>) -> RunEnd
 }
 
 /// The status of an answer: 0 where a verdict file is right, else 4.
-fn answer_status(answer: &Answer) -> u8
+fn answer_status(answer: &VerifyAnswer) -> u8
     ensures { result ≡ run.answer_status answer.now }
 {
     match answer {
-        Answer::Yes => 0,
-        Answer::No(_) => 4,
+        VerifyAnswer::Yes => 0,
+        VerifyAnswer::No(_) => 4,
     }
 }
 

@@ -66,12 +66,12 @@ stripe sums group = record {
 }
 
 -- step 3: the accumulators as one
-abbrev pub merged : Lanes → ℕ
-merged sums = add32 (add32 (add32 (rotate_left w32 sums.first 1) (rotate_left w32 sums.second 7)) (rotate_left w32 sums.third 12)) (rotate_left w32 sums.fourth 18)
+abbrev pub merged_lanes : Lanes → ℕ
+merged_lanes sums = add32 (add32 (add32 (rotate_left w32 sums.first 1) (rotate_left w32 sums.second 7)) (rotate_left w32 sums.third 12)) (rotate_left w32 sums.fourth 18)
 
 -- the groups of 16 bytes taken in one after another; input without one starts from the fifth prime
 unfoldable pub of_groups : List ℕ → ℕ
-of_groups bytes = if nat_lt (length bytes) 16 then prime_5 else merged (fold stripe start (whole_groups 16 bytes))
+of_groups bytes = if nat_lt (length bytes) 16 then prime_5 else merged_lanes (fold stripe start (whole_groups 16 bytes))
 
 -- step 4: the length is added
 abbrev pub with_length : List ℕ → ℕ
@@ -91,12 +91,12 @@ with_rest hash rest = fold with_byte (fold with_word hash (whole_groups 4 rest))
 abbrev pub xor_high : ℕ → ℕ → ℕ
 xor_high hash bits = bit_xor hash (hash / 2 ^ bits)
 
-unfoldable pub mixed : ℕ → ℕ
-mixed hash = xor_high (mul32 (xor_high (mul32 (xor_high hash 15) prime_2) 13) prime_3) 16
+unfoldable pub mixed_hash : ℕ → ℕ
+mixed_hash hash = xor_high (mul32 (xor_high (mul32 (xor_high hash 15) prime_2) 13) prime_3) 16
 
 -- the hash of the bytes
 unfoldable pub xxh32_of : List ℕ → ℕ
-xxh32_of bytes = mixed (with_rest (with_length bytes) (after_groups 16 bytes))
+xxh32_of bytes = mixed_hash (with_rest (with_length bytes) (after_groups 16 bytes))
 
 -- CR before each LF changes nothing in the hash of the normal form
 abbrev pub HashIgnoresReturns : Type 0

@@ -4,8 +4,8 @@ use Rattle.std.specs.Str.{IsCharBoundary}
 use Rattle.deny_text.specs.declared.span.Span.{Span}
 
 -- a place that counts from another
-abbrev pub moved : ℕ → Span → Span
-moved start inner = record { start = start + inner.start; end = start + inner.end }
+abbrev pub moved_span : ℕ → Span → Span
+moved_span start inner = record { start = start + inner.start; end = start + inner.end }
 
 -- it lies in a text
 abbrev pub LiesIn : List ℕ → Span → Type 0

@@ -1,7 +1,7 @@
 //! XXH32, the fast hash of 32 bits, with initial value 0.
 ghost use Rattle.std.specs.Prelude.{◌≡◌, ◌+◌, ◌≤◌, length, fold, take, drop};
-ghost use Rattle.deny_text.specs.Hash.{word_of, round, stripe, start, merged, of_groups, with_word};
-ghost use Rattle.deny_text.specs.Hash.{with_byte, mixed, whole_groups, after_groups, xxh32_of};
+ghost use Rattle.deny_text.specs.Hash.{word_of, round, stripe, start, merged_lanes, of_groups, with_word};
+ghost use Rattle.deny_text.specs.Hash.{with_byte, mixed_hash, whole_groups, after_groups, xxh32_of};
 ghost use Rattle.deny_text.specs.Hash.{HashIgnoresReturns};
 
 const PRIME_1: u32 = 2_654_435_761;
@@ -65,7 +65,7 @@ fn stripe(sums: Lanes, group: &[u8; 16]) -> Lanes
 }
 
 fn merged(sums: Lanes) -> u32
-    ensures { result ≡ merged sums }
+    ensures { result ≡ merged_lanes sums }
 {
     sums.first
         .rotate_left(1)
@@ -131,9 +131,9 @@ fn with_bytes(start: u32, bytes: &[u8]) -> u32
         .fold(start, |hash, byte| with_byte(hash, *byte))
 }
 
-#[tactic(auto, unfolding(crate::specs::Hash::mixed))]
+#[tactic(auto, unfolding(crate::specs::Hash::mixed_hash))]
 fn mixed(hash: u32) -> u32
-    ensures { result ≡ mixed hash }
+    ensures { result ≡ mixed_hash hash }
 {
     let high = (hash ^ (hash >> 15)).wrapping_mul(PRIME_2);
     let middle = (high ^ (high >> 13)).wrapping_mul(PRIME_3);

@@ -6,7 +6,7 @@ use Rattle.std.proofs.lemmas.Bool.Decides.{nat_tests}
 use Rattle.std.proofs.lemmas.List.Sums.{count_by-le-length}
 use Rattle.diag_core.specs.declared.line_scan.LineSearch.{LineSearch}
 use Rattle.diag_core.specs.declared.position.Location.{Location}
-use Rattle.diag_core.specs.Lines.{behind, passed}
+use Rattle.diag_core.specs.Lines.{location_after, search_after}
 use Rattle.diag_core.specs.Position.{is_line_feed, begins_character, line_of, line_starts, line_start, column_of, places_behind_line_feeds}
 use Rattle.diag_core.proofs.BlockLemmas.{count_split}
 use Rattle.diag_core.proofs.PositionLemmas.{count_by-cons, count_by-yes, count_by-no}
@@ -133,7 +133,7 @@ moved false false at line column l c = (omega (arith, l), omega (arith, c))
 
 -- a place leads to that of the next byte
 pub behind_next : (text : List ℕ) (n d : ℕ) (at : Location) → n < length text → at.line ≡ line_of text n → at.column ≡ column_of text n
-    → ((behind at (get_or text n d)).line ≡ line_of text (suc n)) × ((behind at (get_or text n d)).column ≡ column_of text (suc n))
+    → ((location_after at (get_or text n d)).line ≡ line_of text (suc n)) × ((location_after at (get_or text n d)).column ≡ column_of text (suc n))
 behind_next text n d at within line column =
     let byte = get_or text n d in
     moved (is_line_feed byte) (begins_character byte) at _ _
@@ -145,7 +145,7 @@ positive k = grind (arith, nat_tests)
 
 -- the same, counted as the code does
 pub behind_more : (text : List ℕ) (n d : ℕ) (at : Location) → n < length text → at.line ≡ line_of text n → at.column ≡ column_of text n
-    → ((behind at (get_or text n d)).line ≡ line_of text (n + 1)) × ((behind at (get_or text n d)).column ≡ column_of text (n + 1))
+    → ((location_after at (get_or text n d)).line ≡ line_of text (n + 1)) × ((location_after at (get_or text n d)).column ≡ column_of text (n + 1))
 behind_more text n d at within line column =
     let one : n + 1 ≡ suc n = omega arith in
     let next = behind_next text n d at within line column in
@@ -165,15 +165,15 @@ goes_on start (suc left) n rest false wanted is = rw (positive left) is
 -- a search leads to that behind the next byte
 pub passed_next : (text : List ℕ) (n d : ℕ) (search : LineSearch) (wanted : Option ℕ) → n < length text
     → slice_get (search.start ∷ places_behind_line_feeds n (drop n text)) search.left ≡ wanted
-    → slice_get ((passed search n (get_or text n d)).start ∷ places_behind_line_feeds (suc n) (drop (suc n) text)) (passed search n (get_or text n d)).left ≡ wanted
+    → slice_get ((search_after search n (get_or text n d)).start ∷ places_behind_line_feeds (suc n) (drop (suc n) text)) (search_after search n (get_or text n d)).left ≡ wanted
 passed_next text n d search wanted within is =
     goes_on search.start search.left n (drop (suc n) text) (is_line_feed (get_or text n d)) wanted
     (ap (λ rest. slice_get (search.start ∷ places_behind_line_feeds n rest) search.left) (sym (drop-cons text n d within)) ∙ is)
 
 pub passed_more : (text : List ℕ) (n d : ℕ) (search : LineSearch) (wanted : Option ℕ) → n < length text
     → slice_get (search.start ∷ places_behind_line_feeds n (drop n text)) search.left ≡ wanted
-    → slice_get ((passed search n (get_or text n d)).start ∷ places_behind_line_feeds (n + 1) (drop (n + 1) text)) (passed search n (get_or text n d)).left ≡ wanted
+    → slice_get ((search_after search n (get_or text n d)).start ∷ places_behind_line_feeds (n + 1) (drop (n + 1) text)) (search_after search n (get_or text n d)).left ≡ wanted
 passed_more text n d search wanted within is =
     let one : n + 1 ≡ suc n = omega arith in
-    let new : LineSearch = passed search n (get_or text n d) in
+    let new : LineSearch = search_after search n (get_or text n d) in
     ap (λ k. slice_get (new.start ∷ places_behind_line_feeds k (drop k text)) new.left) one ∙ passed_next text n d search wanted within is

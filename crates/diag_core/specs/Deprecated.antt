@@ -10,7 +10,7 @@ use Rattle.diag_core.specs.declared.deprecated.DeprecationReason.{DeprecationRea
 use Rattle.diag_core.specs.declared.deprecated.DeprecationReason.TheVariants.{WillBeRemoved, Moved, Renamed, MovedAndRenamed, Removed}
 use Rattle.diag_core.specs.GeneralCode.{general_code_name}
 use Rattle.diag_core.specs.Label.{label_at}
-use Rattle.diag_core.specs.Diagnostic.{plain}
+use Rattle.diag_core.specs.Diagnostic.{plain_diagnostic}
 
 -- what the reason says
 abbrev pub reason_text : DeprecationReason → List ℕ
@@ -32,7 +32,7 @@ severity_of_reason (MovedAndRenamed table key) = severity.Warning
 -- what is reported of the key: the reason's text, at the key
 abbrev pub deprecation_of : Deprecated → Diagnostic
 deprecation_of key =
-    record (plain (severity_of_reason key.reason)) {
+    record (plain_diagnostic (severity_of_reason key.reason)) {
       code = Some (general_code_name general.Deprecated);
       message = reason_text key.reason;
       labels = label_at Primary key.file_id key.key [] ∷ [];

@@ -12,12 +12,12 @@ pub record FoundLine (text : List ℕ) (place count : ℕ) : Type 0 where
   pub start : line_start text (count - 1) ≤ place
 
 -- behind a line feed a line begins; behind another byte that begins a character, the next column
-abbrev pub behind : Location → ℕ → Location
-behind at byte =
+abbrev pub location_after : Location → ℕ → Location
+location_after at byte =
     if is_line_feed byte then record { line = at.line + 1; column = 0 }
     else (if begins_character byte then record { line = at.line; column = at.column + 1 } else at)
 
 -- a line that is still to come starts behind a line feed
-abbrev pub passed : LineSearch → ℕ → ℕ → LineSearch
-passed search place byte =
+abbrev pub search_after : LineSearch → ℕ → ℕ → LineSearch
+search_after search place byte =
     if nat_lt 0 search.left && is_line_feed byte then record { start = place + 1; left = search.left - 1 } else search

@@ -23,10 +23,10 @@ level_by_code overrides None severity = severity
 level_by_code overrides (Some code) severity = level_of overrides code severity
 
 -- the finding at its level after overrides
-abbrev pub overridden : DiagnosticOverrides → Diag → Diag
-overridden overrides finding = record finding { diag = record finding.diag { severity = level_by_code overrides finding.diag.code finding.diag.severity } }
+abbrev pub finding_at_level : DiagnosticOverrides → Diag → Diag
+finding_at_level overrides finding = record finding { diag = record finding.diag { severity = level_by_code overrides finding.diag.code finding.diag.severity } }
 
 -- the pack with each finding at its level after overrides, where there are any
 abbrev pub pack_overridden : Option DiagnosticOverrides → PackOf → PackOf
 pack_overridden None pack = pack
-pack_overridden (Some overrides) pack = record pack { findings = map (overridden overrides) pack.findings }
+pack_overridden (Some overrides) pack = record pack { findings = map (finding_at_level overrides) pack.findings }

@@ -1,6 +1,6 @@
 //! What is reported.
 ghost use Rattle.std.specs.Prelude.{◌≡◌, [], ◌∷◌, ◌++◌, IfOk, Some};
-ghost use Rattle.diag_core.specs.Diagnostic.{plain};
+ghost use Rattle.diag_core.specs.Diagnostic.{plain_diagnostic};
 
 use crate::label::{Label, Labels};
 use crate::severity::Severity;
@@ -26,7 +26,7 @@ pub struct Diagnostic {
 impl Diagnostic {
     /// No code, an empty message, no label and no note.
     pub fn new(alloc: Global, severity: Severity) -> Diagnostic
-        ensures { result ≡ plain severity }
+        ensures { result ≡ plain_diagnostic severity }
     {
         Diagnostic {
             severity,

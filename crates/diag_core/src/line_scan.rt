@@ -2,7 +2,7 @@
 ghost use Rattle.std.specs.Prelude.{◌≡◌, ◌<◌, ◌≤◌, ◌+◌, ◌^◌, ◌∷◌, [], length, count_by, slice_get};
 ghost use Rattle.diag_core.specs.Position.{line_of, line_end, line_range_of, column_of, is_line_feed};
 ghost use Rattle.diag_core.specs.Position.{line_starts};
-ghost use Rattle.diag_core.specs.Lines.{behind, passed};
+ghost use Rattle.diag_core.specs.Lines.{location_after, search_after};
 
 use crate::characters::begins_character;
 use crate::position::{FilesErr, Location};
@@ -12,7 +12,7 @@ use deny_text::Span;
 fn behind(at: Location, byte: u8) -> Location
     requires line { at.line + 1 < 2 ^ 64 }
     requires column { at.column + 1 < 2 ^ 64 }
-    ensures { result ≡ behind at byte }
+    ensures { result ≡ location_after at byte }
 {
     if byte == b'\n' {
         Location {
@@ -81,7 +81,7 @@ pub(crate) struct LineSearch {
 /// The search behind the byte at a place.
 fn passed(search: LineSearch, place: usize, byte: u8) -> LineSearch
     requires { place + 1 < 2 ^ 64 }
-    ensures { result ≡ passed search place byte }
+    ensures { result ≡ search_after search place byte }
 {
     if search.left > 0 && byte == b'\n' {
         LineSearch {

@@ -1,6 +1,6 @@
 //! Other levels for findings, by their codes and by their levels.
 ghost use Rattle.std.specs.Prelude.{◌≡◌, map, [], ◌∷◌, ◌++◌, IfOk, OnOk, OnErr};
-ghost use Rattle.diag_core.specs.Overrides.{level_of, overridden, pack_overridden, first_output_of};
+ghost use Rattle.diag_core.specs.Overrides.{level_of, finding_at_level, pack_overridden, first_output_of};
 
 use crate::pack::{Diag, Pack};
 use crate::severity::Severity;
@@ -54,7 +54,7 @@ impl DiagnosticOverrides {
 
     /// Sets the level of a finding that has a code.
     fn apply(&self, finding: &mut Diag)
-        ensures { finding.new ≡ overridden self.now finding.old }
+        ensures { finding.new ≡ finding_at_level self.now finding.old }
     {
         if let Some(code) = &finding.diag.code {
             let severity = self.get(code.as_str(), finding.diag.severity);
@@ -64,7 +64,7 @@ impl DiagnosticOverrides {
 
     /// Sets the level of each finding that has a code.
     pub(crate) fn apply_all(&self, findings: &mut [Diag])
-        ensures { findings.new ≡ map (overridden self.now) findings.old }
+        ensures { findings.new ≡ map (finding_at_level self.now) findings.old }
     {
         'findings: for finding in findings.iter_mut() {
             self.apply(finding);

@@ -24,17 +24,17 @@ abbrev pub flat_byte : ℕ → ℕ
 flat_byte byte = if is_line_feed byte then 32 else byte
 
 -- the text with a space in place of each line feed
-abbrev pub flat : List ℕ → List ℕ
-flat text = map flat_byte text
+abbrev pub flat_text : List ℕ → List ℕ
+flat_text text = map flat_byte text
 
 -- the code in brackets, where there is one
 abbrev pub in_brackets : Option (List ℕ) → List ℕ
 in_brackets None = []
-in_brackets (Some code) = codes "[" ++ flat code ++ codes "]"
+in_brackets (Some code) = codes "[" ++ flat_text code ++ codes "]"
 
 -- the message behind a colon, where it is not empty
 abbrev pub behind_colon : List ℕ → List ℕ
-behind_colon message = if length message == 0 then [] else codes ": " ++ flat message
+behind_colon message = if length message == 0 then [] else codes ": " ++ flat_text message
 
 -- the first line: severity, code and message
 abbrev pub headline_of : Diagnostic → List ℕ
@@ -47,7 +47,7 @@ pointer_of Secondary = codes ":::"
 
 -- the file, the line and the column of a label
 abbrev pub place_text : List File → Label → List ℕ
-place_text files label = flat (file_under files label) ++ codes ":" ++ decimal (line_number files label) ++ codes ":" ++ decimal (column_number files label)
+place_text files label = flat_text (file_under files label) ++ codes ":" ++ decimal (line_number files label) ++ codes ":" ++ decimal (column_number files label)
 
 -- the line of a label: its place and its message
 abbrev pub label_line : List File → Label → List ℕ
@@ -55,7 +55,7 @@ label_line files label = codes "  " ++ pointer_of label.style ++ codes " " ++ pl
 
 -- the line of a note
 abbrev pub note_line : List ℕ → List ℕ
-note_line note = codes "  = " ++ flat note ++ codes "\n"
+note_line note = codes "  = " ++ flat_text note ++ codes "\n"
 
 -- the first line, a line for each label, and a line for each note
 abbrev pub human_lines : List File → Diagnostic → List ℕ

@@ -13,7 +13,7 @@ counted errors warnings notes helps = record { errors = errors; warnings = warni
 
 -- the checks of advisories and of licences
 abbrev two : Option Stats → Option Stats → AllStats
-two advisories licences = record { advisories = advisories; bans = None; licenses = licences; sources = None }
+two advisories licenses = record { advisories = advisories; bans = None; licenses = licenses; sources = None }
 
 short : summary_of Human Warn false (two (Some (counted 0 0 0 0)) (Some (counted 1 0 0 0))) ≡ (to_out, codes "advisories ok, licenses FAILED\n") ∷ []
 short = refl

@@ -22,10 +22,10 @@ abbrev pub status_text : CheckStats → List ℕ
 status_text one = check_word one.check ++ codes " " ++ status_word one.stats
 
 -- a check, where it ran
-abbrev pub ran : Check → Option Stats → List CheckStats
-ran check None = []
-ran check (Some stats) = record { check = check; stats = stats } ∷ []
+abbrev pub stats_where_run : Check → Option Stats → List CheckStats
+stats_where_run check None = []
+stats_where_run check (Some stats) = record { check = check; stats = stats } ∷ []
 
 -- the checks that ran, in the order of their names
 abbrev pub checks_of : AllStats → List CheckStats
-checks_of stats = ran Advisories stats.advisories ++ ran Bans stats.bans ++ ran Licenses stats.licenses ++ ran Sources stats.sources
+checks_of stats = stats_where_run Advisories stats.advisories ++ stats_where_run Bans stats.bans ++ stats_where_run Licenses stats.licenses ++ stats_where_run Sources stats.sources

@@ -13,12 +13,12 @@ abbrev pub behind_comma : CheckStats → List ℕ
 behind_comma one = codes ", " ++ status_text one
 
 -- how each check went, with commas between
-abbrev pub joined : List CheckStats → List ℕ
-joined [] = []
-joined (first ∷ others) = status_text first ++ flat_map behind_comma others
+abbrev pub joined_checks : List CheckStats → List ℕ
+joined_checks [] = []
+joined_checks (first ∷ others) = status_text first ++ flat_map behind_comma others
 
 abbrev pub short_text : List CheckStats → List ℕ
-short_text checks = joined checks ++ codes "\n"
+short_text checks = joined_checks checks ++ codes "\n"
 
 -- ---- the full form: a line for each check
 
@@ -26,9 +26,9 @@ abbrev pub space : ℕ
 space = 32
 
 -- how long the longest text is of a check and how it went
-abbrev pub longest : List CheckStats → ℕ
-longest [] = 0
-longest (one ∷ checks) = max (length (status_text one)) (longest checks)
+abbrev pub widest_check : List CheckStats → ℕ
+widest_check [] = 0
+widest_check (one ∷ checks) = max (length (status_text one)) (widest_check checks)
 
 -- the numbers of findings; notes and helps are one number
 abbrev pub counts_text : Stats → List ℕ
@@ -42,7 +42,7 @@ full_line column one = replicate (column - length (status_text one)) space ++ st
 
 -- the column is one behind the longest text
 abbrev pub full_text : List CheckStats → List ℕ
-full_text checks = flat_map (full_line (longest checks + 1)) checks
+full_text checks = flat_map (full_line (widest_check checks + 1)) checks
 
 -- ---- which of the two
 

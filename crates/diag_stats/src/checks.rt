@@ -1,6 +1,6 @@
 //! The checks that ran.
 ghost use Rattle.std.specs.Prelude.{◌≡◌, ◌≤◌, ◌++◌, length, IfOk, OnOk};
-ghost use Rattle.diag_stats.specs.Checks.{check_word, checks_of, ran, status_word};
+ghost use Rattle.diag_stats.specs.Checks.{check_word, checks_of, stats_where_run, status_word};
 
 use crate::stats::{AllStats, Stats};
 use deny_text::ListOf;
@@ -40,7 +40,7 @@ pub(crate) fn status_word(stats: Stats) -> &'static str
 
 /// Appends a check, where it ran.
 fn push_ran(checks: &mut CheckList, check: Check, stats: Option<Stats>) -> Result<(), AllocError>
-    ensures { OnOk result (checks.new ≡ checks.old ++ ran check stats) }
+    ensures { OnOk result (checks.new ≡ checks.old ++ stats_where_run check stats) }
 {
     if let Some(stats) = stats {
         checks.push(CheckStats { check, stats })?;

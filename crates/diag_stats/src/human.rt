@@ -3,7 +3,7 @@ ghost use Rattle.std.specs.Prelude.{◌≡◌, ◌+◌, ◌≤◌, ◌++◌, len
 ghost use Rattle.std.specs.List.{flat_map};
 ghost use Rattle.diag_stats.specs.Checks.{status_text};
 ghost use Rattle.diag_stats.specs.Human.{behind_comma, counts_text, full_line, full_text, human_text};
-ghost use Rattle.diag_stats.specs.Human.{joined, longest, short_text, space};
+ghost use Rattle.diag_stats.specs.Human.{joined_checks, widest_check, short_text, space};
 
 use crate::checks::{CheckStats, check_word, status_word};
 use crate::stats::Stats;
@@ -34,7 +34,7 @@ fn push_others(out: &mut String, checks: &[CheckStats]) -> Result<(), AllocError
 
 /// Appends checks, with commas between.
 fn push_joined(out: &mut String, checks: &[CheckStats]) -> Result<(), AllocError>
-    ensures { OnOk result (string_bytes out.new ≡ string_bytes out.old ++ joined checks.now) }
+    ensures { OnOk result (string_bytes out.new ≡ string_bytes out.old ++ joined_checks checks.now) }
 {
     match checks.split_first() {
         Some((first, others)) => {
@@ -65,7 +65,7 @@ fn text_length(check: CheckStats) -> usize
 
 /// How long the longest of these texts is.
 fn longest(checks: &[CheckStats]) -> usize
-    ensures value { result ≡ longest checks.now }
+    ensures value { result ≡ widest_check checks.now }
     ensures few { result ≤ 17 }
 {
     let mut most: usize = 0;

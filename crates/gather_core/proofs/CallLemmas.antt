@@ -9,25 +9,25 @@ use Rattle.tree_core.specs.Content.{Content}
 use Rattle.tree_core.specs.declared.reads.ReadKind.TheVariants.{Manifest, Listing, LicenseFile}
 use Rattle.tree_core.specs.declared.reads.ReadRecord.{ReadRecord}
 use Rattle.diag_core.specs.File.{File, Grows, file_id_at}
-use Rattle.graph_core.specs.Krate.{Record}
+use Rattle.graph_core.specs.Krate.{CrateRecord}
 use Rattle.tree_core.specs.file_reads.Heard.{ReadResult, absent, is_kind, is_read}
 use Rattle.tree_core.specs.file_reads.Read.{AnsweredRead, first_heard, read_heard, records_of_reads}
 use Rattle.tree_core.proofs.file_reads.ReadLemmas.{lacked_behind, no_reads, reads_joined, reads_lacking, records_in-append}
-use Rattle.gather_licence.specs.files.Calls.{IsFront, StarvesAmong}
-use Rattle.gather_licence.specs.files.Ears.{FolderReads, ears_by}
-use Rattle.gather_licence.specs.files.Pack.{reads_of}
-use Rattle.gather_licence.specs.files.Steps.{file_record, records_by}
-use Rattle.gather_licence.proofs.files.CallLemmas.{first_false, front_then, second_false}
-use Rattle.gather_licence.specs.expression.Scanned.{Scanner}
+use Rattle.gather_license.specs.files.Calls.{IsFront, StarvesAmong}
+use Rattle.gather_license.specs.files.KnownReads.{FolderReads, known_reads_by}
+use Rattle.gather_license.specs.files.Pack.{reads_of}
+use Rattle.gather_license.specs.files.Steps.{file_record, records_by}
+use Rattle.gather_license.proofs.files.CallLemmas.{first_false, front_then, second_false}
+use Rattle.gather_license.specs.expression.Scanned.{Scanner}
 use Rattle.gather_core.proofs.findings.GrowLemmas.{grows_same}
-use Rattle.gather_licence.specs.declared.location.location.LocatedField.{LocatedField}
-use Rattle.gather_licence.specs.location.Calls.{IsLocatedBy, StarvesLocating, manifest_by}
-use Rattle.gather_licence.specs.location.Location.{located_by, located_of}
-use Rattle.gather_licence.specs.declared.settle.SettledLicense.{SettledLicense}
-use Rattle.gather_licence.specs.Calls.{IsByReads}
-use Rattle.gather_licence.specs.Clarification.{ClarificationView, named_files}
-use Rattle.gather_licence.specs.Priority.{folder_of, is_nothing, looks_at_files, records_of}
-use Rattle.gather_licence.specs.Settled.{IsSettledBy}
+use Rattle.gather_license.specs.declared.location.location.LocatedField.{LocatedField}
+use Rattle.gather_license.specs.location.Calls.{IsLocatedBy, StarvesLocating, manifest_by}
+use Rattle.gather_license.specs.location.Location.{located_by, located_of}
+use Rattle.gather_license.specs.declared.settle.SettledLicense.{SettledLicense}
+use Rattle.gather_license.specs.Calls.{IsByReads}
+use Rattle.gather_license.specs.Clarification.{ClarificationView, named_files}
+use Rattle.gather_license.specs.Priority.{folder_of, is_nothing, looks_at_files, records_of}
+use Rattle.gather_license.specs.Settled.{IsSettledBy}
 use Rattle.gather_core.specs.declared.turn.LocatedLicense.{LocatedLicense}
 use Rattle.gather_core.specs.Calls.{IsByOwnReads, StarvesTaking}
 use Rattle.gather_core.specs.Taken.{IsLocatedWhere, IsTaken, is_clarified, turn_with}
@@ -89,32 +89,32 @@ of_located path field files manifest false there = record { listings = refl; fil
 of_located path field files manifest true None = record { listings = refl; files = λ parts. refl }
 of_located path field files manifest true (Some id) = record { listings = refl; files = λ parts. refl }
 
-pub of_manifests : (asks : Bool) (krate : Record) (files : List File) (manifest : ReadResult) → AreManifests (option_to_list (located_where asks krate files manifest).read)
+pub of_manifests : (asks : Bool) (krate : CrateRecord) (files : List File) (manifest : ReadResult) → AreManifests (option_to_list (located_where asks krate files manifest).read)
 of_manifests asks krate files manifest = of_located krate.manifest_path (field_text krate) files manifest asks (file_id_at files krate.manifest_path)
 
-no_file : (ears : FolderReads) (paths : List (List ℕ)) → HasNoManifest (map (file_record ears) paths)
-no_file ears [] = refl
-no_file ears (path ∷ paths) = no_file ears paths
+no_file : (known_reads : FolderReads) (paths : List (List ℕ)) → HasNoManifest (map (file_record known_reads) paths)
+no_file known_reads [] = refl
+no_file known_reads (path ∷ paths) = no_file known_reads paths
 
-no_manifest_where : (ears : FolderReads) (folder : List ℕ) (paths : List (List ℕ)) (looks : Bool) → HasNoManifest (cond looks (records_by ears folder paths) [])
-no_manifest_where ears folder paths true = no_file ears paths
-no_manifest_where ears folder paths false = refl
+no_manifest_where : (known_reads : FolderReads) (folder : List ℕ) (paths : List (List ℕ)) (looks : Bool) → HasNoManifest (cond looks (records_by known_reads folder paths) [])
+no_manifest_where known_reads folder paths true = no_file known_reads paths
+no_manifest_where known_reads folder paths false = refl
 
-pub no_manifest : (scanner : Scanner) (clarifications : List ClarificationView) (krate : Record) (ears : FolderReads) → HasNoManifest (records_of scanner clarifications krate ears)
-no_manifest scanner clarifications krate ears =
-    no_manifest_where ears (folder_of krate) (reads_of ears krate.license_file (named_files clarifications)) (looks_at_files scanner clarifications krate)
+pub no_manifest : (scanner : Scanner) (clarifications : List ClarificationView) (krate : CrateRecord) (known_reads : FolderReads) → HasNoManifest (records_of scanner clarifications krate known_reads)
+no_manifest scanner clarifications krate known_reads =
+    no_manifest_where known_reads (folder_of krate) (reads_of known_reads krate.license_file (named_files clarifications)) (looks_at_files scanner clarifications krate)
 
 -- ---- what is heard of files is not changed by reads of manifests, and the other way round
 
-pub ears_behind : (reads more : List AnsweredRead) → AreManifests (records_of_reads reads) → ears_by (reads ++ more) ≡ ears_by more
-ears_behind reads more are =
+pub known_reads_behind : (reads more : List AnsweredRead) → AreManifests (records_of_reads reads) → known_reads_by (reads ++ more) ≡ known_reads_by more
+known_reads_behind reads more are =
     λ i. record {
       listing = first_behind (λ read. is_kind Listing read.kind) reads more are.listings i;
       file = λ parts. first_behind (is_read LicenseFile parts) reads more (are.files parts) i;
     }
 
-pub ears_before : (reads more : List AnsweredRead) → AreManifests (records_of_reads more) → ears_by (reads ++ more) ≡ ears_by reads
-ears_before reads more are =
+pub known_reads_before : (reads more : List AnsweredRead) → AreManifests (records_of_reads more) → known_reads_by (reads ++ more) ≡ known_reads_by reads
+known_reads_before reads more are =
     λ i. record {
       listing = first_before (λ read. is_kind Listing read.kind) reads more are.listings i;
       file = λ parts. first_before (is_read LicenseFile parts) reads more (are.files parts) i;
@@ -128,20 +128,20 @@ manifest_before reads more none = first_before (λ read. is_kind Manifest read.k
 
 -- ---- locating
 
-pub none_taken : (told : Option Content) (count : ℕ) (calls : List Call) (folder : List ℕ) (IsSo : FolderReads → ReadResult → Type 0) → IsSo (ears_by []) (manifest_by [])
+pub none_taken : (told : Option Content) (count : ℕ) (calls : List Call) (folder : List ℕ) (IsSo : FolderReads → ReadResult → Type 0) → IsSo (known_reads_by []) (manifest_by [])
     → IsByOwnReads told told count count calls calls folder [] IsSo
 none_taken told count calls folder IsSo is = record { reads = []; recorded_are = refl; made = no_reads told count calls folder; is_so = is }
 
 -- where the manifest is not asked for
-pub none_located : (told : Option Content) (count : ℕ) (calls : List Call) (asks : Bool) (krate : Record) (files : List File) → asks ≡ false
-    → IsByOwnReads told told count count calls calls (folder_of krate) [] (λ ears manifest. IsLocatedWhere asks krate files manifest not_asked files)
+pub none_located : (told : Option Content) (count : ℕ) (calls : List Call) (asks : Bool) (krate : CrateRecord) (files : List File) → asks ≡ false
+    → IsByOwnReads told told count count calls calls (folder_of krate) [] (λ known_reads manifest. IsLocatedWhere asks krate files manifest not_asked files)
 none_located told count calls asks krate files off =
-    none_taken told count calls (folder_of krate) (λ ears manifest. IsLocatedWhere asks krate files manifest not_asked files)
+    none_taken told count calls (folder_of krate) (λ known_reads manifest. IsLocatedWhere asks krate files manifest not_asked files)
     (subst (λ (b : Bool). IsLocatedWhere b krate files (manifest_by []) not_asked files) (sym off) (record { located_is = refl; files_are = refl }))
 
-module _ {told tells : Option Content} {before after : ℕ} {old new : List Call} (krate : Record) (field : List ℕ) (files : List File) (license : krate.license ≡ Some field) where
+module _ {told tells : Option Content} {before after : ℕ} {old new : List Call} (krate : CrateRecord) (field : List ℕ) (files : List File) (license : krate.license ≡ Some field) where
   pub own_located : (located : LocatedField) (left : List File) → IsLocatedBy told tells before after old new krate.manifest_path field files located left
-      → IsByOwnReads told tells before after old new (folder_of krate) (option_to_list located.read) (λ ears manifest. IsLocatedWhere (is_some krate.license) krate files manifest located left)
+      → IsByOwnReads told tells before after old new (folder_of krate) (option_to_list located.read) (λ known_reads manifest. IsLocatedWhere (is_some krate.license) krate files manifest located left)
   own_located located left by = record {
     reads = by.reads;
     recorded_are = by.records;
@@ -150,7 +150,7 @@ module _ {told tells : Option Content} {before after : ℕ} {old new : List Call
   }
 
   pub own_starved : StarvesLocating told tells before after old new krate.manifest_path field files
-      → StarvesTaking told tells before after old new (folder_of krate) (λ ears manifest. option_to_list (located_where (is_some krate.license) krate files manifest).read)
+      → StarvesTaking told tells before after old new (folder_of krate) (λ known_reads manifest. option_to_list (located_where (is_some krate.license) krate files manifest).read)
   own_starved starves = record {
     reads = starves.reads;
     next = starves.next;
@@ -172,25 +172,25 @@ grows_located_by told tells before after old new path field files left (Err erro
 
 -- what is wanted first is wanted among more
 pub starves_wider : {told tells : Option Content} {before after : ℕ} {old new : List Call} (folder : List ℕ) (wanted wider : FolderReads → ReadResult → List ReadRecord)
-    → ((ears : FolderReads) (manifest : ReadResult) → IsFront (wanted ears manifest) (wider ears manifest))
+    → ((known_reads : FolderReads) (manifest : ReadResult) → IsFront (wanted known_reads manifest) (wider known_reads manifest))
     → StarvesTaking told tells before after old new folder wanted → StarvesTaking told tells before after old new folder wider
 starves_wider folder wanted wider wide starves = record {
   reads = starves.reads;
   next = starves.next;
   made = starves.made;
-  front = front_then (records_of_reads starves.reads ++ option_to_list starves.next) (wanted (ears_by starves.reads) (manifest_by starves.reads)) (wider (ears_by starves.reads) (manifest_by starves.reads))
-      starves.front (wide (ears_by starves.reads) (manifest_by starves.reads));
+  front = front_then (records_of_reads starves.reads ++ option_to_list starves.next) (wanted (known_reads_by starves.reads) (manifest_by starves.reads)) (wider (known_reads_by starves.reads) (manifest_by starves.reads))
+      starves.front (wide (known_reads_by starves.reads) (manifest_by starves.reads));
 }
 
 -- memory was wanting behind all that is wanted
 pub starves_behind : {told tells : Option Content} {before after : ℕ} {old new : List Call} (folder : List ℕ) (records : List ReadRecord) (IsSo : FolderReads → ReadResult → Type 0) (wanted : FolderReads → ReadResult → List ReadRecord)
-    → ((ears : FolderReads) (manifest : ReadResult) → IsSo ears manifest → records ≡ wanted ears manifest)
+    → ((known_reads : FolderReads) (manifest : ReadResult) → IsSo known_reads manifest → records ≡ wanted known_reads manifest)
     → IsByOwnReads told tells before after old new folder records IsSo → StarvesTaking told tells before after old new folder wanted
 starves_behind folder records IsSo wanted all by = record {
   reads = by.reads;
   next = None;
   made = lacked_behind folder by.reads by.made;
-  front = ([], sym (all (ears_by by.reads) (manifest_by by.reads) by.is_so) ∙ sym by.recorded_are ∙ sym (append-nil (records_of_reads by.reads)) ∙ sym (append-nil (records_of_reads by.reads ++ [])));
+  front = ([], sym (all (known_reads_by by.reads) (manifest_by by.reads) by.is_so) ∙ sym by.recorded_are ∙ sym (append-nil (records_of_reads by.reads)) ∙ sym (append-nil (records_of_reads by.reads ++ [])));
 }
 
 -- memory was wanting before any call
@@ -199,7 +199,7 @@ starves_before told count calls folder wanted = record {
   reads = [];
   next = None;
   made = lacked_behind folder [] (no_reads told count calls folder);
-  front = (wanted (ears_by []) (manifest_by []), refl);
+  front = (wanted (known_reads_by []) (manifest_by []), refl);
 }
 
 front_under : {A : Type 0} (xs front all : List A) → IsFront front all → IsFront (xs ++ front) (xs ++ all)
@@ -211,167 +211,167 @@ with_next reads more next = ap (λ l. l ++ next) (records_in-append reads more) 
 
 -- ---- what a turn asks for, in order
 
-abbrev manifest_asked : Bool → Record → List File → ReadResult → List ReadRecord
+abbrev manifest_asked : Bool → CrateRecord → List File → ReadResult → List ReadRecord
 manifest_asked asks krate files manifest = option_to_list (located_where asks krate files manifest).read
 
 -- the records of a turn, by what is heard
-abbrev pub wanted : Scanner → ℕ → List ClarificationView → Record → List File → FolderReads → ReadResult → List ReadRecord
-wanted scanner policy clarifications krate files ears manifest = records_in (turn_with scanner policy clarifications krate ears manifest files)
+abbrev pub wanted : Scanner → ℕ → List ClarificationView → CrateRecord → List File → FolderReads → ReadResult → List ReadRecord
+wanted scanner policy clarifications krate files known_reads manifest = records_in (turn_with scanner policy clarifications krate known_reads manifest files)
 
 -- the manifest first
-wanted_first : (scanner : Scanner) (policy : ℕ) (clarifications : List ClarificationView) (krate : Record) (files : List File) (ears : FolderReads) (manifest : ReadResult) → is_nothing clarifications ≡ true
-    → wanted scanner policy clarifications krate files ears manifest ≡ manifest_asked (is_some krate.license) krate files manifest ++ records_of scanner clarifications krate ears
-wanted_first scanner policy [] krate files ears manifest none = refl
-wanted_first scanner policy (one ∷ more) krate files ears manifest none = cc
+wanted_first : (scanner : Scanner) (policy : ℕ) (clarifications : List ClarificationView) (krate : CrateRecord) (files : List File) (known_reads : FolderReads) (manifest : ReadResult) → is_nothing clarifications ≡ true
+    → wanted scanner policy clarifications krate files known_reads manifest ≡ manifest_asked (is_some krate.license) krate files manifest ++ records_of scanner clarifications krate known_reads
+wanted_first scanner policy [] krate files known_reads manifest none = refl
+wanted_first scanner policy (one ∷ more) krate files known_reads manifest none = cc
 
 -- the files first
-wanted_last : (scanner : Scanner) (policy : ℕ) (clarifications : List ClarificationView) (krate : Record) (files : List File) (ears : FolderReads) (manifest : ReadResult) → is_nothing clarifications ≡ false
-    → wanted scanner policy clarifications krate files ears manifest ≡ records_of scanner clarifications krate ears ++ manifest_asked (asks_manifest clarifications krate ears) krate files manifest
-wanted_last scanner policy clarifications krate files ears manifest some =
-    ap (λ b. in_order b (located_where (asks_manifest clarifications krate ears) krate files manifest).read (records_of scanner clarifications krate ears)) some
+wanted_last : (scanner : Scanner) (policy : ℕ) (clarifications : List ClarificationView) (krate : CrateRecord) (files : List File) (known_reads : FolderReads) (manifest : ReadResult) → is_nothing clarifications ≡ false
+    → wanted scanner policy clarifications krate files known_reads manifest ≡ records_of scanner clarifications krate known_reads ++ manifest_asked (asks_manifest clarifications krate known_reads) krate files manifest
+wanted_last scanner policy clarifications krate files known_reads manifest some =
+    ap (λ b. in_order b (located_where (asks_manifest clarifications krate known_reads) krate files manifest).read (records_of scanner clarifications krate known_reads)) some
 
 -- ---- what was taken
 
-module _ (scanner : Scanner) (policy : ℕ) (clarifications : List ClarificationView) (krate : Record) (files : List File) (located : LocatedField) (settled : SettledLicense) (left : List File) where
+module _ (scanner : Scanner) (policy : ℕ) (clarifications : List ClarificationView) (krate : CrateRecord) (files : List File) (located : LocatedField) (settled : SettledLicense) (left : List File) where
   abbrev pub taken_of : List ReadRecord → LocatedLicense
   taken_of reads = record { by = settled.by; missing = settled.missing; location = located.location; reads = reads }
 
   abbrev pub IsTakenSo : List ReadRecord → FolderReads → ReadResult → Type 0
-  IsTakenSo reads ears manifest = IsTaken (turn_with scanner policy clarifications krate ears manifest files) (taken_of reads) left
+  IsTakenSo reads known_reads manifest = IsTaken (turn_with scanner policy clarifications krate known_reads manifest files) (taken_of reads) left
 
   -- memory was wanting behind all reads of the turn
   pub starves_taken : {told tells : Option Content} {before after : ℕ} {old new : List Call} (reads : List ReadRecord)
       → IsByOwnReads told tells before after old new (folder_of krate) reads (IsTakenSo reads) → StarvesTaking told tells before after old new (folder_of krate) (wanted scanner policy clarifications krate files)
-  starves_taken reads by = starves_behind (folder_of krate) reads (IsTakenSo reads) (wanted scanner policy clarifications krate files) (λ ears manifest is. is.reads) by
+  starves_taken reads by = starves_behind (folder_of krate) reads (IsTakenSo reads) (wanted scanner policy clarifications krate files) (λ known_reads manifest is. is.reads) by
 
   module _ {told mid tells : Option Content} {before middle after : ℕ} {old between new : List Call} where
     -- the manifest was read, where it was asked for, and then the files
     pub own_first : is_nothing clarifications ≡ true
-        → IsByOwnReads told mid before middle old between (folder_of krate) (option_to_list located.read) (λ ears manifest. IsLocatedWhere (is_some krate.license) krate files manifest located left)
-        → IsByReads mid tells middle after between new (folder_of krate) settled.reads (λ ears. IsSettledBy scanner clarifications krate ears settled)
+        → IsByOwnReads told mid before middle old between (folder_of krate) (option_to_list located.read) (λ known_reads manifest. IsLocatedWhere (is_some krate.license) krate files manifest located left)
+        → IsByReads mid tells middle after between new (folder_of krate) settled.reads (λ known_reads. IsSettledBy scanner clarifications krate known_reads settled)
         → (reads : List ReadRecord) → reads ≡ option_to_list located.read ++ settled.reads
         → IsByOwnReads told tells before after old new (folder_of krate) reads (IsTakenSo reads)
     own_first none here then reads behind =
         let asks = is_some krate.license in
         let manifest = manifest_by here.reads in
-        let ears = ears_by then.reads in
-        let all_ears : ears_by (here.reads ++ then.reads) ≡ ears =
-        ears_behind here.reads then.reads
+        let known_reads = known_reads_by then.reads in
+        let all_known_reads : known_reads_by (here.reads ++ then.reads) ≡ known_reads =
+        known_reads_behind here.reads then.reads
         (subst AreManifests (sym (here.recorded_are ∙ ap (λ (l : LocatedField). option_to_list l.read) here.is_so.located_is)) (of_manifests asks krate files manifest)) in
         let all_manifest : manifest_by (here.reads ++ then.reads) ≡ manifest =
-        manifest_before here.reads then.reads (subst HasNoManifest (sym (then.records ∙ then.is_so.reads_are)) (no_manifest scanner clarifications krate ears)) in
+        manifest_before here.reads then.reads (subst HasNoManifest (sym (then.records ∙ then.is_so.reads_are)) (no_manifest scanner clarifications krate known_reads)) in
         record {
           reads = here.reads ++ then.reads;
           recorded_are = records_in-append here.reads then.reads ∙ ap₂ (λ (front back : List ReadRecord). front ++ back) here.recorded_are then.records ∙ sym behind;
           made = reads_joined (folder_of krate) here.reads then.reads here.made then.made;
           is_so =
-              subst (λ (heard : FolderReads). IsTakenSo reads heard (manifest_by (here.reads ++ then.reads))) (sym all_ears)
-              (subst (IsTakenSo reads ears) (sym all_manifest)
-              (taken_first scanner policy clarifications krate ears manifest files located settled left reads none here.is_so then.is_so behind));
+              subst (λ (heard : FolderReads). IsTakenSo reads heard (manifest_by (here.reads ++ then.reads))) (sym all_known_reads)
+              (subst (IsTakenSo reads known_reads) (sym all_manifest)
+              (taken_first scanner policy clarifications krate known_reads manifest files located settled left reads none here.is_so then.is_so behind));
         }
 
     -- the files were read, and then the manifest, where it was asked for
     pub own_last : is_nothing clarifications ≡ false
-        → IsByReads told mid before middle old between (folder_of krate) settled.reads (λ ears. IsSettledBy scanner clarifications krate ears settled)
+        → IsByReads told mid before middle old between (folder_of krate) settled.reads (λ known_reads. IsSettledBy scanner clarifications krate known_reads settled)
         → IsByOwnReads mid tells middle after between new (folder_of krate) (option_to_list located.read)
-        (λ ears manifest. IsLocatedWhere (not (is_clarified settled.by) && is_some krate.license) krate files manifest located left)
+        (λ known_reads manifest. IsLocatedWhere (not (is_clarified settled.by) && is_some krate.license) krate files manifest located left)
         → (reads : List ReadRecord) → reads ≡ settled.reads ++ option_to_list located.read
         → IsByOwnReads told tells before after old new (folder_of krate) reads (IsTakenSo reads)
     own_last some here then reads behind =
         let asks = not (is_clarified settled.by) && is_some krate.license in
-        let ears = ears_by here.reads in
+        let known_reads = known_reads_by here.reads in
         let manifest = manifest_by then.reads in
-        let all_ears : ears_by (here.reads ++ then.reads) ≡ ears =
-        ears_before here.reads then.reads
+        let all_known_reads : known_reads_by (here.reads ++ then.reads) ≡ known_reads =
+        known_reads_before here.reads then.reads
         (subst AreManifests (sym (then.recorded_are ∙ ap (λ (l : LocatedField). option_to_list l.read) then.is_so.located_is)) (of_manifests asks krate files manifest)) in
         let all_manifest : manifest_by (here.reads ++ then.reads) ≡ manifest =
-        manifest_behind here.reads then.reads (subst HasNoManifest (sym (here.records ∙ here.is_so.reads_are)) (no_manifest scanner clarifications krate ears)) in
+        manifest_behind here.reads then.reads (subst HasNoManifest (sym (here.records ∙ here.is_so.reads_are)) (no_manifest scanner clarifications krate known_reads)) in
         record {
           reads = here.reads ++ then.reads;
           recorded_are = records_in-append here.reads then.reads ∙ ap₂ (λ (front back : List ReadRecord). front ++ back) here.records then.recorded_are ∙ sym behind;
           made = reads_joined (folder_of krate) here.reads then.reads here.made then.made;
           is_so =
-              subst (λ (heard : FolderReads). IsTakenSo reads heard (manifest_by (here.reads ++ then.reads))) (sym all_ears)
-              (subst (IsTakenSo reads ears) (sym all_manifest)
-              (taken_last scanner policy clarifications krate ears manifest files located settled left reads some here.is_so then.is_so behind));
+              subst (λ (heard : FolderReads). IsTakenSo reads heard (manifest_by (here.reads ++ then.reads))) (sym all_known_reads)
+              (subst (IsTakenSo reads known_reads) (sym all_manifest)
+              (taken_last scanner policy clarifications krate known_reads manifest files located settled left reads some here.is_so then.is_so behind));
         }
 
 -- ---- for want of memory
 
-module _ {told tells : Option Content} {before after : ℕ} {old new : List Call} (scanner : Scanner) (policy : ℕ) (clarifications : List ClarificationView) (krate : Record) (files : List File) where
+module _ {told tells : Option Content} {before after : ℕ} {old new : List Call} (scanner : Scanner) (policy : ℕ) (clarifications : List ClarificationView) (krate : CrateRecord) (files : List File) where
   -- as the manifest was read before the files
-  pub starves_first : is_nothing clarifications ≡ true → StarvesTaking told tells before after old new (folder_of krate) (λ ears manifest. option_to_list (located_where (is_some krate.license) krate files manifest).read)
+  pub starves_first : is_nothing clarifications ≡ true → StarvesTaking told tells before after old new (folder_of krate) (λ known_reads manifest. option_to_list (located_where (is_some krate.license) krate files manifest).read)
       → StarvesTaking told tells before after old new (folder_of krate) (wanted scanner policy clarifications krate files)
   starves_first none starves =
-      starves_wider (folder_of krate) (λ ears manifest. manifest_asked (is_some krate.license) krate files manifest) (wanted scanner policy clarifications krate files)
-      (λ ears manifest. (records_of scanner clarifications krate ears, wanted_first scanner policy clarifications krate files ears manifest none)) starves
+      starves_wider (folder_of krate) (λ known_reads manifest. manifest_asked (is_some krate.license) krate files manifest) (wanted scanner policy clarifications krate files)
+      (λ known_reads manifest. (records_of scanner clarifications krate known_reads, wanted_first scanner policy clarifications krate files known_reads manifest none)) starves
 
   -- as the files were read before the manifest
   pub starves_last : is_nothing clarifications ≡ false → StarvesAmong told tells before after old new (folder_of krate) (records_of scanner clarifications krate)
       → StarvesTaking told tells before after old new (folder_of krate) (wanted scanner policy clarifications krate files)
   starves_last some starves =
-      starves_wider (folder_of krate) (λ ears manifest. records_of scanner clarifications krate ears) (wanted scanner policy clarifications krate files)
-      (λ ears manifest. (manifest_asked (asks_manifest clarifications krate ears) krate files manifest, wanted_last scanner policy clarifications krate files ears manifest some))
+      starves_wider (folder_of krate) (λ known_reads manifest. records_of scanner clarifications krate known_reads) (wanted scanner policy clarifications krate files)
+      (λ known_reads manifest. (manifest_asked (asks_manifest clarifications krate known_reads) krate files manifest, wanted_last scanner policy clarifications krate files known_reads manifest some))
       (record { reads = starves.reads; next = starves.next; made = starves.made; front = starves.front })
 
-module _ {told mid tells : Option Content} {before middle after : ℕ} {old between new : List Call} (scanner : Scanner) (policy : ℕ) (clarifications : List ClarificationView) (krate : Record) (files : List File) where
+module _ {told mid tells : Option Content} {before middle after : ℕ} {old between new : List Call} (scanner : Scanner) (policy : ℕ) (clarifications : List ClarificationView) (krate : CrateRecord) (files : List File) where
   -- as the files were read behind the manifest
   pub starves_first_settling : (located : LocatedField) (left : List File) → is_nothing clarifications ≡ true
-      → IsByOwnReads told mid before middle old between (folder_of krate) (option_to_list located.read) (λ ears manifest. IsLocatedWhere (is_some krate.license) krate files manifest located left)
+      → IsByOwnReads told mid before middle old between (folder_of krate) (option_to_list located.read) (λ known_reads manifest. IsLocatedWhere (is_some krate.license) krate files manifest located left)
       → StarvesAmong mid tells middle after between new (folder_of krate) (records_of scanner clarifications krate)
       → StarvesTaking told tells before after old new (folder_of krate) (wanted scanner policy clarifications krate files)
   starves_first_settling located left none here then =
       let asks = is_some krate.license in
       let manifest = manifest_by here.reads in
-      let ears = ears_by then.reads in
+      let known_reads = known_reads_by then.reads in
       let asked : records_of_reads here.reads ≡ manifest_asked asks krate files manifest = here.recorded_are ∙ ap (λ (l : LocatedField). option_to_list l.read) here.is_so.located_is in
       let next = option_to_list then.next in
-      let all_ears : ears_by (here.reads ++ then.reads) ≡ ears = ears_behind here.reads then.reads (subst AreManifests (sym asked) (of_manifests asks krate files manifest)) in
+      let all_known_reads : known_reads_by (here.reads ++ then.reads) ≡ known_reads = known_reads_behind here.reads then.reads (subst AreManifests (sym asked) (of_manifests asks krate files manifest)) in
       let all_manifest : manifest_by (here.reads ++ then.reads) ≡ manifest =
       manifest_before here.reads then.reads
       (no_manifest_front (records_of_reads then.reads) (next ++ then.front.0)
-      (subst HasNoManifest (then.front.1 ∙ append_assoc (records_of_reads then.reads) next then.front.0) (no_manifest scanner clarifications krate ears))) in
+      (subst HasNoManifest (then.front.1 ∙ append_assoc (records_of_reads then.reads) next then.front.0) (no_manifest scanner clarifications krate known_reads))) in
       record {
         reads = here.reads ++ then.reads;
         next = then.next;
         made = reads_lacking (folder_of krate) here.reads then.reads then.next here.made then.made;
         front =
-            subst (λ (heard : FolderReads). IsFront (records_of_reads (here.reads ++ then.reads) ++ next) (wanted scanner policy clarifications krate files heard (manifest_by (here.reads ++ then.reads)))) (sym all_ears)
-            (subst (λ (heard : ReadResult). IsFront (records_of_reads (here.reads ++ then.reads) ++ next) (wanted scanner policy clarifications krate files ears heard)) (sym all_manifest)
+            subst (λ (heard : FolderReads). IsFront (records_of_reads (here.reads ++ then.reads) ++ next) (wanted scanner policy clarifications krate files heard (manifest_by (here.reads ++ then.reads)))) (sym all_known_reads)
+            (subst (λ (heard : ReadResult). IsFront (records_of_reads (here.reads ++ then.reads) ++ next) (wanted scanner policy clarifications krate files known_reads heard)) (sym all_manifest)
             (subst (IsFront (records_of_reads (here.reads ++ then.reads) ++ next))
-            (sym (wanted_first scanner policy clarifications krate files ears manifest none ∙ ap (λ (front : List ReadRecord). front ++ records_of scanner clarifications krate ears) (sym asked)))
-            (subst (λ (front : List ReadRecord). IsFront front (records_of_reads here.reads ++ records_of scanner clarifications krate ears)) (sym (with_next here.reads then.reads next))
-            (front_under (records_of_reads here.reads) (records_of_reads then.reads ++ next) (records_of scanner clarifications krate ears) then.front))));
+            (sym (wanted_first scanner policy clarifications krate files known_reads manifest none ∙ ap (λ (front : List ReadRecord). front ++ records_of scanner clarifications krate known_reads) (sym asked)))
+            (subst (λ (front : List ReadRecord). IsFront front (records_of_reads here.reads ++ records_of scanner clarifications krate known_reads)) (sym (with_next here.reads then.reads next))
+            (front_under (records_of_reads here.reads) (records_of_reads then.reads ++ next) (records_of scanner clarifications krate known_reads) then.front))));
       }
 
   -- as the manifest was read behind the files
   pub starves_last_locating : (settled : SettledLicense) → is_nothing clarifications ≡ false
-      → IsByReads told mid before middle old between (folder_of krate) settled.reads (λ ears. IsSettledBy scanner clarifications krate ears settled)
-      → StarvesTaking mid tells middle after between new (folder_of krate) (λ ears manifest. option_to_list (located_where (not (is_clarified settled.by) && is_some krate.license) krate files manifest).read)
+      → IsByReads told mid before middle old between (folder_of krate) settled.reads (λ known_reads. IsSettledBy scanner clarifications krate known_reads settled)
+      → StarvesTaking mid tells middle after between new (folder_of krate) (λ known_reads manifest. option_to_list (located_where (not (is_clarified settled.by) && is_some krate.license) krate files manifest).read)
       → StarvesTaking told tells before after old new (folder_of krate) (wanted scanner policy clarifications krate files)
   starves_last_locating settled some here then =
       let asks = not (is_clarified settled.by) && is_some krate.license in
-      let ears = ears_by here.reads in
+      let known_reads = known_reads_by here.reads in
       let manifest = manifest_by then.reads in
-      let settled_are : records_of_reads here.reads ≡ records_of scanner clarifications krate ears = here.records ∙ here.is_so.reads_are in
+      let settled_are : records_of_reads here.reads ≡ records_of scanner clarifications krate known_reads = here.records ∙ here.is_so.reads_are in
       let next = option_to_list then.next in
-      let all_ears : ears_by (here.reads ++ then.reads) ≡ ears =
-      ears_before here.reads then.reads
+      let all_known_reads : known_reads_by (here.reads ++ then.reads) ≡ known_reads =
+      known_reads_before here.reads then.reads
       (manifests_front (records_of_reads then.reads) (next ++ then.front.0)
       (subst AreManifests (then.front.1 ∙ append_assoc (records_of_reads then.reads) next then.front.0) (of_manifests asks krate files manifest))) in
       let all_manifest : manifest_by (here.reads ++ then.reads) ≡ manifest =
-      manifest_behind here.reads then.reads (subst HasNoManifest (sym settled_are) (no_manifest scanner clarifications krate ears)) in
+      manifest_behind here.reads then.reads (subst HasNoManifest (sym settled_are) (no_manifest scanner clarifications krate known_reads)) in
       record {
         reads = here.reads ++ then.reads;
         next = then.next;
         made = reads_lacking (folder_of krate) here.reads then.reads then.next here.made then.made;
         front =
-            subst (λ (heard : FolderReads). IsFront (records_of_reads (here.reads ++ then.reads) ++ next) (wanted scanner policy clarifications krate files heard (manifest_by (here.reads ++ then.reads)))) (sym all_ears)
-            (subst (λ (heard : ReadResult). IsFront (records_of_reads (here.reads ++ then.reads) ++ next) (wanted scanner policy clarifications krate files ears heard)) (sym all_manifest)
+            subst (λ (heard : FolderReads). IsFront (records_of_reads (here.reads ++ then.reads) ++ next) (wanted scanner policy clarifications krate files heard (manifest_by (here.reads ++ then.reads)))) (sym all_known_reads)
+            (subst (λ (heard : ReadResult). IsFront (records_of_reads (here.reads ++ then.reads) ++ next) (wanted scanner policy clarifications krate files known_reads heard)) (sym all_manifest)
             (subst (IsFront (records_of_reads (here.reads ++ then.reads) ++ next))
-            (sym (wanted_last scanner policy clarifications krate files ears manifest some
+            (sym (wanted_last scanner policy clarifications krate files known_reads manifest some
             ∙ ap₂ (λ (front back : List ReadRecord). front ++ back) (sym settled_are)
-            (ap (λ b. manifest_asked b krate files manifest) (sym (asked_where scanner clarifications krate ears settled.by here.is_so.by_is)))))
+            (ap (λ b. manifest_asked b krate files manifest) (sym (asked_where scanner clarifications krate known_reads settled.by here.is_so.by_is)))))
             (subst (λ (front : List ReadRecord). IsFront front (records_of_reads here.reads ++ manifest_asked asks krate files manifest)) (sym (with_next here.reads then.reads next))
             (front_under (records_of_reads here.reads) (records_of_reads then.reads ++ next) (manifest_asked asks krate files manifest) then.front))));
       }

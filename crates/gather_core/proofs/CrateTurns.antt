@@ -4,11 +4,11 @@ use Rattle.std.proofs.lemmas.List.Sums.{fold-append}
 use Rattle.std.proofs.lemmas.Slice.Zip.{all_zipped_more}
 use Rattle.std.specs.List.{All, flat_map}
 use Rattle.tree_core.specs.file_reads.Read.{AnsweredRead}
-use Rattle.gather_licence.specs.expression.Scanned.{Scanner}
+use Rattle.gather_license.specs.expression.Scanned.{Scanner}
 use Rattle.diag_core.specs.File.{File}
-use Rattle.graph_core.specs.Krate.{Record}
+use Rattle.graph_core.specs.Krate.{CrateRecord}
 use Rattle.gather_core.specs.declared.summary.KrateLicense.{KrateLicense}
-use Rattle.gather_core.specs.Calls.{AreTurnsBy, CrateReads, CrateTurn, HasOwnReads, IsTurnBy, files_behind_all, reads_of_all, turn_by, turns_of}
+use Rattle.gather_core.specs.Calls.{AreTurnsBy, ReadsOfCrate, CrateTurn, HasOwnReads, IsTurnBy, files_behind_all, reads_of_all, turn_by, turns_of}
 use Rattle.gather_core.specs.Entries.{ClarificationEntry}
 use Rattle.gather_core.specs.Gathered.{krate_of}
 use Rattle.gather_core.specs.Premises.{Grows}
@@ -18,18 +18,18 @@ use Rattle.gather_core.proofs.ZipLemmas.{all_left, same_maps, zip_weaker}
 
 module _ (scanner : Scanner) (policy : ℕ) (all : List ClarificationEntry) where
   -- their crates
-  pub krates_turned : (files : List File) (crates : List CrateReads)
-      → map (λ (own : CrateTurn). own.turn.krate) (turns_of scanner policy all files crates) ≡ map (λ (one : CrateReads). one.krate) crates
+  pub krates_turned : (files : List File) (crates : List ReadsOfCrate)
+      → map (λ (own : CrateTurn). own.turn.krate) (turns_of scanner policy all files crates) ≡ map (λ (one : ReadsOfCrate). one.krate) crates
   krates_turned files [] = refl
-  krates_turned files (one ∷ crates) = ap (λ (rest : List Record). one.krate ∷ rest) (krates_turned (files_behind (turn_by scanner policy all files one).turn) crates)
+  krates_turned files (one ∷ crates) = ap (λ (rest : List CrateRecord). one.krate ∷ rest) (krates_turned (files_behind (turn_by scanner policy all files one).turn) crates)
 
   -- their reads
-  pub reads_turned : (files : List File) (crates : List CrateReads) → flat_map (λ (own : CrateTurn). own.reads) (turns_of scanner policy all files crates) ≡ reads_of_all crates
+  pub reads_turned : (files : List File) (crates : List ReadsOfCrate) → flat_map (λ (own : CrateTurn). own.reads) (turns_of scanner policy all files crates) ≡ reads_of_all crates
   reads_turned files [] = refl
   reads_turned files (one ∷ crates) = ap (λ (rest : List AnsweredRead). one.reads ++ rest) (reads_turned (files_behind (turn_by scanner policy all files one).turn) crates)
 
   -- one more of them
-  turns_push : (one : CrateReads) (files : List File) (crates : List CrateReads)
+  turns_push : (one : ReadsOfCrate) (files : List File) (crates : List ReadsOfCrate)
       → turns_of scanner policy all files (crates ++ one ∷ [])
       ≡ turns_of scanner policy all files crates ++ turn_by scanner policy all (files_behind_all files (turns_of scanner policy all files crates)) one ∷ []
   turns_push one files [] = refl
@@ -37,7 +37,7 @@ module _ (scanner : Scanner) (policy : ℕ) (all : List ClarificationEntry) wher
       ap (λ (rest : List CrateTurn). turn_by scanner policy all files first ∷ rest) (turns_push one (files_behind (turn_by scanner policy all files first).turn) crates)
 
   -- what is told of the crates is told of one more
-  pub turns_more : (one : CrateReads) (files : List File) (crates : List CrateReads) (licenses : List KrateLicense) (license : KrateLicense) (middle last : List File)
+  pub turns_more : (one : ReadsOfCrate) (files : List File) (crates : List ReadsOfCrate) (licenses : List KrateLicense) (license : KrateLicense) (middle last : List File)
       → AreTurnsBy files (turns_of scanner policy all files crates) licenses middle → Grows middle last → IsTurnBy last (turn_by scanner policy all middle one) license
       → last ≡ files_behind (turn_by scanner policy all middle one).turn
       → AreTurnsBy files (turns_of scanner policy all files (crates ++ one ∷ [])) (licenses ++ license ∷ []) last
@@ -61,8 +61,8 @@ module _ (scanner : Scanner) (policy : ℕ) (all : List ClarificationEntry) wher
       }
 
   -- the crates of what is told
-  pub krates_told : (files : List File) (crates : List CrateReads) (licenses : List KrateLicense) (last : List File)
-      → AreTurnsBy files (turns_of scanner policy all files crates) licenses last → map (λ (one : CrateReads). one.krate) crates ≡ map krate_of licenses
+  pub krates_told : (files : List File) (crates : List ReadsOfCrate) (licenses : List KrateLicense) (last : List File)
+      → AreTurnsBy files (turns_of scanner policy all files crates) licenses last → map (λ (one : ReadsOfCrate). one.krate) crates ≡ map krate_of licenses
   krates_told files crates licenses last turns =
       sym (krates_turned files crates)
       ∙ same_maps (IsTurnBy last) (λ (own : CrateTurn). own.turn.krate) krate_of (λ own license is. is.krate) (turns_of scanner policy all files crates) licenses turns.each

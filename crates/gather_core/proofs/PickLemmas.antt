@@ -7,10 +7,10 @@ use Rattle.std.specs.List.{cons_option}
 use Rattle.std.specs.Option.{option_to_list}
 use Rattle.std.proofs.lemmas.List.{map-append, take_more}
 use Rattle.std.proofs.lemmas.List.Elements.{filter_map-append}
-use Rattle.graph_core.specs.Krate.{Record}
-use Rattle.policy_parts.specs.spec.Index.{matching, places_from}
+use Rattle.graph_core.specs.Krate.{CrateRecord}
+use Rattle.policy_parts.specs.spec.Index.{matching_places, places_from}
 use Rattle.policy_parts.specs.spec.Matching.{spec_matches}
-use Rattle.gather_licence.specs.Clarification.{ClarificationView, behind}
+use Rattle.gather_license.specs.Clarification.{ClarificationView, lent_clarification}
 use Rattle.gather_core.specs.Entries.{ClarificationEntry, clarifications_of, clarification_at, clarifications_at, specs_of}
 
 -- the item behind a front
@@ -19,7 +19,7 @@ behind_front front x rest =
     let inside : length front < length (front ++ x ∷ rest) = omega (arith, length-append front (x ∷ rest)) in
     slice_get-get_or (front ++ x ∷ rest) (length front) x inside ∙ ap Some (get_or-append_seam front x rest x)
 
-places-mapped : (n : ℕ) (krate : Record) (entries : List ClarificationEntry)
+places-mapped : (n : ℕ) (krate : CrateRecord) (entries : List ClarificationEntry)
     → places_from n (λ spec. spec_matches spec krate) (specs_of entries) ≡ places_from n (λ (entry : ClarificationEntry). spec_matches entry.spec krate) entries
 places-mapped n krate [] = refl
 places-mapped n krate (entry ∷ entries) =
@@ -46,13 +46,13 @@ picked test all front (x ∷ rest) n is counted =
       | false ↦ next
     ]
 
-pub items_matching : (krate : Record) (entries : List ClarificationEntry) → clarifications_at entries (matching (specs_of entries) krate) ≡ clarifications_of krate entries
+pub items_matching : (krate : CrateRecord) (entries : List ClarificationEntry) → clarifications_at entries (matching_places (specs_of entries) krate) ≡ clarifications_of krate entries
 items_matching krate entries =
     ap (clarifications_at entries) (places-mapped 0 krate entries) ∙ picked (λ (entry : ClarificationEntry). spec_matches entry.spec krate) entries [] entries 0 refl refl
 
 -- ---- one more place
 
-behind_list : (item : Option (Bor ClarificationView)) → map behind (option_to_list item) ≡ option_to_list (option_map behind item)
+behind_list : (item : Option (Bor ClarificationView)) → map lent_clarification (option_to_list item) ≡ option_to_list (option_map lent_clarification item)
 behind_list None = refl
 behind_list (Some item) = refl
 
@@ -61,11 +61,11 @@ one_at None = refl
 one_at (Some x) = refl
 
 pub items_push : (entries : List ClarificationEntry) (places : List ℕ) (i : ℕ) (item : Option (Bor ClarificationView)) (found new : List (Bor ClarificationView))
-    → i < length places → new ≡ found ++ option_to_list item → map behind found ≡ clarifications_at entries (take i places)
-    → option_map behind item ≡ clarification_at entries (get_or places i 0) → map behind new ≡ clarifications_at entries (take (i + 1) places)
+    → i < length places → new ≡ found ++ option_to_list item → map lent_clarification found ≡ clarifications_at entries (take i places)
+    → option_map lent_clarification item ≡ clarification_at entries (get_or places i 0) → map lent_clarification new ≡ clarifications_at entries (take (i + 1) places)
 items_push entries places i item found new inside is so_far here =
-    ap (map behind) is ∙ map-append behind found (option_to_list item)
-    ∙ ap (λ (front : List ClarificationView). front ++ map behind (option_to_list item)) so_far
+    ap (map lent_clarification) is ∙ map-append lent_clarification found (option_to_list item)
+    ∙ ap (λ (front : List ClarificationView). front ++ map lent_clarification (option_to_list item)) so_far
     ∙ ap (λ (last : List ClarificationView). clarifications_at entries (take i places) ++ last)
     (behind_list item ∙ ap option_to_list here ∙ sym (one_at (clarification_at entries (get_or places i 0))))
     ∙ sym (ap (clarifications_at entries) (take_more places i 0 inside) ∙ filter_map-append (clarification_at entries) (take i places) (get_or places i 0 ∷ []))

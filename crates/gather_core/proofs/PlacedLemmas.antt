@@ -12,21 +12,21 @@ use Rattle.spdx_core.specs.Reading.{ExpressionView}
 use Rattle.diag_core.specs.declared.label.Coord.{Coord}
 use Rattle.diag_core.specs.declared.label.Label.{Label}
 use Rattle.diag_core.specs.File.{File, file_id_at, source_of_file}
-use Rattle.graph_core.specs.Krate.{Record}
+use Rattle.graph_core.specs.Krate.{CrateRecord}
 use Rattle.tree_core.specs.file_reads.Heard.{ReadResult, failed, absent, wrong_kind, not_utf8, text, entries}
-use Rattle.gather_licence.specs.files.Ears.{FolderReads, holds, missing_from}
+use Rattle.gather_license.specs.files.KnownReads.{FolderReads, holds, missing_from}
 use Rattle.policy_parts.specs.spec.Matching.{spec_matches}
-use Rattle.gather_licence.specs.location.Location.{files_by, files_with_manifest, joined_by, span_in}
-use Rattle.diag_core.specs.texts.Synthetic.{cut}
+use Rattle.gather_license.specs.location.Location.{files_by, files_with_manifest, joined_by, span_in}
+use Rattle.diag_core.specs.texts.Synthetic.{text_at}
 use Rattle.gather_core.specs.findings.Cuts.{LabelLies, labels_of, text_under}
 use Rattle.gather_core.proofs.findings.GrowLemmas.{grows_itself}
 use Rattle.gather_core.proofs.findings.LicenseLemmas.{info_grown, place_grown, stands_grown}
-use Rattle.gather_licence.specs.declared.settling.FilesSeen.{FilesSeen}
-use Rattle.gather_licence.specs.declared.settling.LicenseBasis.{LicenseBasis}
-use Rattle.gather_licence.specs.declared.settling.LicenseBasis.TheVariants.{Clarified, Field, Files}
-use Rattle.gather_licence.specs.Clarification.{ClarificationView, PlacedFile, held_in, named_in}
-use Rattle.gather_licence.specs.Priority.{by_seen, field_of, files_scanned, holding, seen_by, settling_by}
-use Rattle.gather_licence.specs.Settled.{missing_in, missing_of, span_at}
+use Rattle.gather_license.specs.declared.settling.FilesSeen.{FilesSeen}
+use Rattle.gather_license.specs.declared.settling.LicenseBasis.{LicenseBasis}
+use Rattle.gather_license.specs.declared.settling.LicenseBasis.TheVariants.{Clarified, Field, Files}
+use Rattle.gather_license.specs.Clarification.{ClarificationView, PlacedFile, held_in, named_in}
+use Rattle.gather_license.specs.Priority.{by_seen, field_of, files_scanned, holding_clarification, seen_by, settling_by}
+use Rattle.gather_license.specs.Settled.{missing_in, missing_of, span_at}
 use Rattle.gather_core.specs.declared.summary.KrateLicense.{KrateLicense}
 use Rattle.gather_core.specs.declared.turn.LocatedLicense.{LocatedLicense}
 use Rattle.gather_core.specs.Entries.{ClarificationEntry, clarifications_of}
@@ -90,7 +90,7 @@ texts_grown files more (label ∷ labels) lie =
     let here = All-head (LabelLies files) label labels lie in
     let rest = texts_grown files more labels (All-tail (LabelLies files) label labels lie) in
     let first : text_under (files ++ more) label ≡ text_under files label =
-    ap (λ (o : Option (List ℕ)). cut (unwrap_or o []) label.range) (same_source files more label.file_id here.live) in
+    ap (λ (o : Option (List ℕ)). text_at (unwrap_or o []) label.range) (same_source files more label.file_id here.live) in
     ap (λ (words : List ℕ). words ∷ map (text_under (files ++ more)) labels) first ∙ ap (λ (rest : List (List ℕ)). text_under files label ∷ rest) rest
 
 cut_on : (files more : List File) (turn : TurnInput) → IsCutOut files turn → IsCutOut (files ++ more) turn
@@ -124,14 +124,14 @@ pub grows_by : (path field : List ℕ) (files : List File) (manifest : ReadResul
 grows_by path field files manifest None = grows_heard path field files manifest
 grows_by path field files manifest (Some id) = grows_itself files
 
-grows_asked : (krate : Record) (files : List File) (manifest : ReadResult) (asks : Bool) → Grows files (files_where asks krate files manifest)
+grows_asked : (krate : CrateRecord) (files : List File) (manifest : ReadResult) (asks : Bool) → Grows files (files_where asks krate files manifest)
 grows_asked krate files manifest true = grows_by krate.manifest_path (field_text krate) files manifest (file_id_at files krate.manifest_path)
 grows_asked krate files manifest false = grows_itself files
 
 pub grows_located : (turn : TurnInput) → Grows turn.files (files_located turn)
-grows_located turn = grows_asked turn.krate turn.files turn.manifest (asks_manifest turn.clarifications turn.krate turn.ears)
+grows_located turn = grows_asked turn.krate turn.files turn.manifest (asks_manifest turn.clarifications turn.krate turn.known_reads)
 
-pub grows_left : (krate : Record) (faults : List ParseError) (location : Option Coord) (files : List File) (by : LicenseBasis) → Grows files (files_left krate faults location files by)
+pub grows_left : (krate : CrateRecord) (faults : List ParseError) (location : Option Coord) (files : List File) (by : LicenseBasis) → Grows files (files_left krate faults location files by)
 grows_left krate faults location files (Clarified held) = grows_itself files
 grows_left krate faults None files (Field expression) = (_ ∷ [], refl)
 grows_left krate faults (Some at) files (Field expression) = grows_itself files
@@ -158,25 +158,25 @@ module _ (files : List File) (policy : ℕ) where
   place_lies placed None lie = All-nil (PlaceLies files policy)
   place_lies placed (Some number) lie = span_lies placed number lie
 
-  missing_lies : (ears : FolderReads) (clarifications : List ClarificationView) → All (IsClarificationPlaced files policy) clarifications → All (PlaceLies files policy) (missing_of ears clarifications)
-  missing_lies ears [] placed = All-nil (PlaceLies files policy)
-  missing_lies ears (one ∷ more) placed =
+  missing_lies : (known_reads : FolderReads) (clarifications : List ClarificationView) → All (IsClarificationPlaced files policy) clarifications → All (PlaceLies files policy) (missing_of known_reads clarifications)
+  missing_lies known_reads [] placed = All-nil (PlaceLies files policy)
+  missing_lies known_reads (one ∷ more) placed =
       let here = All-head (IsClarificationPlaced files policy) one more placed in
-      let rest = missing_lies ears more (All-tail (IsClarificationPlaced files policy) one more placed) in
-      All-append (PlaceLies files policy) (option_to_list (missing_in ears one)) (cond (holds ears (named_in one)) [] (missing_of ears more))
-      (place_lies one.files (missing_from ears 0 (named_in one)) here.paths)
-      (elim (holds ears (named_in one)) as (λ b. All (PlaceLies files policy) (cond b [] (missing_of ears more))) [ true ↦ All-nil (PlaceLies files policy) | false ↦ rest ])
+      let rest = missing_lies known_reads more (All-tail (IsClarificationPlaced files policy) one more placed) in
+      All-append (PlaceLies files policy) (option_to_list (missing_in known_reads one)) (cond (holds known_reads (named_in one)) [] (missing_of known_reads more))
+      (place_lies one.files (missing_from known_reads 0 (named_in one)) here.paths)
+      (elim (holds known_reads (named_in one)) as (λ b. All (PlaceLies files policy) (cond b [] (missing_of known_reads more))) [ true ↦ All-nil (PlaceLies files policy) | false ↦ rest ])
 
   abbrev OneStands : Option ClarificationView → Type 0
   OneStands None = Unit {0}
   OneStands (Some one) = IsClarificationPlaced files policy one
 
-  holding_stands : (ears : FolderReads) (clarifications : List ClarificationView) → All (IsClarificationPlaced files policy) clarifications → OneStands (holding ears clarifications)
-  holding_stands ears [] placed = tt
-  holding_stands ears (one ∷ more) placed =
-      elim (holds ears (named_in one)) as (λ b. OneStands (cond b (Some one) (holding ears more))) [
+  holding_stands : (known_reads : FolderReads) (clarifications : List ClarificationView) → All (IsClarificationPlaced files policy) clarifications → OneStands (holding_clarification known_reads clarifications)
+  holding_stands known_reads [] placed = tt
+  holding_stands known_reads (one ∷ more) placed =
+      elim (holds known_reads (named_in one)) as (λ b. OneStands (cond b (Some one) (holding_clarification known_reads more))) [
         | true ↦ All-head (IsClarificationPlaced files policy) one more placed
-        | false ↦ holding_stands ears more (All-tail (IsClarificationPlaced files policy) one more placed)
+        | false ↦ holding_stands known_reads more (All-tail (IsClarificationPlaced files policy) one more placed)
       ]
 
   by_stands : (one : Option ClarificationView) (field : Option ExpressionView) (lists : CatalogLists) (seen : FilesSeen) → OneStands one
@@ -202,20 +202,20 @@ by_grown files new policy by grows stands = subst (λ (files : List File). BySta
 pub missing_taken : (turn : TurnInput) (taken : LocatedLicense) (new : List File) → IsTaken turn taken new → All (IsClarificationPlaced turn.files turn.policy) turn.clarifications → All (PlaceLies new turn.policy) taken.missing
 missing_taken turn taken new is placed =
     subst (λ (missing : List Span). All (PlaceLies new turn.policy) missing) (sym is.missing)
-    (subst (λ (files : List File). All (PlaceLies files turn.policy) (missing_of turn.ears turn.clarifications)) (sym is.table)
-    (places_grown turn.files (files_located turn) turn.policy (missing_of turn.ears turn.clarifications) (grows_located turn)
-    (missing_lies turn.files turn.policy turn.ears turn.clarifications placed)))
+    (subst (λ (files : List File). All (PlaceLies files turn.policy) (missing_of turn.known_reads turn.clarifications)) (sym is.table)
+    (places_grown turn.files (files_located turn) turn.policy (missing_of turn.known_reads turn.clarifications) (grows_located turn)
+    (missing_lies turn.files turn.policy turn.known_reads turn.clarifications placed)))
 
 pub held_taken : (turn : TurnInput) (taken : LocatedLicense) (new : List File) → IsTaken turn taken new → All (IsClarificationPlaced turn.files turn.policy) turn.clarifications → ByStands new turn.policy taken.by
 held_taken turn taken new is placed =
-    let stands = by_stands turn.files turn.policy (holding turn.ears turn.clarifications) (field_of turn.scanner.lists turn.krate) turn.scanner.lists
-    (seen_by turn.ears.listing (files_scanned turn.scanner turn.clarifications turn.krate turn.ears)) (holding_stands turn.files turn.policy turn.ears turn.clarifications placed) in
+    let stands = by_stands turn.files turn.policy (holding_clarification turn.known_reads turn.clarifications) (field_of turn.scanner.lists turn.krate) turn.scanner.lists
+    (seen_by turn.known_reads.listing (files_scanned turn.scanner turn.clarifications turn.krate turn.known_reads)) (holding_stands turn.files turn.policy turn.known_reads turn.clarifications placed) in
     subst (λ (by : LicenseBasis). ByStands new turn.policy by) (sym is.by)
     (subst (λ (files : List File). ByStands files turn.policy (basis_in turn)) (sym is.table)
     (by_grown turn.files (files_located turn) turn.policy (basis_in turn) (grows_located turn) stands))
 
 -- those that are for a crate stand where all do
-pub for_krate : (files : List File) (policy : ℕ) (krate : Record) (all : List ClarificationEntry) → ArePlacedIn files policy all → All (IsClarificationPlaced files policy) (clarifications_of krate all)
+pub for_krate : (files : List File) (policy : ℕ) (krate : CrateRecord) (all : List ClarificationEntry) → ArePlacedIn files policy all → All (IsClarificationPlaced files policy) (clarifications_of krate all)
 for_krate files policy krate all placed =
     All-map (IsClarificationPlaced files policy) (λ (entry : ClarificationEntry). entry.clarification) _
     (All-filter (λ (entry : ClarificationEntry). spec_matches entry.spec krate) (λ (entry : ClarificationEntry). IsClarificationPlaced files policy entry.clarification) all placed)

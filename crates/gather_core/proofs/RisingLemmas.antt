@@ -7,7 +7,7 @@ use Rattle.tree_core.specs.declared.reads.ReadRecord.{ReadRecord}
 use Rattle.tree_core.specs.file_reads.Read.{records_of_reads}
 use Rattle.tree_core.specs.file_reads.Rising.{RiseInOrder}
 use Rattle.tree_core.proofs.file_reads.ReadLemmas.{reads_rise, records_in-append}
-use Rattle.gather_licence.specs.expression.Scanned.{Scanner}
+use Rattle.gather_license.specs.expression.Scanned.{Scanner}
 use Rattle.diag_core.specs.File.{File}
 use Rattle.gather_core.specs.declared.summary.KrateLicense.{KrateLicense}
 use Rattle.gather_core.specs.Calls.{AreTurnsByReads, CrateTurn, IsTurnBy, reads_of_all, turns_of}

@@ -13,19 +13,19 @@ use Rattle.spdx_terms.specs.Faults.{first_fault}
 use Rattle.spdx_terms.specs.Items.{items_of}
 use Rattle.spdx_core.specs.Grammar.{ExpressionTree}
 use Rattle.spdx_core.specs.Reading.{ExpressionView, ReaderState, after_items, expression_if, expression_of_text, level_tree, nothing_read}
-use Rattle.graph_core.specs.Krate.{Record}
+use Rattle.graph_core.specs.Krate.{CrateRecord}
 use Rattle.diag_core.specs.declared.label.Coord.{Coord}
 use Rattle.diag_core.specs.File.{File, source_of_file}
-use Rattle.gather_licence.specs.expression.Taken.{field_read, lax, strict_with_slash}
-use Rattle.gather_licence.specs.location.Location.{PointsAt}
+use Rattle.gather_license.specs.expression.Taken.{field_read, lax_mode, strict_with_slash}
+use Rattle.gather_license.specs.location.Location.{PointsAt}
 use Rattle.gather_core.specs.findings.Cuts.{LabelLies, StandsAtCoord, labels_of}
-use Rattle.gather_licence.specs.declared.settling.FilesSeen.{FilesSeen}
-use Rattle.gather_licence.specs.declared.settling.LicenseBasis.{LicenseBasis}
-use Rattle.gather_licence.specs.declared.settling.LicenseBasis.TheVariants.{Clarified, Field, Files}
-use Rattle.gather_licence.specs.Clarification.{ClarificationView, held_in}
-use Rattle.gather_licence.specs.Priority.{by_seen, field_of, files_scanned, holding, seen_by, settling_by}
+use Rattle.gather_license.specs.declared.settling.FilesSeen.{FilesSeen}
+use Rattle.gather_license.specs.declared.settling.LicenseBasis.{LicenseBasis}
+use Rattle.gather_license.specs.declared.settling.LicenseBasis.TheVariants.{Clarified, Field, Files}
+use Rattle.gather_license.specs.Clarification.{ClarificationView, held_in}
+use Rattle.gather_license.specs.Priority.{by_seen, field_of, files_scanned, holding_clarification, seen_by, settling_by}
 use Rattle.gather_core.specs.Premises.{ByStands, InfoStands, PlaceLies, StandsIn, TextIs}
-use Rattle.gather_core.specs.Told.{info_by, nowhere}
+use Rattle.gather_core.specs.Told.{info_by, no_place}
 use Rattle.gather_core.specs.Turns.{TurnInput, field_text, missing_findings, basis_in, text_settled}
 
 -- ---- the expression of a field is its text
@@ -53,8 +53,8 @@ either_text (Some x) b words e one two is = one e is
 read_text : (lists : CatalogLists) (field : List ℕ) (e : ExpressionView) → field_read lists field ≡ Some e → e.text ≡ field
 read_text lists [] e is = no_some e is
 read_text lists (byte ∷ bytes) e is =
-    either_text (expression_of_text strict_with_slash lists (byte ∷ bytes)) (expression_of_text lax lists (byte ∷ bytes)) (byte ∷ bytes) e
-    (text_of strict_with_slash lists (byte ∷ bytes)) (text_of lax lists (byte ∷ bytes)) is
+    either_text (expression_of_text strict_with_slash lists (byte ∷ bytes)) (expression_of_text lax_mode lists (byte ∷ bytes)) (byte ∷ bytes) e
+    (text_of strict_with_slash lists (byte ∷ bytes)) (text_of lax_mode lists (byte ∷ bytes)) is
 
 field_text_is : (lists : CatalogLists) (field : Option (List ℕ)) (e : ExpressionView) → option_and_then (field_read lists) field ≡ Some e → e.text ≡ unwrap_or field []
 field_text_is lists None e is = no_some e is
@@ -68,8 +68,8 @@ text_by None None lists seen words is = tt
 
 pub text_settles : (turn : TurnInput) → TextIs (field_text turn.krate) (basis_in turn)
 text_settles turn =
-    text_by (holding turn.ears turn.clarifications) (field_of turn.scanner.lists turn.krate) turn.scanner.lists
-    (seen_by turn.ears.listing (files_scanned turn.scanner turn.clarifications turn.krate turn.ears)) (field_text turn.krate)
+    text_by (holding_clarification turn.known_reads turn.clarifications) (field_of turn.scanner.lists turn.krate) turn.scanner.lists
+    (seen_by turn.known_reads.listing (files_scanned turn.scanner turn.clarifications turn.krate turn.known_reads)) (field_text turn.krate)
     (field_text_is turn.scanner.lists turn.krate.license)
 
 -- ---- an expression that a place cuts out begins there
@@ -83,13 +83,13 @@ points_from files at words points =
     let end : at.span.end ≡ at.span.start + length words = (let ordered : at.span.start ≤ at.span.end = points.cuts.ordered in omega arith) in
     subst (λ (e : ℕ). PointsAt files (record { file = at.file; span = record { start = at.span.start; end = e } }) words) end points
 
-at_place : (files : List File) (place : Option Coord) (words : List ℕ) → StandsAtCoord files place (Some words) → StandsIn files (unwrap_or place nowhere).file (unwrap_or place nowhere).span.start None words
+at_place : (files : List File) (place : Option Coord) (words : List ℕ) → StandsAtCoord files place (Some words) → StandsIn files (unwrap_or place no_place).file (unwrap_or place no_place).span.start None words
 at_place files None words stands = absurd stands
 at_place files (Some at) words stands = points_from files at words stands
 
-pub info_stands : (files : List File) (policy : ℕ) (krate : Record) (location place : Option Coord) (by : LicenseBasis)
+pub info_stands : (files : List File) (policy : ℕ) (krate : CrateRecord) (location place : Option Coord) (by : LicenseBasis)
     → ByStands files policy by → TextIs (field_text krate) by → StandsAtCoord files place (text_settled krate by)
-    → InfoStands files (info_by policy location (unwrap_or place nowhere) by)
+    → InfoStands files (info_by policy location (unwrap_or place no_place) by)
 info_stands files policy krate location place (Clarified held) held_stands words stands = held_stands
 info_stands files policy krate location place (Field expression) held_stands words stands =
     at_place files place expression.text (subst (λ (words : List ℕ). StandsAtCoord files place (Some words)) (sym words) stands)

@@ -11,17 +11,17 @@ use Rattle.tree_core.specs.Hearing.{Made}
 use Rattle.tree_core.specs.Trace.{fault_behind, faults_after}
 use Rattle.tree_core.specs.declared.reads.ReadRecord.{ReadRecord}
 use Rattle.tree_core.proofs.MadeLemmas.{faults_after-append, made_as, made_joined, made_none}
-use Rattle.graph_core.specs.Krate.{Record}
+use Rattle.graph_core.specs.Krate.{CrateRecord}
 use Rattle.tree_core.specs.file_reads.Read.{AreReads, MadeReads, AnsweredRead, calls_in, records_of_reads}
 use Rattle.tree_core.proofs.file_reads.ReadLemmas.{are_joined, calls_in-append}
-use Rattle.gather_licence.specs.files.Calls.{IsFront}
-use Rattle.gather_licence.specs.files.Ears.{ears_by}
-use Rattle.gather_licence.specs.expression.Scanned.{Scanner}
+use Rattle.gather_license.specs.files.Calls.{IsFront}
+use Rattle.gather_license.specs.files.KnownReads.{known_reads_by}
+use Rattle.gather_license.specs.expression.Scanned.{Scanner}
 use Rattle.diag_core.specs.File.{File}
-use Rattle.gather_licence.specs.location.Calls.{manifest_by}
-use Rattle.gather_licence.specs.Priority.{folder_of}
+use Rattle.gather_license.specs.location.Calls.{manifest_by}
+use Rattle.gather_license.specs.Priority.{folder_of}
 use Rattle.gather_core.specs.declared.summary.KrateLicense.{KrateLicense}
-use Rattle.gather_core.specs.Calls.{AreTurnsByReads, CrateReads, IsByOwnReads, IsTurnHeard, StarvesGathering, StarvesTaking}
+use Rattle.gather_core.specs.Calls.{AreTurnsByReads, ReadsOfCrate, IsByOwnReads, IsTurnHeard, StarvesGathering, StarvesTaking}
 use Rattle.gather_core.specs.Calls.{calls_of_all, reads_of_all, turn_by, turns_of}
 use Rattle.gather_core.specs.Entries.{ClarificationEntry, clarifications_of}
 use Rattle.gather_core.specs.Gathered.{krate_of, turn_of}
@@ -35,19 +35,19 @@ use Rattle.gather_core.proofs.GatheredLemmas.{map_push, priority_turn}
 -- ---- one crate
 
 -- what is told of a crate is what its turn says by its own reads
-pub license_answered : {told tells : Option Content} {before after : ℕ} {old new : List Call} (scanner : Scanner) (policy : ℕ) (all : List ClarificationEntry) (files last : List File) (krate : Record)
+pub license_answered : {told tells : Option Content} {before after : ℕ} {old new : List Call} (scanner : Scanner) (policy : ℕ) (all : List ClarificationEntry) (files last : List File) (krate : CrateRecord)
     (records : List ReadRecord) (reads : List AnsweredRead) (result : Result KrateLicense AllocError) → records_of_reads reads ≡ records → MadeReads told tells before after old new (folder_of krate) reads
     → IfOk result (λ license. krate_of license ≡ krate) → IfOk result (λ license. license.reads ≡ records)
-    → IfOk result (λ license. IsTurn (turn_with scanner policy (clarifications_of krate all) krate (ears_by reads) (manifest_by reads) files) license last)
-    → OnOk result (IsCutOut last (turn_with scanner policy (clarifications_of krate all) krate (ears_by reads) (manifest_by reads) files))
+    → IfOk result (λ license. IsTurn (turn_with scanner policy (clarifications_of krate all) krate (known_reads_by reads) (manifest_by reads) files) license last)
+    → OnOk result (IsCutOut last (turn_with scanner policy (clarifications_of krate all) krate (known_reads_by reads) (manifest_by reads) files))
     → IfOk result (λ license. IsByOwnReads told tells before after old new (folder_of (krate_of license)) license.reads (IsTurnHeard scanner policy all files license last))
 license_answered {told} {tells} {before} {after} {old} {new} scanner policy all files last krate records reads (Ok license) recorded_are made krate_is reads_are is cut = record {
   reads = reads;
   recorded_are = recorded_are ∙ sym reads_are;
-  made = subst (λ (krate : Record). MadeReads told tells before after old new (folder_of krate) reads) (sym krate_is) made;
+  made = subst (λ (krate : CrateRecord). MadeReads told tells before after old new (folder_of krate) reads) (sym krate_is) made;
   is_so = (
-    subst (λ (krate : Record). IsTurn (turn_with scanner policy (clarifications_of krate all) krate (ears_by reads) (manifest_by reads) files) license last) (sym krate_is) is,
-    subst (λ (krate : Record). IsCutOut last (turn_with scanner policy (clarifications_of krate all) krate (ears_by reads) (manifest_by reads) files)) (sym krate_is) cut,
+    subst (λ (krate : CrateRecord). IsTurn (turn_with scanner policy (clarifications_of krate all) krate (known_reads_by reads) (manifest_by reads) files) license last) (sym krate_is) is,
+    subst (λ (krate : CrateRecord). IsCutOut last (turn_with scanner policy (clarifications_of krate all) krate (known_reads_by reads) (manifest_by reads) files)) (sym krate_is) cut,
   );
 }
 license_answered scanner policy all files last krate records reads (Err error) recorded_are made krate_is reads_are is cut = tt
@@ -55,10 +55,10 @@ license_answered scanner policy all files last krate records reads (Err error) r
 -- memory was wanting behind a crate's turn
 pub starves_told : {told tells : Option Content} {before after : ℕ} {old new : List Call} (scanner : Scanner) (policy : ℕ) (all : List ClarificationEntry) (files last : List File) (license : KrateLicense)
     → IsByOwnReads told tells before after old new (folder_of (krate_of license)) license.reads (IsTurnHeard scanner policy all files license last)
-    → StarvesTaking told tells before after old new (folder_of (krate_of license)) (λ ears manifest. records_in (turn_of scanner policy all ears manifest files license))
+    → StarvesTaking told tells before after old new (folder_of (krate_of license)) (λ known_reads manifest. records_in (turn_of scanner policy all known_reads manifest files license))
 starves_told scanner policy all files last license by =
     starves_behind (folder_of (krate_of license)) license.reads (IsTurnHeard scanner policy all files license last)
-    (λ ears manifest. records_in (turn_of scanner policy all ears manifest files license)) (λ ears manifest is. is.0.read) by
+    (λ known_reads manifest. records_in (turn_of scanner policy all known_reads manifest files license)) (λ known_reads manifest is. is.0.read) by
 
 -- ---- the calls of crates, one after another
 
@@ -67,7 +67,7 @@ faults_in : (count : ℕ) (folder other : List ℕ) (reads : List AnsweredRead) 
 faults_in count folder other [] = refl
 faults_in count folder other (read ∷ reads) = faults_in (fault_behind count read.answer) folder other reads
 
-pub counts_of_all : (count : ℕ) (crates : List CrateReads) → faults_after count (calls_of_all crates) ≡ faults_after count (calls_in [] (reads_of_all crates))
+pub counts_of_all : (count : ℕ) (crates : List ReadsOfCrate) → faults_after count (calls_of_all crates) ≡ faults_after count (calls_in [] (reads_of_all crates))
 counts_of_all count [] = refl
 counts_of_all count (one ∷ crates) =
     let own = calls_in (folder_of one.krate) one.reads in
@@ -77,17 +77,17 @@ counts_of_all count (one ∷ crates) =
     ∙ sym (faults_after-append count (calls_in [] one.reads) (calls_in [] (reads_of_all crates)))
     ∙ ap (faults_after count) (sym (calls_in-append [] one.reads (reads_of_all crates)))
 
-calls_push : (crates : List CrateReads) (one : CrateReads) → calls_of_all (crates ++ one ∷ []) ≡ calls_of_all crates ++ calls_in (folder_of one.krate) one.reads
+calls_push : (crates : List ReadsOfCrate) (one : ReadsOfCrate) → calls_of_all (crates ++ one ∷ []) ≡ calls_of_all crates ++ calls_in (folder_of one.krate) one.reads
 calls_push crates one =
-    flat_map-append (λ (one : CrateReads). calls_in (folder_of one.krate) one.reads) crates (one ∷ [])
+    flat_map-append (λ (one : ReadsOfCrate). calls_in (folder_of one.krate) one.reads) crates (one ∷ [])
     ∙ ap (λ (calls : List Call). calls_of_all crates ++ calls) (append-nil (calls_in (folder_of one.krate) one.reads))
 
-reads_push : (crates : List CrateReads) (one : CrateReads) → reads_of_all (crates ++ one ∷ []) ≡ reads_of_all crates ++ one.reads
+reads_push : (crates : List ReadsOfCrate) (one : ReadsOfCrate) → reads_of_all (crates ++ one ∷ []) ≡ reads_of_all crates ++ one.reads
 reads_push crates one =
-    flat_map-append (λ (one : CrateReads). one.reads) crates (one ∷ []) ∙ ap (λ (reads : List AnsweredRead). reads_of_all crates ++ reads) (append-nil one.reads)
+    flat_map-append (λ (one : ReadsOfCrate). one.reads) crates (one ∷ []) ∙ ap (λ (reads : List AnsweredRead). reads_of_all crates ++ reads) (append-nil one.reads)
 
 -- records tell what the answers let hear, and so do those of the next crate
-are_then : {told mid : Option Content} {before middle : ℕ} {old between : List Call} (crates : List CrateReads) (more : List AnsweredRead) → Made told mid before middle old between (calls_of_all crates)
+are_then : {told mid : Option Content} {before middle : ℕ} {old between : List Call} (crates : List ReadsOfCrate) (more : List AnsweredRead) → Made told mid before middle old between (calls_of_all crates)
     → AreReads before (reads_of_all crates) → AreReads middle more → AreReads before (reads_of_all crates ++ more)
 are_then {told} {mid} {before} {middle} crates more made first then =
     are_joined before [] (reads_of_all crates) more first (subst (λ (count : ℕ). AreReads count more) (made.counts ∙ counts_of_all before crates) then)
@@ -104,7 +104,7 @@ module _ {told mid tells : Option Content} {before between_count after : ℕ} {o
       → IsByOwnReads mid tells between_count after between new (folder_of (krate_of license)) license.reads (IsTurnHeard scanner policy all middle license last)
       → AreTurnsByReads told tells before after old new scanner policy all files (licenses ++ license ∷ []) last
   turns_then license middle last first grows by =
-      let one : CrateReads = record { krate = krate_of license; reads = by.reads } in
+      let one : ReadsOfCrate = record { krate = krate_of license; reads = by.reads } in
       let turn = (turn_by scanner policy all middle one).turn in
       record {
         crates = first.crates ++ one ∷ [];
@@ -126,12 +126,12 @@ module _ {told mid tells : Option Content} {before between_count after : ℕ} {o
 
 -- memory was wanting at the turn of the next crate
 pub starves_next : {told mid tells : Option Content} {before between_count after : ℕ} {old between new : List Call} (scanner : Scanner) (policy : ℕ) (all : List ClarificationEntry) (files : List File)
-    (licenses : List KrateLicense) (middle : List File) (krate : Record) (krates : List Record) → AreTurnsByReads told mid before between_count old between scanner policy all files licenses middle
-    → StarvesTaking mid tells between_count after between new (folder_of krate) (λ ears manifest. records_in (turn_with scanner policy (clarifications_of krate all) krate ears manifest middle))
+    (licenses : List KrateLicense) (middle : List File) (krate : CrateRecord) (krates : List CrateRecord) → AreTurnsByReads told mid before between_count old between scanner policy all files licenses middle
+    → StarvesTaking mid tells between_count after between new (folder_of krate) (λ known_reads manifest. records_in (turn_with scanner policy (clarifications_of krate all) krate known_reads manifest middle))
     → IsFront (map krate_of licenses ++ krate ∷ []) krates
     → StarvesGathering told tells before after old new scanner policy all files krates
 starves_next scanner policy all files licenses middle krate krates first starves among =
-    let begun : CrateReads = record { krate = krate; reads = starves.reads } in
+    let begun : ReadsOfCrate = record { krate = krate; reads = starves.reads } in
     record {
       crates = first.crates;
       begun = begun;
@@ -142,7 +142,7 @@ starves_next scanner policy all files licenses middle krate krates first starves
       front =
           subst (λ (files : List File). IsFront (records_of_reads starves.reads ++ option_to_list starves.next) (records_in (turn_by scanner policy all files begun).turn)) first.turns.left starves.front;
       among =
-          subst (λ (those : List Record). IsFront (those ++ krate ∷ []) krates) (sym (krates_told scanner policy all files first.crates licenses middle first.turns)) among;
+          subst (λ (those : List CrateRecord). IsFront (those ++ krate ∷ []) krates) (sym (krates_told scanner policy all files first.crates licenses middle first.turns)) among;
     }
 
 -- the first ones of a list, with the next one

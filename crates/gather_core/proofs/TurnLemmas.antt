@@ -6,15 +6,15 @@ use Rattle.deny_text.specs.declared.span.Span.{Span}
 use Rattle.spdx_terms.specs.declared.error.ParseError.{ParseError}
 use Rattle.diag_core.specs.declared.label.Coord.{Coord}
 use Rattle.diag_core.specs.File.{File}
-use Rattle.gather_licence.specs.declared.settling.LicenseBasis.{LicenseBasis}
-use Rattle.gather_licence.specs.Priority.{answer_in}
-use Rattle.gather_licence.specs.Settled.{missing_of}
+use Rattle.gather_license.specs.declared.settling.LicenseBasis.{LicenseBasis}
+use Rattle.gather_license.specs.Priority.{answer_in}
+use Rattle.gather_license.specs.Settled.{missing_of}
 use Rattle.gather_core.specs.declared.findings.outcome.PlacedFindings.{PlacedFindings}
 use Rattle.gather_core.specs.findings.Cuts.{LabelLies, labels_of, text_under}
 use Rattle.gather_core.specs.declared.summary.KrateLicense.{KrateLicense}
 use Rattle.gather_core.specs.declared.turn.LocatedLicense.{LocatedLicense}
 use Rattle.gather_core.specs.Taken.{IsTaken}
-use Rattle.gather_core.specs.Told.{info_by, notes_of, nowhere}
+use Rattle.gather_core.specs.Told.{info_by, notes_of, no_place}
 use Rattle.gather_core.specs.Turns.{IsCutOut, IsTurn, TurnInput, faults_in, files_left, files_located, located_in, missing_findings, points_for, points_in, label_texts_for}
 
 pub points_are : (turn : TurnInput) (faults : List ParseError) (taken : LocatedLicense) (points : PlacedFindings) (old : List File) → faults ≡ faults_in turn.scanner turn.krate → IsTaken turn taken old
@@ -44,7 +44,7 @@ found_turn turn faults taken points old new faults_are is found lie cuts =
 pub told_turn : (turn : TurnInput) (license : KrateLicense) (faults : List ParseError) (taken : LocatedLicense) (points : PlacedFindings) (old new : List File)
     → faults ≡ faults_in turn.scanner turn.krate → IsTaken turn taken old
     → points ≡ points_for turn.krate faults taken.location old taken.by → new ≡ files_left turn.krate faults taken.location old taken.by
-    → license.lic_info ≡ info_by turn.policy taken.location (unwrap_or points.expression nowhere) taken.by → license.notes ≡ notes_of (answer_in taken.by)
+    → license.lic_info ≡ info_by turn.policy taken.location (unwrap_or points.expression no_place) taken.by → license.notes ≡ notes_of (answer_in taken.by)
     → license.diags ≡ missing_findings turn.policy taken.missing ++ points.findings → license.reads ≡ taken.reads
     → IsTurn turn license new
 told_turn turn license faults taken points old new faults_are is found files_are info notes diags reads =
@@ -52,14 +52,14 @@ told_turn turn license faults taken points old new faults_are is found files_are
     record {
       info =
           info
-          ∙ ap (λ (at : Option Coord). info_by turn.policy at (unwrap_or points.expression nowhere) taken.by) is.location
-          ∙ ap (λ (points : PlacedFindings). info_by turn.policy (located_in turn).location (unwrap_or points.expression nowhere) taken.by) all_points
-          ∙ ap (λ (by : LicenseBasis). info_by turn.policy (located_in turn).location (unwrap_or (points_in turn).expression nowhere) by) is.by;
+          ∙ ap (λ (at : Option Coord). info_by turn.policy at (unwrap_or points.expression no_place) taken.by) is.location
+          ∙ ap (λ (points : PlacedFindings). info_by turn.policy (located_in turn).location (unwrap_or points.expression no_place) taken.by) all_points
+          ∙ ap (λ (by : LicenseBasis). info_by turn.policy (located_in turn).location (unwrap_or (points_in turn).expression no_place) by) is.by;
       noted = notes ∙ ap (λ (by : LicenseBasis). notes_of (answer_in by)) is.by;
       found =
           diags
           ∙ ap (λ (missing : List Span). missing_findings turn.policy missing ++ points.findings) is.missing
-          ∙ ap (λ (points : PlacedFindings). missing_findings turn.policy (missing_of turn.ears turn.clarifications) ++ points.findings) all_points;
+          ∙ ap (λ (points : PlacedFindings). missing_findings turn.policy (missing_of turn.known_reads turn.clarifications) ++ points.findings) all_points;
       read = reads ∙ is.reads;
       table =
           files_are

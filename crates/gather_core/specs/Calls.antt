@@ -7,15 +7,15 @@ use Rattle.tree_core.specs.Call.{Call}
 use Rattle.tree_core.specs.Content.{Content}
 use Rattle.tree_core.specs.Hearing.{Made}
 use Rattle.tree_core.specs.declared.reads.ReadRecord.{ReadRecord}
-use Rattle.graph_core.specs.Krate.{Record}
+use Rattle.graph_core.specs.Krate.{CrateRecord}
 use Rattle.tree_core.specs.file_reads.Heard.{ReadResult}
 use Rattle.tree_core.specs.file_reads.Read.{AreReads, LackedMemory, MadeReads, AnsweredRead, call_lost, calls_in, records_of_reads}
-use Rattle.gather_licence.specs.files.Calls.{IsFront}
-use Rattle.gather_licence.specs.files.Ears.{FolderReads, ears_by}
-use Rattle.gather_licence.specs.expression.Scanned.{Scanner}
+use Rattle.gather_license.specs.files.Calls.{IsFront}
+use Rattle.gather_license.specs.files.KnownReads.{FolderReads, known_reads_by}
+use Rattle.gather_license.specs.expression.Scanned.{Scanner}
 use Rattle.diag_core.specs.File.{File}
-use Rattle.gather_licence.specs.location.Calls.{manifest_by}
-use Rattle.gather_licence.specs.Priority.{folder_of, priority_of}
+use Rattle.gather_license.specs.location.Calls.{manifest_by}
+use Rattle.gather_license.specs.Priority.{folder_of, priority_of}
 use Rattle.gather_core.specs.Entries.{ClarificationEntry, clarifications_of}
 use Rattle.gather_core.specs.declared.summary.KrateLicense.{KrateLicense}
 use Rattle.gather_core.specs.Gathered.{krate_of, turn_of}
@@ -31,7 +31,7 @@ pub record IsByOwnReads (told tells : Option Content) (before after : ℕ) (old 
   pub reads : List AnsweredRead
   pub recorded_are : records_of_reads reads ≡ records
   pub made : MadeReads told tells before after old new folder reads
-  pub is_so : IsSo (ears_by reads) (manifest_by reads)
+  pub is_so : IsSo (known_reads_by reads) (manifest_by reads)
 
 -- These reads were made over a tree, for a crate in this folder, and then memory was wanting, perhaps in the call of one more.
 -- They, and that one, are the first ones of those that are made by what they let hear.
@@ -39,19 +39,19 @@ pub record StarvesTaking (told tells : Option Content) (before after : ℕ) (old
   pub reads : List AnsweredRead
   pub next : Option ReadRecord
   pub made : LackedMemory told tells before after old new folder reads next
-  pub front : IsFront (records_of_reads reads ++ option_to_list next) (wanted (ears_by reads) (manifest_by reads))
+  pub front : IsFront (records_of_reads reads ++ option_to_list next) (wanted (known_reads_by reads) (manifest_by reads))
 
 -- what is told of a crate is what its turn says by what is heard, and the labels of what is found cut out what they say
 abbrev pub IsTurnHeard : Scanner → ℕ → List ClarificationEntry → List File → KrateLicense → List File → FolderReads → ReadResult → Type 0
-IsTurnHeard scanner policy all files license last ears manifest =
-    IsTurn (turn_of scanner policy all ears manifest files license) license last
-    × IsCutOut last (turn_of scanner policy all ears manifest files license)
+IsTurnHeard scanner policy all files license last known_reads manifest =
+    IsTurn (turn_of scanner policy all known_reads manifest files license) license last
+    × IsCutOut last (turn_of scanner policy all known_reads manifest files license)
 
 -- ---- several crates
 
 -- a crate, and the reads of its turn
-pub record CrateReads : Type 0 where
-  pub krate : Record
+pub record ReadsOfCrate : Type 0 where
+  pub krate : CrateRecord
   pub reads : List AnsweredRead
 
 -- the turn of a crate, with its reads
@@ -60,14 +60,14 @@ pub record CrateTurn : Type 0 where
   pub turn : TurnInput
 
 -- the turn of a crate among all, by what its own reads let hear, with the table that the crates before have left
-abbrev pub turn_by : Scanner → ℕ → List ClarificationEntry → List File → CrateReads → CrateTurn
+abbrev pub turn_by : Scanner → ℕ → List ClarificationEntry → List File → ReadsOfCrate → CrateTurn
 turn_by scanner policy all files one = record {
   reads = one.reads;
-  turn = turn_with scanner policy (clarifications_of one.krate all) one.krate (ears_by one.reads) (manifest_by one.reads) files;
+  turn = turn_with scanner policy (clarifications_of one.krate all) one.krate (known_reads_by one.reads) (manifest_by one.reads) files;
 }
 
 -- the turns of crates, one after another, each with the table that the one before has left
-abbrev pub turns_of : Scanner → ℕ → List ClarificationEntry → List File → List CrateReads → List CrateTurn
+abbrev pub turns_of : Scanner → ℕ → List ClarificationEntry → List File → List ReadsOfCrate → List CrateTurn
 turns_of scanner policy all files [] = []
 turns_of scanner policy all files (one ∷ crates) =
     turn_by scanner policy all files one ∷ turns_of scanner policy all (files_behind (turn_by scanner policy all files one).turn) crates
@@ -81,10 +81,10 @@ abbrev pub HasOwnReads : CrateTurn → Type 0
 HasOwnReads own = records_of_reads own.reads ≡ records_in own.turn
 
 -- the calls of their reads, crate after crate, each crate's in its own folder
-abbrev pub calls_of_all : List CrateReads → List Call
+abbrev pub calls_of_all : List ReadsOfCrate → List Call
 calls_of_all crates = flat_map (λ one. calls_in (folder_of one.krate) one.reads) crates
 
-abbrev pub reads_of_all : List CrateReads → List AnsweredRead
+abbrev pub reads_of_all : List ReadsOfCrate → List AnsweredRead
 reads_of_all crates = flat_map (λ one. one.reads) crates
 
 -- What is told of a crate is what its turn says by its own reads, which have the records that are told of it; it has priority by
@@ -93,7 +93,7 @@ pub record IsTurnBy (last : List File) (own : CrateTurn) (license : KrateLicense
   pub krate : own.turn.krate ≡ krate_of license
   pub recorded_are : records_of_reads own.reads ≡ license.reads
   pub turn : IsTurn own.turn license (files_behind own.turn)
-  pub answer : answer_view license.lic_info license.notes ≡ priority_of own.turn.scanner own.turn.clarifications own.turn.krate own.turn.ears
+  pub answer : answer_view license.lic_info license.notes ≡ priority_of own.turn.scanner own.turn.clarifications own.turn.krate own.turn.known_reads
   pub cuts : IsCutOut last own.turn
 
 -- what is told of crates, one by one, is what these turns say, and the table that is left at last is theirs
@@ -104,7 +104,7 @@ pub record AreTurnsBy (files : List File) (turns : List CrateTurn) (licenses : L
 -- Crates had their turns over a tree, each by its own reads: the calls of these were made, one crate after another, and no other;
 -- their records tell what the answers let hear; and what is told of each crate is what its turn says by them.
 pub record AreTurnsByReads (told tells : Option Content) (before after : ℕ) (old new : List Call) (scanner : Scanner) (policy : ℕ) (all : List ClarificationEntry) (files : List File) (licenses : List KrateLicense) (last : List File) : Type 0 where
-  pub crates : List CrateReads
+  pub crates : List ReadsOfCrate
   pub made : Made told tells before after old new (calls_of_all crates)
   pub are : AreReads before (reads_of_all crates)
   pub turns : AreTurnsBy files (turns_of scanner policy all files crates) licenses last
@@ -113,12 +113,12 @@ pub record AreTurnsByReads (told tells : Option Content) (before after : ℕ) (o
 
 -- Some of these crates, the first ones, had their turns over a tree, and memory was wanting at the turn of the next one, perhaps in
 -- a call. Its reads, and that call's, are the first ones of those that its turn asks for by what they let hear.
-pub record StarvesGathering (told tells : Option Content) (before after : ℕ) (old new : List Call) (scanner : Scanner) (policy : ℕ) (all : List ClarificationEntry) (files : List File) (krates : List Record) : Type 0 where
-  pub crates : List CrateReads
-  pub begun : CrateReads
+pub record StarvesGathering (told tells : Option Content) (before after : ℕ) (old new : List Call) (scanner : Scanner) (policy : ℕ) (all : List ClarificationEntry) (files : List File) (krates : List CrateRecord) : Type 0 where
+  pub crates : List ReadsOfCrate
+  pub begun : ReadsOfCrate
   pub next : Option ReadRecord
   pub made : Made told tells before after old new (calls_of_all crates ++ (calls_in (folder_of begun.krate) begun.reads ++ call_lost (folder_of begun.krate) next))
   pub are : AreReads before (reads_of_all crates ++ begun.reads)
   pub own : All HasOwnReads (turns_of scanner policy all files crates)
   pub front : IsFront (records_of_reads begun.reads ++ option_to_list next) (records_in (turn_by scanner policy all (files_behind_all files (turns_of scanner policy all files crates)) begun).turn)
-  pub among : IsFront (map (λ (one : CrateReads). one.krate) crates ++ begun.krate ∷ []) krates
+  pub among : IsFront (map (λ (one : ReadsOfCrate). one.krate) crates ++ begun.krate ∷ []) krates

@@ -1,13 +1,13 @@
 -- The clarifications of a policy, and those that are for a crate.
 use Rattle.std.specs.Prelude.{ℕ, List, map, filter, slice_get, Option, option_map}
 use Rattle.std.specs.List.{filter_map}
-use Rattle.graph_core.specs.Krate.{Record}
+use Rattle.graph_core.specs.Krate.{CrateRecord}
 use Rattle.policy_parts.specs.declared.file_source.FileSource.{FileSource}
 use Rattle.policy_parts.specs.spec.Matching.{spec_matches}
 use Rattle.policy_parts.specs.spec.Spec.{Spec}
 use Rattle.policy_core.specs.declared.valid.policy.ValidClarification.{ValidClarification}
 use Rattle.policy_core.specs.declared.valid.policy.ValidConfig.{ValidConfig}
-use Rattle.gather_licence.specs.Clarification.{ClarificationView, PlacedFile}
+use Rattle.gather_license.specs.Clarification.{ClarificationView, PlacedFile}
 
 -- a clarification, and the crates that it is for
 pub record ClarificationEntry : Type 0 where
@@ -33,7 +33,7 @@ abbrev pub entries_of : ValidConfig → List ClarificationEntry
 entries_of policy = map clarification_entry policy.clarifications
 
 -- the clarifications whose spec matches a crate, in the policy's order
-abbrev pub clarifications_of : Record → List ClarificationEntry → List ClarificationView
+abbrev pub clarifications_of : CrateRecord → List ClarificationEntry → List ClarificationView
 clarifications_of krate entries = map (λ entry. entry.clarification) (filter (λ entry. spec_matches entry.spec krate) entries)
 
 -- ---- found by places

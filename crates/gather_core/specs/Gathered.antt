@@ -4,9 +4,9 @@ use Rattle.std.specs.List.{flat_map}
 use Rattle.spdx_terms.specs.catalog.Catalog.{CatalogLists}
 use Rattle.spdx_terms.specs.declared.catalog.identifier.Match.{Match}
 use Rattle.tree_core.specs.declared.reads.ReadRecord.{ReadRecord}
-use Rattle.graph_core.specs.Krate.{Record, record_of}
-use Rattle.gather_licence.specs.files.Ears.{FolderReads}
-use Rattle.gather_licence.specs.expression.Scanned.{Scanner, match_by}
+use Rattle.graph_core.specs.Krate.{CrateRecord, record_of}
+use Rattle.gather_license.specs.files.KnownReads.{FolderReads}
+use Rattle.gather_license.specs.expression.Scanned.{Scanner, match_by}
 use Rattle.graph_core.specs.declared.selection.selection.Include.{Include}
 use Rattle.policy_core.specs.declared.valid.policy.ValidConfig.{ValidConfig}
 use Rattle.tree_core.specs.file_reads.Heard.{ReadResult}
@@ -41,15 +41,15 @@ include_of policy = record { dev = policy.include_dev; build = policy.include_bu
 
 -- ---- what is told of each crate
 
-abbrev pub krate_of : KrateLicense → Record
+abbrev pub krate_of : KrateLicense → CrateRecord
 krate_of license = record_of license.krate.now
 
 -- ---- turn after turn
 
 -- the turn of a crate among all, with the table that the crates before have left
 abbrev pub turn_of : Scanner → ℕ → List ClarificationEntry → FolderReads → ReadResult → List File → KrateLicense → TurnInput
-turn_of scanner policy all ears manifest files license =
-    turn_with scanner policy (clarifications_of (krate_of license) all) (krate_of license) ears manifest files
+turn_of scanner policy all known_reads manifest files license =
+    turn_with scanner policy (clarifications_of (krate_of license) all) (krate_of license) known_reads manifest files
 
 -- the reads of all crates, in the order of the calls
 abbrev pub all_reads : List KrateLicense → List ReadRecord

@@ -4,9 +4,9 @@ use Rattle.diag_core.specs.File.{File}
 pub use Rattle.diag_core.specs.File.{Grows}
 use Rattle.gather_core.specs.findings.Cuts.{LabelLies, labels_of}
 pub use Rattle.gather_core.specs.findings.License.{InfoStands, PlaceLies, StandsIn}
-use Rattle.gather_licence.specs.declared.settling.LicenseBasis.{LicenseBasis}
-use Rattle.gather_licence.specs.declared.settling.LicenseBasis.TheVariants.{Clarified, Field, Files}
-use Rattle.gather_licence.specs.Clarification.{ClarificationView, PlacedFile}
+use Rattle.gather_license.specs.declared.settling.LicenseBasis.{LicenseBasis}
+use Rattle.gather_license.specs.declared.settling.LicenseBasis.TheVariants.{Clarified, Field, Files}
+use Rattle.gather_license.specs.Clarification.{ClarificationView, PlacedFile}
 use Rattle.gather_core.specs.declared.summary.KrateLicense.{KrateLicense}
 use Rattle.gather_core.specs.Entries.{ClarificationEntry}
 

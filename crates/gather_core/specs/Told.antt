@@ -2,10 +2,10 @@
 use Rattle.std.specs.Prelude.{ℕ, List, [], Option, Some, None, option_map}
 use Rattle.std.specs.Option.{option_map_or}
 use Rattle.diag_core.specs.declared.label.Coord.{Coord}
-use Rattle.gather_licence.specs.declared.settling.LicenseBasis.{LicenseBasis}
-use Rattle.gather_licence.specs.declared.settling.LicenseBasis.TheVariants.{Clarified, Field, Files}
-use Rattle.gather_licence.specs.declared.settling.JoinedNames.{JoinedNames}
-use Rattle.gather_licence.specs.Priority.{LicenseAnswer, ExpressionSource, metadata, user_override, license_files}
+use Rattle.gather_license.specs.declared.settling.LicenseBasis.{LicenseBasis}
+use Rattle.gather_license.specs.declared.settling.LicenseBasis.TheVariants.{Clarified, Field, Files}
+use Rattle.gather_license.specs.declared.settling.JoinedNames.{JoinedNames}
+use Rattle.gather_license.specs.Priority.{LicenseAnswer, ExpressionSource, metadata, user_override, license_files}
 use Rattle.gather_core.specs.declared.findings.license.LicenseExprInfo.{LicenseExprInfo}
 use Rattle.gather_core.specs.declared.findings.license.LicenseExprSource.{LicenseExprSource}
 use Rattle.gather_core.specs.declared.findings.license.LicenseExprSource.TheVariants.{Metadata, UserOverride, LicenseFiles}
@@ -18,8 +18,8 @@ use Rattle.gather_core.specs.declared.findings.license.LicenseInfo.TheVariants.{
 abbrev pub info_at : Coord → LicenseExprSource → LicenseExprInfo
 info_at at source = record { file_id = at.file; offset = at.span.start; whole = None; source = source }
 
-abbrev pub nowhere : Coord
-nowhere = record { file = 0; span = record { start = 0; end = 0 } }
+abbrev pub no_place : Coord
+no_place = record { file = 0; span = record { start = 0; end = 0 } }
 
 -- a field by its location, where that counts
 abbrev pub field_source : Option Coord → LicenseExprSource

@@ -5,23 +5,23 @@ use Rattle.std.specs.Option.{option_map_or, option_to_list}
 use Rattle.tree_core.specs.declared.reads.ReadRecord.{ReadRecord}
 use Rattle.deny_text.specs.declared.span.Span.{Span}
 use Rattle.spdx_terms.specs.declared.error.ParseError.{ParseError}
-use Rattle.graph_core.specs.Krate.{Record}
+use Rattle.graph_core.specs.Krate.{CrateRecord}
 use Rattle.tree_core.specs.file_reads.Heard.{ReadResult}
-use Rattle.gather_licence.specs.files.Ears.{FolderReads}
-use Rattle.gather_licence.specs.expression.Scanned.{Scanner}
+use Rattle.gather_license.specs.files.KnownReads.{FolderReads}
+use Rattle.gather_license.specs.expression.Scanned.{Scanner}
 use Rattle.diag_core.specs.declared.label.Coord.{Coord}
 use Rattle.diag_core.specs.declared.pack.Diag.{Diag}
 use Rattle.diag_core.specs.File.{File}
-use Rattle.gather_licence.specs.declared.settling.FilesSeen.{FilesSeen}
-use Rattle.gather_licence.specs.declared.settling.FilesSeen.TheVariants.{Unlisted, Listed}
-use Rattle.gather_licence.specs.declared.settling.JoinedNames.{JoinedNames}
-use Rattle.gather_licence.specs.declared.settling.LicenseBasis.{LicenseBasis}
-use Rattle.gather_licence.specs.declared.settling.LicenseBasis.TheVariants.{Clarified, Field, Files}
-use Rattle.gather_licence.specs.Clarification.{ClarificationView}
-use Rattle.gather_licence.specs.Priority.{answer_in, folder_of, holding, is_nothing, records_of, basis_of}
-use Rattle.gather_licence.specs.Settled.{missing_of}
-use Rattle.gather_licence.specs.declared.location.location.LocatedField.{LocatedField}
-use Rattle.gather_licence.specs.location.Location.{files_after, located_of}
+use Rattle.gather_license.specs.declared.settling.FilesSeen.{FilesSeen}
+use Rattle.gather_license.specs.declared.settling.FilesSeen.TheVariants.{Unlisted, Listed}
+use Rattle.gather_license.specs.declared.settling.JoinedNames.{JoinedNames}
+use Rattle.gather_license.specs.declared.settling.LicenseBasis.{LicenseBasis}
+use Rattle.gather_license.specs.declared.settling.LicenseBasis.TheVariants.{Clarified, Field, Files}
+use Rattle.gather_license.specs.Clarification.{ClarificationView}
+use Rattle.gather_license.specs.Priority.{answer_in, folder_of, holding_clarification, is_nothing, records_of, basis_of}
+use Rattle.gather_license.specs.Settled.{missing_of}
+use Rattle.gather_license.specs.declared.location.location.LocatedField.{LocatedField}
+use Rattle.gather_license.specs.location.Location.{files_after, located_of}
 use Rattle.gather_core.specs.declared.findings.outcome.PlacedFindings.{PlacedFindings}
 use Rattle.gather_core.specs.findings.Cuts.{LabelLies, labels_of, text_under, texts_by}
 use Rattle.gather_core.specs.findings.Faults.{field_faults}
@@ -29,7 +29,7 @@ use Rattle.gather_core.specs.findings.Findings.{UnclarifiedCrateView, Expression
 use Rattle.gather_core.specs.findings.Pieces.{SeenFilesView, unlisted, listed}
 use Rattle.gather_core.specs.declared.findings.license.LicenseInfo.{LicenseInfo}
 use Rattle.gather_core.specs.declared.summary.KrateLicense.{KrateLicense}
-use Rattle.gather_core.specs.Told.{info_by, notes_of, nowhere}
+use Rattle.gather_core.specs.Told.{info_by, notes_of, no_place}
 
 -- What texts are identified by; the number of the policy's file; the clarifications that are for the crate; the crate; what is
 -- heard of its folder and its files, and of its manifest; and the file table as the turn begins.
@@ -37,40 +37,40 @@ pub record TurnInput : Type 0 where
   pub scanner : Scanner
   pub policy : ℕ
   pub clarifications : List ClarificationView
-  pub krate : Record
-  pub ears : FolderReads
+  pub krate : CrateRecord
+  pub known_reads : FolderReads
   pub manifest : ReadResult
   pub files : List File
 
 abbrev pub basis_in : TurnInput → LicenseBasis
-basis_in turn = basis_of turn.scanner turn.clarifications turn.krate turn.ears
+basis_in turn = basis_of turn.scanner turn.clarifications turn.krate turn.known_reads
 
 -- the text of the field; empty where there is none
-abbrev pub field_text : Record → List ℕ
+abbrev pub field_text : CrateRecord → List ℕ
 field_text krate = unwrap_or krate.license []
 
 -- ---- the manifest
 
 -- it is asked for where no clarification holds and the field is not null; an empty field counts
-abbrev pub asks_manifest : List ClarificationView → Record → FolderReads → Bool
-asks_manifest clarifications krate ears = is_none (holding ears clarifications) && is_some krate.license
+abbrev pub asks_manifest : List ClarificationView → CrateRecord → FolderReads → Bool
+asks_manifest clarifications krate known_reads = is_none (holding_clarification known_reads clarifications) && is_some krate.license
 
 abbrev pub not_asked : LocatedField
 not_asked = record { location = None; read = None }
 
 -- where a manifest is asked for, and where it is not
-abbrev pub located_where : Bool → Record → List File → ReadResult → LocatedField
+abbrev pub located_where : Bool → CrateRecord → List File → ReadResult → LocatedField
 located_where asks krate files manifest = if asks then located_of krate.manifest_path (field_text krate) files manifest else not_asked
 
-abbrev pub files_where : Bool → Record → List File → ReadResult → List File
+abbrev pub files_where : Bool → CrateRecord → List File → ReadResult → List File
 files_where asks krate files manifest = if asks then files_after krate.manifest_path (field_text krate) files manifest else files
 
 abbrev pub located_in : TurnInput → LocatedField
-located_in turn = located_where (asks_manifest turn.clarifications turn.krate turn.ears) turn.krate turn.files turn.manifest
+located_in turn = located_where (asks_manifest turn.clarifications turn.krate turn.known_reads) turn.krate turn.files turn.manifest
 
 -- the table with the manifest, where the field's location counts
 abbrev pub files_located : TurnInput → List File
-files_located turn = files_where (asks_manifest turn.clarifications turn.krate turn.ears) turn.krate turn.files turn.manifest
+files_located turn = files_where (asks_manifest turn.clarifications turn.krate turn.known_reads) turn.krate turn.files turn.manifest
 
 -- ---- the reads
 
@@ -80,7 +80,7 @@ in_order manifest_first manifest reads = if manifest_first then option_to_list m
 
 abbrev pub records_in : TurnInput → List ReadRecord
 records_in turn =
-    in_order (is_nothing turn.clarifications) (located_in turn).read (records_of turn.scanner turn.clarifications turn.krate turn.ears)
+    in_order (is_nothing turn.clarifications) (located_in turn).read (records_of turn.scanner turn.clarifications turn.krate turn.known_reads)
 
 -- ---- what is found
 
@@ -91,7 +91,7 @@ seen_as (Listed files) = listed files
 abbrev pub joined_expression_text : Option JoinedNames → Option (List ℕ)
 joined_expression_text joined = option_map (λ names. names.expression.text) joined
 
-abbrev pub faults_in : Scanner → Record → List ParseError
+abbrev pub faults_in : Scanner → CrateRecord → List ParseError
 faults_in scanner krate = option_map_or (field_faults scanner.lists) krate.license []
 
 -- what settles the licence, as findings take it; none where that is a clarification
@@ -100,7 +100,7 @@ outcome_in (Clarified held) = None
 outcome_in (Field expression) = Some by_field
 outcome_in (Files seen joined) = Some (by_files (seen_as seen) (joined_expression_text joined))
 
-abbrev pub case_with : Record → List ParseError → Option Coord → ExpressionBasisView → UnclarifiedCrateView
+abbrev pub case_with : CrateRecord → List ParseError → Option Coord → ExpressionBasisView → UnclarifiedCrateView
 case_with krate faults location outcome = record {
   krate = krate;
   folder = folder_of krate;
@@ -113,16 +113,16 @@ abbrev pub no_points : PlacedFindings
 no_points = record { expression = None; findings = [] }
 
 -- the text of the expression that findings point at, where there is one: none of a clarification
-abbrev pub text_settled : Record → LicenseBasis → Option (List ℕ)
+abbrev pub text_settled : CrateRecord → LicenseBasis → Option (List ℕ)
 text_settled krate (Clarified held) = None
 text_settled krate (Field expression) = Some (field_text krate)
 text_settled krate (Files seen joined) = joined_expression_text joined
 
 -- where the expression stands, what is found, and the table afterwards: nothing of a clarification
-abbrev pub points_for : Record → List ParseError → Option Coord → List File → LicenseBasis → PlacedFindings
+abbrev pub points_for : CrateRecord → List ParseError → Option Coord → List File → LicenseBasis → PlacedFindings
 points_for krate faults location files by = option_map_or (λ outcome. points_of (case_with krate faults location outcome) files) (outcome_in by) no_points
 
-abbrev pub files_left : Record → List ParseError → Option Coord → List File → LicenseBasis → List File
+abbrev pub files_left : CrateRecord → List ParseError → Option Coord → List File → LicenseBasis → List File
 files_left krate faults location files by = option_map_or (λ outcome. files_with (case_with krate faults location outcome) files) (outcome_in by) files
 
 -- where the policy's file writes what is not there
@@ -135,12 +135,12 @@ points_in turn = points_for turn.krate (faults_in turn.scanner turn.krate) (loca
 -- The findings of a crate: the files of clarifications that are not there; and where none of them holds those of its field, of
 -- its files, and that there is no expression.
 abbrev pub findings_in : TurnInput → List Diag
-findings_in turn = missing_findings turn.policy (missing_of turn.ears turn.clarifications) ++ (points_in turn).findings
+findings_in turn = missing_findings turn.policy (missing_of turn.known_reads turn.clarifications) ++ (points_in turn).findings
 
 -- ---- what is told, and what is left
 
 abbrev pub info_in : TurnInput → LicenseInfo
-info_in turn = info_by turn.policy (located_in turn).location (unwrap_or (points_in turn).expression nowhere) (basis_in turn)
+info_in turn = info_by turn.policy (located_in turn).location (unwrap_or (points_in turn).expression no_place) (basis_in turn)
 
 abbrev pub notes_in : TurnInput → List (List ℕ)
 notes_in turn = notes_of (answer_in (basis_in turn))
@@ -153,7 +153,7 @@ files_behind turn = files_left turn.krate (faults_in turn.scanner turn.krate) (l
 -- ---- what the labels cut out
 
 -- what each label says: a fault of the field, the empty field, what failed, the name
-abbrev pub label_texts_for : Record → List ParseError → Option Coord → LicenseBasis → List (List ℕ)
+abbrev pub label_texts_for : CrateRecord → List ParseError → Option Coord → LicenseBasis → List (List ℕ)
 label_texts_for krate faults location by = option_map_or (λ outcome. texts_by (case_with krate faults location outcome) outcome) (outcome_in by) []
 
 abbrev pub label_texts : TurnInput → List (List ℕ)

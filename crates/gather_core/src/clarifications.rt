@@ -2,10 +2,10 @@
 ghost use Rattle.std.specs.Prelude.{◌≡◌, ◌++◌, map, option_map, IfOk, OnOk};
 ghost use Rattle.std.specs.Option.{option_to_list};
 ghost use Rattle.graph_core.specs.Krate.{record_of};
-ghost use Rattle.gather_licence.specs.Clarification.{behind};
+ghost use Rattle.gather_license.specs.Clarification.{lent_clarification};
 ghost use Rattle.gather_core.specs.Entries.{clarifications_of, clarification_entry, clarification_at, clarifications_at, placed_of};
 
-use gather_licence::{ClarificationRef, FileRef};
+use gather_license::{ClarificationRef, FileRef};
 use graph_core::Krate;
 use policy_core::valid::ValidClarification;
 use policy_parts::FileSource;
@@ -22,7 +22,7 @@ struct EntryRef<'p> {
 
 impl<'p> Model for EntryRef<'p> {
     ghost use Rattle.std.specs.Coded.{codes};
-    ghost use Rattle.gather_licence.specs.Clarification.{clarification_code};
+    ghost use Rattle.gather_license.specs.Clarification.{clarification_code};
     ghost use Rattle.gather_core.specs.Entries.{ClarificationEntry};
 
     ghost Value = { ClarificationEntry };
@@ -54,7 +54,7 @@ impl<'p> Model for ClarificationIndex<'p> {
     ghost use Rattle.std.specs.Prelude.{◌≡◌, List};
     ghost use Rattle.std.specs.Coded.{codes};
     ghost use Rattle.policy_parts.specs.spec.Index.{spec_numbers};
-    ghost use Rattle.gather_licence.specs.Clarification.{clarification_code};
+    ghost use Rattle.gather_license.specs.Clarification.{clarification_code};
     ghost use Rattle.gather_core.specs.Entries.{ClarificationEntry, specs_of};
 
     ghost Value = { List ClarificationEntry };
@@ -125,7 +125,7 @@ fn clarification_at<'a, 'p>(
     entries: &'a [EntryRef<'p>],
     place: usize,
 ) -> Option<&'a ClarificationRef<'p>>
-    ensures { option_map behind result ≡ clarification_at entries.entry.now place }
+    ensures { option_map lent_clarification result ≡ clarification_at entries.entry.now place }
 {
     match entries.get(place) {
         Some(entry) => Some(&entry.clarification),
@@ -139,7 +139,7 @@ fn at_places<'a, 'p>(
     entries: &'a [EntryRef<'p>],
     places: &[usize],
 ) -> Result<ClarificationRefs<'a, 'p>, AllocError>
-    ensures { IfOk result (λ found. map behind found.items ≡ clarifications_at entries.entry.now places.now) }
+    ensures { IfOk result (λ found. map lent_clarification found.items ≡ clarifications_at entries.entry.now places.now) }
 {
     let mut found = Vec::new(alloc);
     'places: for place in places {
@@ -169,7 +169,7 @@ impl<'p> ClarificationIndex<'p> {
         krate: &Krate,
     ) -> Result<ClarificationRefs<'a, 'p>, AllocError>
         ensures { IfOk result (λ found.
-            map behind found.items ≡ clarifications_of (record_of krate.now) self.entry.now) }
+            map lent_clarification found.items ≡ clarifications_of (record_of krate.now) self.entry.now) }
     {
         let places = self.index.matches(alloc, &self.entries, krate)?;
         at_places(alloc, &self.entries, places.items())

@@ -4,8 +4,8 @@ ghost use Rattle.std.specs.Option.{option_map_or};
 ghost use Rattle.tree_core.specs.Hearing.{Made};
 ghost use Rattle.graph_core.specs.Krate.{record_of};
 ghost use Rattle.graph_core.specs.Metadata.{Graph};
-ghost use Rattle.gather_licence.specs.Priority.{field_of, folder_of};
-ghost use Rattle.gather_licence.specs.Settled.{scanner_of_scan};
+ghost use Rattle.gather_license.specs.Priority.{field_of, folder_of};
+ghost use Rattle.gather_license.specs.Settled.{scanner_of_scan};
 ghost use Rattle.graph_core.specs.selection.Choice.{Choice};
 ghost use Rattle.graph_core.specs.selection.Listed.{IsChosen, IsListOf, record_behind, selected_in};
 ghost use Rattle.graph_core.specs.selection.Walks.{Selected};
@@ -24,7 +24,7 @@ use crate::summary::{KrateLicense, KrateLicenses, Summary};
 use crate::tell::tell;
 use crate::turn::take;
 use diag_core::{FileId, Files};
-use gather_licence::Scan;
+use gather_license::Scan;
 use graph_core::Krate;
 use graph_core::selection::{Include, Krates};
 use policy_core::valid::ValidConfig;
@@ -93,9 +93,9 @@ fn license_of<'k, T: Tree, I: Identifier, C: Catalog>(
     ensures no_memory { let krate = record_of krate.now in OnErr result (
         StarvesTaking (T.content tree.old) (T.content tree.new) (T.fault_count tree.old)
         (T.fault_count tree.new) (T.trace tree.old) (T.trace tree.new)
-        (folder_of krate) (λ ears manifest. records_in (turn_with
+        (folder_of krate) (λ known_reads manifest. records_in (turn_with
         (scanner_of_scan C.lists I.match_of scan.now) policy (clarifications_of krate clarifications.now) krate
-        ears manifest files.old))) }
+        known_reads manifest files.old))) }
     ensures grows { Grows files.old files.new }
     ensures placed { ArePlacedIn files.old policy clarifications.now
         → IfOk result (λ license. IsPlacedAt files.new license) }

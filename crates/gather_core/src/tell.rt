@@ -2,7 +2,7 @@
 ghost use Rattle.std.specs.Prelude.{◌≡◌, IfOk, OnOk, IfSome, All, map, option_copied};
 ghost use Rattle.std.specs.Prelude.{option_map};
 ghost use Rattle.graph_core.specs.Krate.{record_of};
-ghost use Rattle.gather_licence.specs.location.Location.{PointsAt};
+ghost use Rattle.gather_license.specs.location.Location.{PointsAt};
 ghost use Rattle.gather_core.specs.findings.Cuts.{LabelLies, StandsAtCoord, labels_of, text_under};
 ghost use Rattle.gather_core.specs.findings.Premises.{FaultsLie};
 ghost use Rattle.gather_core.specs.findings.Views.{outcome_view, seen_view};
@@ -23,7 +23,7 @@ use crate::told::told_by;
 use crate::turn::{LocatedLicense, joined};
 use deny_text::Span;
 use diag_core::{Coord, FileId, Files};
-use gather_licence::{FilesSeen, JoinedNames, LicenseBasis, folder};
+use gather_license::{FilesSeen, JoinedNames, LicenseBasis, folder};
 use graph_core::Krate;
 use std::alloc::{AllocError, Global};
 

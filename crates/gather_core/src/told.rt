@@ -1,13 +1,13 @@
 //! What is told of a crate's licence, by what settles it.
 ghost use Rattle.std.specs.Prelude.{◌≡◌, None, unwrap_or};
-ghost use Rattle.gather_licence.specs.Priority.{answer_in};
+ghost use Rattle.gather_license.specs.Priority.{answer_in};
 ghost use Rattle.gather_core.specs.Told.{field_source, info_at, info_by, joined_info, joined_notes, notes_of};
-ghost use Rattle.gather_core.specs.Told.{nowhere};
+ghost use Rattle.gather_core.specs.Told.{no_place};
 
 use crate::findings::{LicenseExprInfo, LicenseExprSource, LicenseInfo};
 use deny_text::Span;
 use diag_core::{Coord, FileId, Notes};
-use gather_licence::{HeldClarification, JoinedNames, LicenseBasis};
+use gather_license::{HeldClarification, JoinedNames, LicenseBasis};
 use spdx_core::Expression;
 use std::alloc::Global;
 
@@ -20,7 +20,7 @@ pub(crate) struct NotedLicense {
 
 /// Where finding gave no place. It gives one wherever there is an expression.
 fn place_or_nowhere(place: Option<Coord>) -> Coord
-    ensures { result ≡ unwrap_or place nowhere }
+    ensures { result ≡ unwrap_or place no_place }
 {
     match place {
         Some(at) => at,
@@ -56,7 +56,7 @@ fn source_of(location: Option<Coord>) -> LicenseExprSource
 
 /// By a clarification.
 fn told_by_policy(policy: FileId, held: HeldClarification) -> LicenseInfo
-    ensures { result ≡ info_by policy None nowhere (LicenseBasis.Clarified held) }
+    ensures { result ≡ info_by policy None no_place (LicenseBasis.Clarified held) }
 {
     let nfo = LicenseExprInfo {
         file_id: policy,
@@ -102,7 +102,7 @@ pub(crate) fn told_by(
     place: Option<Coord>,
     by: LicenseBasis,
 ) -> NotedLicense
-    ensures info { result.info ≡ info_by policy location (unwrap_or place nowhere) by }
+    ensures info { result.info ≡ info_by policy location (unwrap_or place no_place) by }
     ensures notes { result.notes ≡ notes_of (answer_in by) }
 {
     let place = place_or_nowhere(place);

@@ -3,11 +3,11 @@ ghost use Rattle.std.specs.Prelude.{◌≡◌, ◌++◌, ◌&&◌, ℕ, not, tru
 ghost use Rattle.std.specs.Prelude.{map};
 ghost use Rattle.std.specs.Option.{option_to_list};
 ghost use Rattle.graph_core.specs.Krate.{record_of};
-ghost use Rattle.gather_licence.specs.location.Location.{PointsAt};
-ghost use Rattle.gather_licence.specs.Clarification.{behind};
-ghost use Rattle.gather_licence.specs.Priority as spec;
-ghost use Rattle.gather_licence.specs.Priority.{field_of, folder_of};
-ghost use Rattle.gather_licence.specs.Settled.{scanner_of_scan};
+ghost use Rattle.gather_license.specs.location.Location.{PointsAt};
+ghost use Rattle.gather_license.specs.Clarification.{lent_clarification};
+ghost use Rattle.gather_license.specs.Priority as spec;
+ghost use Rattle.gather_license.specs.Priority.{field_of, folder_of};
+ghost use Rattle.gather_license.specs.Settled.{scanner_of_scan};
 ghost use Rattle.gather_core.specs.Calls.{IsByOwnReads, StarvesTaking};
 ghost use Rattle.gather_core.specs.Premises.{Grows};
 ghost use Rattle.gather_core.specs.Taken.{IsLocatedWhere, IsTaken, is_clarified, turn_with};
@@ -15,8 +15,8 @@ ghost use Rattle.gather_core.specs.Turns.{field_text, located_where, records_in}
 
 use deny_text::ListOf;
 use diag_core::{Coord, Files};
-use gather_licence::location::{LocatedField, locate};
-use gather_licence::{ClarificationRef, LicenseBasis, Scan, Spans, settle_licence};
+use gather_license::location::{LocatedField, locate};
+use gather_license::{ClarificationRef, LicenseBasis, Scan, Spans, settle_license};
 use graph_core::Krate;
 use spdx_core::{Catalog, Expression};
 use spdx_terms::catalog::Identifier;
@@ -65,12 +65,12 @@ fn locate_field<T: Tree>(
     ensures answered { let krate = record_of krate.now in IfOk result (λ located.
         IsByOwnReads (T.content tree.old) (T.content tree.new) (T.fault_count tree.old)
         (T.fault_count tree.new) (T.trace tree.old) (T.trace tree.new)
-        (folder_of krate) (option_to_list located.read) (λ ears manifest.
+        (folder_of krate) (option_to_list located.read) (λ known_reads manifest.
         IsLocatedWhere (is_some krate.license) krate files.old manifest located files.new)) }
     ensures no_memory { let krate = record_of krate.now in OnErr result (
         StarvesTaking (T.content tree.old) (T.content tree.new) (T.fault_count tree.old)
         (T.fault_count tree.new) (T.trace tree.old) (T.trace tree.new)
-        (folder_of krate) (λ ears manifest. option_to_list
+        (folder_of krate) (λ known_reads manifest. option_to_list
         (located_where (is_some krate.license) krate files.old manifest).read)) }
     ensures points { IfOk result (λ located. IfSome located.location (λ at.
         PointsAt files.new at (field_text (record_of krate.now)))) }
@@ -109,12 +109,12 @@ fn locate_unless_clarified<T: Tree>(
     ensures answered { let krate = record_of krate.now in IfOk result (λ located.
         IsByOwnReads (T.content tree.old) (T.content tree.new) (T.fault_count tree.old)
         (T.fault_count tree.new) (T.trace tree.old) (T.trace tree.new)
-        (folder_of krate) (option_to_list located.read) (λ ears manifest.
+        (folder_of krate) (option_to_list located.read) (λ known_reads manifest.
         IsLocatedWhere (not (is_clarified by.now) && is_some krate.license) krate files.old manifest located files.new)) }
     ensures no_memory { let krate = record_of krate.now in OnErr result (
         StarvesTaking (T.content tree.old) (T.content tree.new) (T.fault_count tree.old)
         (T.fault_count tree.new) (T.trace tree.old) (T.trace tree.new)
-        (folder_of krate) (λ ears manifest. option_to_list
+        (folder_of krate) (λ known_reads manifest. option_to_list
         (located_where (not (is_clarified by.now) && is_some krate.license) krate files.old manifest).read)) }
     ensures points { IfOk result (λ located. IfSome located.location (λ at.
         PointsAt files.new at (field_text (record_of krate.now)))) }
@@ -140,27 +140,27 @@ fn take_manifest_first<T: Tree, I: Identifier, C: Catalog>(
     clarifications: &[&ClarificationRef<'_>],
     field: Option<Expression>,
 ) -> Result<LocatedLicense, AllocError>
-    requires nothing { spec.is_nothing (map behind clarifications.now) ≡ true }
+    requires nothing { spec.is_nothing (map lent_clarification clarifications.now) ≡ true }
     requires field { field ≡ field_of (C.lists scan.now.catalog.now) (record_of krate.now) }
     // over any tree, by the answers to the turn's own reads, which are all the calls
     ensures answered { let krate = record_of krate.now in (policy : ℕ) → IfOk result (λ taken.
         IsByOwnReads (T.content tree.old) (T.content tree.new) (T.fault_count tree.old)
         (T.fault_count tree.new) (T.trace tree.old) (T.trace tree.new)
-        (folder_of krate) taken.reads (λ ears manifest. IsTaken (turn_with
-        (scanner_of_scan C.lists I.match_of scan.now) policy (map behind clarifications.now) krate ears manifest
+        (folder_of krate) taken.reads (λ known_reads manifest. IsTaken (turn_with
+        (scanner_of_scan C.lists I.match_of scan.now) policy (map lent_clarification clarifications.now) krate known_reads manifest
         files.old) taken files.new)) }
     ensures no_memory { let krate = record_of krate.now in (policy : ℕ) → OnErr result (
         StarvesTaking (T.content tree.old) (T.content tree.new) (T.fault_count tree.old)
         (T.fault_count tree.new) (T.trace tree.old) (T.trace tree.new)
-        (folder_of krate) (λ ears manifest. records_in (turn_with
-        (scanner_of_scan C.lists I.match_of scan.now) policy (map behind clarifications.now) krate ears manifest
+        (folder_of krate) (λ known_reads manifest. records_in (turn_with
+        (scanner_of_scan C.lists I.match_of scan.now) policy (map lent_clarification clarifications.now) krate known_reads manifest
         files.old))) }
     ensures points { IfOk result (λ taken. IfSome taken.location (λ at.
         PointsAt files.new at (field_text (record_of krate.now)))) }
     ensures grows { Grows files.old files.new }
 {
     let located = locate_field(alloc, tree, files, krate)?;
-    let settled = settle_licence(alloc, tree, scan, krate, clarifications, field)?;
+    let settled = settle_license(alloc, tree, scan, krate, clarifications, field)?;
     let front = reads_of(alloc, located.read)?;
     let reads = joined(front, settled.reads)?;
     Ok(LocatedLicense {
@@ -182,26 +182,26 @@ fn take_files_first<T: Tree, I: Identifier, C: Catalog>(
     clarifications: &[&ClarificationRef<'_>],
     field: Option<Expression>,
 ) -> Result<LocatedLicense, AllocError>
-    requires some { spec.is_nothing (map behind clarifications.now) ≡ false }
+    requires some { spec.is_nothing (map lent_clarification clarifications.now) ≡ false }
     requires field { field ≡ field_of (C.lists scan.now.catalog.now) (record_of krate.now) }
     // over any tree, by the answers to the turn's own reads, which are all the calls
     ensures answered { let krate = record_of krate.now in (policy : ℕ) → IfOk result (λ taken.
         IsByOwnReads (T.content tree.old) (T.content tree.new) (T.fault_count tree.old)
         (T.fault_count tree.new) (T.trace tree.old) (T.trace tree.new)
-        (folder_of krate) taken.reads (λ ears manifest. IsTaken (turn_with
-        (scanner_of_scan C.lists I.match_of scan.now) policy (map behind clarifications.now) krate ears manifest
+        (folder_of krate) taken.reads (λ known_reads manifest. IsTaken (turn_with
+        (scanner_of_scan C.lists I.match_of scan.now) policy (map lent_clarification clarifications.now) krate known_reads manifest
         files.old) taken files.new)) }
     ensures no_memory { let krate = record_of krate.now in (policy : ℕ) → OnErr result (
         StarvesTaking (T.content tree.old) (T.content tree.new) (T.fault_count tree.old)
         (T.fault_count tree.new) (T.trace tree.old) (T.trace tree.new)
-        (folder_of krate) (λ ears manifest. records_in (turn_with
-        (scanner_of_scan C.lists I.match_of scan.now) policy (map behind clarifications.now) krate ears manifest
+        (folder_of krate) (λ known_reads manifest. records_in (turn_with
+        (scanner_of_scan C.lists I.match_of scan.now) policy (map lent_clarification clarifications.now) krate known_reads manifest
         files.old))) }
     ensures points { IfOk result (λ taken. IfSome taken.location (λ at.
         PointsAt files.new at (field_text (record_of krate.now)))) }
     ensures grows { Grows files.old files.new }
 {
-    let settled = settle_licence(alloc, tree, scan, krate, clarifications, field)?;
+    let settled = settle_license(alloc, tree, scan, krate, clarifications, field)?;
     let located = locate_unless_clarified(alloc, tree, files, krate, &settled.by)?;
     let back = reads_of(alloc, located.read)?;
     let reads = joined(settled.reads, back)?;
@@ -215,7 +215,7 @@ fn take_files_first<T: Tree, I: Identifier, C: Catalog>(
 
 /// Whether no clarification is for a crate.
 fn is_nothing(clarifications: &[&ClarificationRef<'_>]) -> bool
-    ensures { result ≡ spec.is_nothing (map behind clarifications.now) }
+    ensures { result ≡ spec.is_nothing (map lent_clarification clarifications.now) }
 {
     clarifications.is_empty()
 }
@@ -236,14 +236,14 @@ pub(crate) fn take<T: Tree, I: Identifier, C: Catalog>(
     ensures answered { let krate = record_of krate.now in (policy : ℕ) → IfOk result (λ taken.
         IsByOwnReads (T.content tree.old) (T.content tree.new) (T.fault_count tree.old)
         (T.fault_count tree.new) (T.trace tree.old) (T.trace tree.new)
-        (folder_of krate) taken.reads (λ ears manifest. IsTaken (turn_with
-        (scanner_of_scan C.lists I.match_of scan.now) policy (map behind clarifications.now) krate ears manifest
+        (folder_of krate) taken.reads (λ known_reads manifest. IsTaken (turn_with
+        (scanner_of_scan C.lists I.match_of scan.now) policy (map lent_clarification clarifications.now) krate known_reads manifest
         files.old) taken files.new)) }
     ensures no_memory { let krate = record_of krate.now in (policy : ℕ) → OnErr result (
         StarvesTaking (T.content tree.old) (T.content tree.new) (T.fault_count tree.old)
         (T.fault_count tree.new) (T.trace tree.old) (T.trace tree.new)
-        (folder_of krate) (λ ears manifest. records_in (turn_with
-        (scanner_of_scan C.lists I.match_of scan.now) policy (map behind clarifications.now) krate ears manifest
+        (folder_of krate) (λ known_reads manifest. records_in (turn_with
+        (scanner_of_scan C.lists I.match_of scan.now) policy (map lent_clarification clarifications.now) krate known_reads manifest
         files.old))) }
     ensures points { IfOk result (λ taken. IfSome taken.location (λ at.
         PointsAt files.new at (field_text (record_of krate.now)))) }

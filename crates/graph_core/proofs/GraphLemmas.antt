@@ -4,7 +4,7 @@ use Rattle.std.specs.Option.{option_map_or}
 use Rattle.graph_core.specs.declared.krate.Krate.{Krate}
 use Rattle.graph_core.specs.declared.edge.Edge.{Edge}
 use Rattle.graph_core.specs.Graph.{graph_with}
-use Rattle.graph_core.specs.Krate.{Record, record_of, id_of}
+use Rattle.graph_core.specs.Krate.{CrateRecord, record_of, id_of}
 use Rattle.graph_core.specs.Metadata.{Graph, CrateNode, Link, nodes_of, crate_id_at, link_of, ids_of, id_of_node, link_in, edges_at, AreRising, ArePlaces, IsPlace, LeadWithin}
 
 pub krates-nodes : (all crates : List Krate) (lists : List (List Edge))

@@ -19,7 +19,7 @@ abbrev pub Version : Type 0
 Version = ℕ × ℕ × ℕ × List ℕ × List ℕ
 
 -- A crate without where it lies in memory. The features stand in the byte order of their names, each with what it turns on.
-pub record Record : Type 0 where
+pub record CrateRecord : Type 0 where
   pub name : List ℕ
   pub id : List ℕ
   pub version : Version
@@ -34,7 +34,7 @@ pub record Record : Type 0 where
   pub publish : Option (List (List ℕ))
   pub rust_version : Option (List ℕ)
 
-abbrev pub record_of : Krate → Record
+abbrev pub record_of : Krate → CrateRecord
 record_of krate = record {
   name = krate.name;
   id = krate.id;
@@ -63,7 +63,7 @@ pub krate_order_total : IsTotalOrder krate_order
 krate_order_total = on_total id_of nat_list_cmp_total
 
 -- the ids of crates
-abbrev pub ids_in : List Record → List (List ℕ)
+abbrev pub ids_in : List CrateRecord → List (List ℕ)
 ids_in crates = map (λ krate. krate.id) crates
 
 -- ---- what is said of a crate
@@ -92,5 +92,5 @@ abbrev pub is_registry : Option Source → Bool
 is_registry source = option_map_or sources.is_registry source false
 
 -- `{name} = {version}`
-abbrev pub title_of : Record → List ℕ
+abbrev pub title_of : CrateRecord → List ℕ
 title_of krate = krate.name ++ codes " = " ++ parts_text krate.version

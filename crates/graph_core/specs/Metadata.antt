@@ -7,7 +7,7 @@ use Rattle.std.specs.Cmp.Lexicographic.{slice_cmp}
 use Rattle.graph_core.specs.declared.krate.Krate.{Krate}
 use Rattle.graph_core.specs.declared.edge.Edge.{Edge}
 use Rattle.graph_core.specs.declared.edge.Kinds.{Kinds}
-use Rattle.graph_core.specs.Krate.{Record, record_of, id_of}
+use Rattle.graph_core.specs.Krate.{CrateRecord, record_of, id_of}
 
 abbrev pub no_kinds : Kinds
 no_kinds = record { normal = false; dev = false; build = false }
@@ -19,7 +19,7 @@ pub record Link : Type 0 where
 
 -- a crate with the edges that lead out of it, in order
 pub record CrateNode : Type 0 where
-  pub krate : Record
+  pub krate : CrateRecord
   pub edges : List Link
 
 -- The nodes in rising byte order of ids, the ids of the members in the order of the text, the root folder, and the id of

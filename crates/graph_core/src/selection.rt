@@ -7,6 +7,6 @@ pub mod selection;
 mod standing;
 
 pub use crate::{DepKind, Edge, Edges, Kinds, Krate, Metadata};
-pub use exclude::{ExcludeSpec, ExcludeSpecs, has_uncarried, read_specs};
+pub use exclude::{ExcludeSpec, ExcludeSpecs, has_unsupported, read_specs};
 pub use krates::{KrateRefs, Krates};
 pub use selection::{BuildError, Include, Selection};

@@ -10,7 +10,7 @@ use Rattle.std.proofs.lemmas.List.{length-map, get_or-set_same, get_or-set_other
 use Rattle.std.proofs.lemmas.Option.{slice_get-map, slice_get_within}
 use Rattle.graph_core.specs.declared.edge.Edge.{Edge}
 use Rattle.graph_core.specs.declared.krate.Krate.{Krate}
-use Rattle.graph_core.specs.Krate.{Record, record_of, id_of, ids_in}
+use Rattle.graph_core.specs.Krate.{CrateRecord, record_of, id_of, ids_in}
 use Rattle.graph_core.specs.Metadata.{FitTogether, LeadWithin, IsPlace, crate_id_at, link_of, nodes_of}
 use Rattle.graph_core.specs.Graph.{graph_with}
 use Rattle.graph_metadata.specs.declared.order.Spot.{Spot}
@@ -127,7 +127,7 @@ places-of : (firsts : IdPlaces) (es : List (List ℕ × ℕ)) → map spot_place
 places-of firsts [] = refl
 places-of firsts (e ∷ es) = ap (λ rest. e.1 ∷ rest) (places-of firsts es)
 
-same_id : (o : Option Krate) → unwrap_or (option_map id_of o) [] ≡ option_map_or (λ (krate : Record). krate.id) (option_map record_of o) []
+same_id : (o : Option Krate) → unwrap_or (option_map id_of o) [] ≡ option_map_or (λ (krate : CrateRecord). krate.id) (option_map record_of o) []
 same_id None = refl
 same_id (Some krate) = refl
 
@@ -157,7 +157,7 @@ all-every Q step (x ∷ xs) = (step x, all-every Q step xs)
 
 module _ (known firsts : IdPlaces) (crates : List Krate) (lists : List (List Edge)) (ranks : List ℕ)
     (located : AllEntries (HasIdAt (ids_in (map record_of crates))) (finmap.entries known))
-    (complete : (place : ℕ) (krate : Record) → slice_get (map record_of crates) place ≡ Some krate
+    (complete : (place : ℕ) (krate : CrateRecord) → slice_get (map record_of crates) place ≡ Some krate
     → finmap.get known krate.id ≡ Some place)
     (within : AllByRecursion (AllByRecursion (λ (edge : Edge). edge.to < length crates)) lists) where
   places : List ℕ
@@ -215,7 +215,7 @@ module _ (known firsts : IdPlaces) (crates : List Krate) (lists : List (List Edg
         ∙ (ap (λ o. unwrap_or (option_map id_of o) [])
         (at-crates_at crates (map spot_place (spots_of known firsts)) places-within (rank_at ranks place) place (rank-is place h))
         ∙ (same_id (slice_get crates place)
-        ∙ ap (λ o. option_map_or (λ (krate : Record). krate.id) o []) (sym (slice_get-map record_of crates place))))
+        ∙ ap (λ o. option_map_or (λ (krate : CrateRecord). krate.id) o []) (sym (slice_get-map record_of crates place))))
 
     links : (edges : List Edge) → AllByRecursion (λ (edge : Edge). edge.to < length crates) edges
         → map (link_of (crates_at crates (map spot_place (spots_of known firsts)))) (map (ranked_edge ranks) edges)
@@ -248,7 +248,7 @@ module _ (known firsts : IdPlaces) (crates : List Krate) (lists : List (List Edg
         subst (λ n. member.place < n) (length-map crates id_of) (slice_get_within (map id_of crates) member.place member.id stands) in (
           below,
           id-is member.place below
-              ∙ (ap (λ o. option_map_or (λ (krate : Record). krate.id) o []) (slice_get-map record_of crates member.place)
+              ∙ (ap (λ o. option_map_or (λ (krate : CrateRecord). krate.id) o []) (slice_get-map record_of crates member.place)
               ∙ (sym (same_id (slice_get crates member.place))
               ∙ ap (λ o. unwrap_or o []) (sym (slice_get-map id_of crates member.place) ∙ stands))),
         )

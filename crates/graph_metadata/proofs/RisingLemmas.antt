@@ -6,7 +6,7 @@ use Rattle.std.proofs.lemmas.Option.{slice_get-map}
 use Rattle.serde_json.specs.Data.{Data}
 use Rattle.serde_json.specs.Read.{read}
 use Rattle.graph_core.specs.declared.edge.Edge.{Edge}
-use Rattle.graph_core.specs.Krate.{Record, ids_in}
+use Rattle.graph_core.specs.Krate.{CrateRecord, ids_in}
 use Rattle.graph_core.specs.Metadata.{Graph, CrateNode, AreRising, ids_of}
 use Rattle.graph_metadata.specs.Records.{MetadataRows, edges_of_node, graph_of, link_to, graph_node_at, metadata_of, rows_in, spot_of, told_graph}
 use Rattle.graph_metadata.specs.Shape.{IdPlaces}
@@ -15,9 +15,9 @@ use Rattle.graph_metadata.specs.Told.{MetadataReading}
 use Rattle.graph_metadata.proofs.EntryLemmas.{AllEntries, keys-rise, none_some, same_some}
 use Rattle.graph_metadata.proofs.SoundLemmas.{sound}
 
-module _ (firsts : IdPlaces) (crates : List Record) (lists : List (List Edge)) where
+module _ (firsts : IdPlaces) (crates : List CrateRecord) (lists : List (List Edge)) where
   -- a crate that stands at its place has a node with its id
-  id-first : (krate : Option Record) (node : Option ℕ) (id : List ℕ) → option_map (λ one. one.id) krate ≡ Some id → (rest : List CrateNode)
+  id-first : (krate : Option CrateRecord) (node : Option ℕ) (id : List ℕ) → option_map (λ one. one.id) krate ≡ Some id → (rest : List CrateNode)
       → map (λ one. one.krate.id) (cons_option (option_map (λ one. record { krate = one; edges = map (link_to crates) (edges_of_node lists node) }) krate) rest)
       ≡ id ∷ map (λ one. one.krate.id) rest
   id-first None node id e rest = absurd (none_some id e)
@@ -27,7 +27,7 @@ module _ (firsts : IdPlaces) (crates : List Record) (lists : List (List Edge)) w
       → map (λ one. one.krate.id) (filter_map (graph_node_at crates lists) (map (spot_of firsts) es)) ≡ map (λ e. e.0) es
   ids-nodes [] h = refl
   ids-nodes (e ∷ es) h =
-      id-first (slice_get crates e.1) (finmap.get firsts e.0) e.0 (sym (slice_get-map (λ (one : Record). one.id) crates e.1) ∙ h.0)
+      id-first (slice_get crates e.1) (finmap.get firsts e.0) e.0 (sym (slice_get-map (λ (one : CrateRecord). one.id) crates e.1) ∙ h.0)
       (filter_map (graph_node_at crates lists) (map (spot_of firsts) es))
       ∙ ap (λ rest. e.0 ∷ rest) (ids-nodes es h.1)
 

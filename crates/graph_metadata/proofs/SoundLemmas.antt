@@ -8,7 +8,7 @@ use Rattle.std.proofs.lemmas.List.{length-map}
 use Rattle.std.proofs.lemmas.Option.{slice_get-map, slice_get_within}
 use Rattle.serde_json.specs.Data.{Data, null, boolean, number, string, array, object, Items, no_items, item}
 use Rattle.graph_core.specs.declared.edge.Edge.{Edge}
-use Rattle.graph_core.specs.Krate.{Record, ids_in}
+use Rattle.graph_core.specs.Krate.{CrateRecord, ids_in}
 use Rattle.graph_metadata.specs.declared.fault.MetaFault.{MetaFault}
 use Rattle.graph_metadata.specs.declared.fault.MetaReason.TheVariants.{RepeatedId}
 use Rattle.graph_metadata.specs.declared.fault.ObjectPlace.TheVariants.{Package, Root, Resolve, Dep}
@@ -18,7 +18,7 @@ use Rattle.graph_metadata.specs.Packages.{PackageKeys, id_row, manifest_row, ver
 use Rattle.graph_metadata.specs.Records.{MetadataRows, rows_in}
 use Rattle.graph_metadata.specs.Shape.{IdPlaces, object_here, text_from, text_at, text_here, list_at, optional_text_at, id_from, id_of_item, with_place, known_in, known_of, known_from, known_place, new_from}
 use Rattle.graph_metadata.specs.Sound.{HasIdAt, AreSound}
-use Rattle.graph_metadata.specs.Told.{MetadataReading, ◌>>=◌, each, items_in, meta_fault, object_place_text, key_place, item_place}
+use Rattle.graph_metadata.specs.Told.{MetadataReading, ◌>>=◌, reading_of_each, items_in, meta_fault, object_place_text, key_place, item_place}
 use Rattle.graph_metadata.proofs.EntryLemmas.{by_bytes, AllEntries, all-put, all-find, all-weaker, none_some, same_some}
 
 -- ---- one step after another
@@ -47,22 +47,22 @@ module _ {A V : Type 0} (row : ℕ → A → MetadataReading V) where
     told : V
     others : List V
     head : row i first ≡ Ok told
-    tail : each row (i + 1) rest ≡ Ok others
+    tail : reading_of_each row (i + 1) rest ≡ Ok others
     is : all ≡ told ∷ others
 
-  split : (i : ℕ) (first : A) (rest : List A) (all : List V) → each row i (first ∷ rest) ≡ Ok all → Split i first rest all
-  unfolding each
+  split : (i : ℕ) (first : A) (rest : List A) (all : List V) → reading_of_each row i (first ∷ rest) ≡ Ok all → Split i first rest all
+  unfolding reading_of_each
   split i first rest all e =
-      let one = went (row i first) (λ told. each row (i + 1) rest >>= (λ others. Ok (told ∷ others))) all e in
-      let two = went (each row (i + 1) rest) (λ others. Ok (one.0 ∷ others)) all one.2 in
+      let one = went (row i first) (λ told. reading_of_each row (i + 1) rest >>= (λ others. Ok (told ∷ others))) all e in
+      let two = went (reading_of_each row (i + 1) rest) (λ others. Ok (one.0 ∷ others)) all one.2 in
       record { told = one.0; others = two.0; head = one.1; tail = two.1; is = sym (same_ok (one.0 ∷ two.0) all two.2) }
 
-  none : (i : ℕ) (all : List V) → each row i [] ≡ Ok all → all ≡ []
-  unfolding each
+  none : (i : ℕ) (all : List V) → reading_of_each row i [] ≡ Ok all → all ≡ []
+  unfolding reading_of_each
   none i all e = sym (same_ok [] all e)
 
   -- each item is told, and each that is told is of an item
-  pub each-at : (i : ℕ) (xs : List A) (ys : List V) → each row i xs ≡ Ok ys → (j : ℕ) (x : A) → slice_get xs j ≡ Some x
+  pub each-at : (i : ℕ) (xs : List A) (ys : List V) → reading_of_each row i xs ≡ Ok ys → (j : ℕ) (x : A) → slice_get xs j ≡ Some x
       → (y : V) × (slice_get ys j ≡ Some y) × (row (i + j) x ≡ Ok y)
   each-at i [] ys e j x at = absurd (none_some x at)
   each-at i (first ∷ rest) ys e zero x at =
@@ -73,7 +73,7 @@ module _ {A V : Type 0} (row : ℕ → A → MetadataReading V) where
       let later = each-at (i + 1) rest parts.others parts.tail j x at in
       (later.0, ap (λ all. slice_get all (suc j)) parts.is ∙ later.1, ap (λ n. row n x) (omega arith) ∙ later.2)
 
-  pub each-from : (i : ℕ) (xs : List A) (ys : List V) → each row i xs ≡ Ok ys → (j : ℕ) (y : V) → slice_get ys j ≡ Some y
+  pub each-from : (i : ℕ) (xs : List A) (ys : List V) → reading_of_each row i xs ≡ Ok ys → (j : ℕ) (y : V) → slice_get ys j ≡ Some y
       → (x : A) × (row (i + j) x ≡ Ok y)
   each-from i [] ys e j y at = absurd (none_some y (ap (λ all. slice_get all j) (sym (none i ys e)) ∙ at))
   each-from i (first ∷ rest) ys e zero y at =
@@ -86,7 +86,7 @@ module _ {A V : Type 0} (row : ℕ → A → MetadataReading V) where
       (later.0, ap (λ n. row n later.0) (omega arith) ∙ later.1)
 
   pub each-all : (P : A → Type 0) (Q : V → Type 0) → ((i : ℕ) (x : A) (y : V) → P x → row i x ≡ Ok y → Q y)
-      → (i : ℕ) (xs : List A) (ys : List V) → AllByRecursion P xs → each row i xs ≡ Ok ys → AllByRecursion Q ys
+      → (i : ℕ) (xs : List A) (ys : List V) → AllByRecursion P xs → reading_of_each row i xs ≡ Ok ys → AllByRecursion Q ys
   each-all P Q step i [] ys all e = subst (AllByRecursion Q) (sym (none i ys e)) tt
   each-all P Q step i (first ∷ rest) ys all e =
       let parts = split i first rest ys e in
@@ -151,7 +151,7 @@ named_id known index found named e =
     two.1 ∙ ap Ok (ap (λ named. named.id) (same_ok _ named four.2))
 
 -- a package is known by its id, at its place
-pub package_is : (sparse_dir : List ℕ) (known : IdPlaces) (index : ℕ) (found : Data) (krate : Record)
+pub package_is : (sparse_dir : List ℕ) (known : IdPlaces) (index : ℕ) (found : Data) (krate : CrateRecord)
     → package_row sparse_dir known index found ≡ Ok krate
     → (id_of_item found ≡ Some krate.id) × (finmap.get known krate.id ≡ Some index)
 unfolding package_row
@@ -210,7 +210,7 @@ some_of_map f [] i y e = absurd (none_some y e)
 some_of_map f (x ∷ xs) zero y e = (x, refl, same_some (f x) y e)
 some_of_map f (x ∷ xs) (suc i) y e = some_of_map f xs i y e
 
-module _ (sparse_dir : List ℕ) (packages : Items) (crates : List Record)
+module _ (sparse_dir : List ℕ) (packages : Items) (crates : List CrateRecord)
     (told : packages_in sparse_dir (known_of packages) packages ≡ Ok crates) where
   stands : (id : List ℕ) (place : ℕ) → slice_get (map id_of_item (items_in packages)) place ≡ Some (Some id)
       → HasIdAt (ids_in crates) id place
@@ -224,7 +224,7 @@ module _ (sparse_dir : List ℕ) (packages : Items) (crates : List Record)
   pub located : AllEntries (HasIdAt (ids_in crates)) (finmap.entries (known_of packages))
   located = all-weaker _ _ stands (finmap.entries (known_of packages)) (known-has packages)
 
-  pub complete : (place : ℕ) (krate : Record) → slice_get crates place ≡ Some krate
+  pub complete : (place : ℕ) (krate : CrateRecord) → slice_get crates place ≡ Some krate
       → finmap.get (known_of packages) krate.id ≡ Some place
   complete place krate at =
       let one = each-from (package_row sparse_dir (known_of packages)) 0 (items_in packages) crates told place krate at in
@@ -336,7 +336,7 @@ every-weaker : {A : Type 0} (P Q : A → Type 0) → ((x : A) → P x → Q x) �
 every-weaker P Q step [] h = tt
 every-weaker P Q step (x ∷ xs) h = (step x h.0, every-weaker P Q step xs h.1)
 
-sound_with : (sparse_dir : List ℕ) (root : RootTold) (crates : List Record) (resolve : ResolveTold) (nodes : NodesTold)
+sound_with : (sparse_dir : List ℕ) (root : RootTold) (crates : List CrateRecord) (resolve : ResolveTold) (nodes : NodesTold)
     (edges : List (List Edge)) → RootIs root → packages_in sparse_dir root.known root.packages ≡ Ok crates
     → IfSome resolve.root (Reaches root.known) → AllByRecursion (AllByRecursion (λ edge. Reaches root.known edge.to)) edges
     → AreSound (record { root = root; crates = crates; resolve = resolve; nodes = nodes; edges = edges })
@@ -352,7 +352,7 @@ sound_with sparse_dir root crates resolve nodes edges is packages told reach =
     record {
       located = subst (λ known. AllEntries (HasIdAt (ids_in crates)) (finmap.entries known)) (sym is.known)
           (located sparse_dir root.packages crates known);
-      complete = subst (λ known. (place : ℕ) (krate : Record) → slice_get crates place ≡ Some krate
+      complete = subst (λ known. (place : ℕ) (krate : CrateRecord) → slice_get crates place ≡ Some krate
           → finmap.get known krate.id ≡ Some place) (sym is.known) (complete sparse_dir root.packages crates known);
       members = every-weaker (λ (m : Member). finmap.get root.known m.id ≡ Some m.place)
           (λ (m : Member). HasIdAt (ids_in crates) m.id m.place) (λ m e. lead m.id m.place e) root.members is.members;

@@ -12,7 +12,7 @@ use Rattle.graph_metadata.specs.declared.fault.MetaReason.TheVariants.{Missing, 
 use Rattle.graph_metadata.specs.declared.fault.ObjectPlace.{ObjectPlace}
 use Rattle.graph_metadata.specs.declared.fault.ObjectPlace.TheVariants.{Root, Resolve, Node, Dep, Kind}
 use Rattle.graph_metadata.specs.Shape.{object_here, text_at, text_here, optional_text_at, list_at, list_or_empty_at, IdPlaces, known_of, known_place, new_from}
-use Rattle.graph_metadata.specs.Told.{MetadataReading, ◌>>=◌, each, each_item, meta_fault, object_place_text, key_place, item_place}
+use Rattle.graph_metadata.specs.Told.{MetadataReading, ◌>>=◌, reading_of_each, each_item, meta_fault, object_place_text, key_place, item_place}
 
 -- ---- the root
 
@@ -131,7 +131,7 @@ deps_in known i node = each_item (dep_row known i) node.deps
 
 -- the dependencies of all nodes
 abbrev pub all_deps : IdPlaces → List NodeTold → MetadataReading (List (List DepTold))
-all_deps known nodes = each (deps_in known) 0 nodes
+all_deps known nodes = reading_of_each (deps_in known) 0 nodes
 
 -- ---- kinds
 
@@ -175,8 +175,8 @@ edge_row i j dep = do
   Ok (record { to = dep.to; kinds = kinds })
 
 abbrev pub edges_in : ℕ → List DepTold → MetadataReading (List Edge)
-edges_in i deps = each (edge_row i) 0 deps
+edges_in i deps = reading_of_each (edge_row i) 0 deps
 
 -- the edges of all nodes
 abbrev pub all_edges : List (List DepTold) → MetadataReading (List (List Edge))
-all_edges lists = each edges_in 0 lists
+all_edges lists = reading_of_each edges_in 0 lists

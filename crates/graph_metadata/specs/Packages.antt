@@ -11,7 +11,7 @@ use Rattle.graph_core.specs.declared.source.source.Source.{Source}
 use Rattle.graph_core.specs.source.Reading.{SourceReading, source_of}
 use Rattle.graph_metadata.specs.declared.fault.MetaReason.TheVariants.{WrongKind, BadVersion, NoFolder}
 use Rattle.graph_metadata.specs.declared.fault.ObjectPlace.TheVariants.{Package, Features}
-use Rattle.graph_core.specs.Krate.{Record, Version}
+use Rattle.graph_core.specs.Krate.{CrateRecord, Version}
 use Rattle.graph_metadata.specs.Shape.{object_here, text_at, optional_text_at, texts_or_empty_at, optional_texts_at, texts_in, IdPlaces, new_from}
 use Rattle.graph_metadata.specs.Told.{MetadataReading, ◌>>=◌, each_item, meta_fault, object_place_text, key_place}
 
@@ -132,7 +132,7 @@ listed_row index found = do
   Ok (record { authors = authors; features = features; publish = publish })
 
 -- a crate of the three
-abbrev pub record_with : PackageKeys → PackageTexts → PackageLists → Record
+abbrev pub record_with : PackageKeys → PackageTexts → PackageLists → CrateRecord
 record_with named described listed = record {
   name = named.name;
   id = named.id;
@@ -149,7 +149,7 @@ record_with named described listed = record {
   rust_version = described.rust_version;
 }
 
-unfoldable pub package_row : List ℕ → IdPlaces → ℕ → Data → MetadataReading Record
+unfoldable pub package_row : List ℕ → IdPlaces → ℕ → Data → MetadataReading CrateRecord
 package_row sparse_dir known index found = do
   value ← object_here (object_place_text (Package index)) found
   named ← named_row known index value
@@ -158,5 +158,5 @@ package_row sparse_dir known index found = do
   Ok (record_with named described listed)
 
 -- the packages in list order
-abbrev pub packages_in : List ℕ → IdPlaces → Items → MetadataReading (List Record)
+abbrev pub packages_in : List ℕ → IdPlaces → Items → MetadataReading (List CrateRecord)
 packages_in sparse_dir known packages = each_item (package_row sparse_dir known) packages

@@ -10,7 +10,7 @@ use Rattle.graph_metadata.specs.declared.order.Spot.{Spot}
 use Rattle.graph_metadata.specs.declared.fault.MetaError.{MetaError}
 use Rattle.graph_metadata.specs.declared.fault.MetaError.TheVariants.{Syntax, Shape, Memory}
 use Rattle.graph_metadata.specs.Floats.{unless_float}
-use Rattle.graph_core.specs.Krate.{Record}
+use Rattle.graph_core.specs.Krate.{CrateRecord}
 use Rattle.graph_core.specs.Metadata.{Graph, CrateNode, Link}
 use Rattle.graph_metadata.specs.Nodes.{RootTold, ResolveTold, NodesTold, root_row, resolve_row, nodes_read, all_deps, all_edges}
 use Rattle.graph_metadata.specs.Packages.{packages_in}
@@ -20,7 +20,7 @@ use Rattle.graph_metadata.specs.Told.{MetadataReading, ◌>>=◌}
 -- what all rows tell
 pub record MetadataRows : Type 0 where
   pub root : RootTold
-  pub crates : List Record
+  pub crates : List CrateRecord
   pub resolve : ResolveTold
   pub nodes : NodesTold
   pub edges : List (List Edge)
@@ -36,11 +36,11 @@ abbrev pub spots_of : IdPlaces → IdPlaces → List Spot
 spots_of known firsts = map (spot_of firsts) (finmap.entries known)
 
 -- the id of the package at a place
-abbrev pub id_of_package : List Record → ℕ → List ℕ
+abbrev pub id_of_package : List CrateRecord → ℕ → List ℕ
 id_of_package crates place = option_map_or (λ krate. krate.id) (slice_get crates place) []
 
 -- an edge by the id of the package at its place
-abbrev pub link_to : List Record → Edge → Link
+abbrev pub link_to : List CrateRecord → Edge → Link
 link_to crates edge = record { to = id_of_package crates edge.to; kinds = edge.kinds }
 
 -- the edges of a node; none without one
@@ -48,7 +48,7 @@ abbrev pub edges_of_node : List (List Edge) → Option ℕ → List Edge
 edges_of_node lists None = []
 edges_of_node lists (Some node) = unwrap_or (slice_get lists node) []
 
-abbrev pub graph_node_at : List Record → List (List Edge) → Spot → Option CrateNode
+abbrev pub graph_node_at : List CrateRecord → List (List Edge) → Spot → Option CrateNode
 graph_node_at crates lists spot =
     option_map (λ krate. record { krate = krate; edges = map (link_to crates) (edges_of_node lists spot.node) })
     (slice_get crates spot.place)

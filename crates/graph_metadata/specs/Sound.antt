@@ -2,7 +2,7 @@
 use Rattle.std.specs.Prelude.{◌≡◌, ℕ, ◌<◌, List, [], ◌∷◌, length, slice_get, Some, IfSome}
 use Rattle.std.specs.List.{AllByRecursion}
 use Rattle.std.specs.FinMap as finmap
-use Rattle.graph_core.specs.Krate.{Record, ids_in}
+use Rattle.graph_core.specs.Krate.{CrateRecord, ids_in}
 use Rattle.graph_metadata.specs.Records.{MetadataRows}
 
 -- the crate at a place has this id
@@ -16,7 +16,7 @@ AreApart (place ∷ places) = AllByRecursion (λ other. other ≡ place → ⊥)
 
 pub record AreSound (rows : MetadataRows) : Type 0 where
   pub located : AllByRecursion (λ entry. HasIdAt (ids_in rows.crates) entry.0 entry.1) (finmap.entries rows.root.known)
-  pub complete : (place : ℕ) (krate : Record) → slice_get rows.crates place ≡ Some krate
+  pub complete : (place : ℕ) (krate : CrateRecord) → slice_get rows.crates place ≡ Some krate
       → finmap.get rows.root.known krate.id ≡ Some place
   pub members : AllByRecursion (λ member. HasIdAt (ids_in rows.crates) member.id member.place) rows.root.members
   pub root : IfSome rows.resolve.root (λ place. place < length rows.crates)

@@ -24,11 +24,11 @@ abbrev pub ◌>>=◌ : {A B : Type 0} → MetadataReading A → (A → MetadataR
 -- ---- lists
 
 -- What is told of each item of a list, from the one at this index on. The first item with a fault tells it.
-unfoldable pub each : {A T : Type 0} → (ℕ → A → MetadataReading T) → ℕ → List A → MetadataReading (List T)
-each row index [] = Ok []
-each row index (first ∷ rest) = do
+unfoldable pub reading_of_each : {A T : Type 0} → (ℕ → A → MetadataReading T) → ℕ → List A → MetadataReading (List T)
+reading_of_each row index [] = Ok []
+reading_of_each row index (first ∷ rest) = do
   told ← row index first
-  others ← each row (index + 1) rest
+  others ← reading_of_each row (index + 1) rest
   Ok (told ∷ others)
 
 -- the items of a list of JSON
@@ -37,7 +37,7 @@ items_in no_items = []
 items_in (item first rest) = first ∷ items_in rest
 
 abbrev pub each_item : {T : Type 0} → (ℕ → Data → MetadataReading T) → Items → MetadataReading (List T)
-each_item row items = each row 0 (items_in items)
+each_item row items = reading_of_each row 0 (items_in items)
 
 -- ---- places
 

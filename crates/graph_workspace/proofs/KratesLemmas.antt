@@ -10,7 +10,7 @@ use Rattle.graph_metadata.specs.Told.{MetadataReading}
 use Rattle.graph_core.specs.declared.selection.selection.BuildError.{BuildError}
 use Rattle.graph_core.specs.declared.selection.selection.BuildError.TheVariants as build
 use Rattle.graph_core.specs.selection.Choice.{Choice}
-use Rattle.graph_core.specs.selection.Listed.{Chosen}
+use Rattle.graph_core.specs.selection.Listed.{ReachedCrates}
 use Rattle.graph_core.specs.selection.Roots as roots
 use Rattle.tree_core.specs.declared.texts.fault.ReadFault.{ReadFault}
 use Rattle.tree_core.specs.declared.texts.fault.ReadFault.TheVariants.{Failed, Absent, Folder, NotUtf8}
@@ -81,7 +81,7 @@ read_fault (Ok text) fault e = absurd (read_told (metadata_of text sparse_dir) f
 read_fault (Err other) fault e = ap Err (same_fault other fault e)
 
 -- a failed read has the counts of the step
-pub krates_counts : (choice : Choice) (begun before after : ℕ) (heard : Result (List ℕ) ReadFault) (result : Result Chosen KratesError)
+pub krates_counts : (choice : Choice) (begun before after : ℕ) (heard : Result (List ℕ) ReadFault) (result : Result ReachedCrates KratesError)
     → ReadCounts begun before after (heard_cause heard) → AreFrom choice heard result → IfErr result (λ error. ReadCounts begun before after (krates_cause error))
 krates_counts choice begun before after heard (Ok chosen) counts from = tt
 krates_counts choice begun before after heard (Err Memory) counts from = tt
@@ -97,7 +97,7 @@ krates_counts choice begun before after heard (Err (NoRoots base excluded unpubl
 
 -- ---- by the answer of the read
 
-pub gathered_by : (choice : Choice) (begun after : ℕ) (old new : List Call) (path : List ℕ) (heard : Result (List ℕ) ReadFault) (result : Result Chosen KratesError)
+pub gathered_by : (choice : Choice) (begun after : ℕ) (old new : List Call) (path : List ℕ) (heard : Result (List ℕ) ReadFault) (result : Result ReachedCrates KratesError)
     → IsTextRead begun after old new path heard → AreFrom choice heard result → GathersBy choice begun after old new path result
 gathered_by choice begun after old new path heard (Ok chosen) read from = record { heard = heard; read = read; from = from }
 gathered_by choice begun after old new path heard (Err Memory) read from = (read.answer, read.made)

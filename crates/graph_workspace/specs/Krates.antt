@@ -9,7 +9,7 @@ use Rattle.graph_metadata.specs.Told.{MetadataReading}
 use Rattle.graph_core.specs.declared.selection.selection.BuildError.{BuildError}
 use Rattle.graph_core.specs.declared.selection.selection.BuildError.TheVariants as build
 use Rattle.graph_core.specs.selection.Choice.{Choice}
-use Rattle.graph_core.specs.selection.Listed.{Chosen, IsChosen}
+use Rattle.graph_core.specs.selection.Listed.{ReachedCrates, IsChosen}
 use Rattle.graph_core.specs.selection.Roots.{HasRoot, LacksRoots}
 use Rattle.tree_core.specs.declared.texts.fault.ReadFault.{ReadFault}
 use Rattle.tree_core.specs.declared.texts.fault.ReadFault.TheVariants.{Failed}
@@ -63,7 +63,7 @@ AnswersGraph asked result = asked ≡ result
 -- ---- the crates that a choice reaches in it
 
 -- the crates that a choice reaches in the graph that is told
-pub record AreReached (choice : Choice) (asked : Result Graph KratesError) (chosen : Chosen) : Type 0 where
+pub record AreReached (choice : Choice) (asked : Result Graph KratesError) (chosen : ReachedCrates) : Type 0 where
   pub graph : Graph
   pub tells : asked ≡ Ok graph
   pub rooted : HasRoot graph choice
@@ -76,24 +76,24 @@ pub record AreRootless (choice : Choice) (asked : Result Graph KratesError) (bas
   pub lacks : LacksRoots graph choice base excluded unpublished
 
 -- the crates, or why there are none; want of memory may come in the place of any answer
-abbrev pub AreOf : Choice → Result Graph KratesError → Result Chosen KratesError → Type 0
+abbrev pub AreOf : Choice → Result Graph KratesError → Result ReachedCrates KratesError → Type 0
 AreOf choice asked (Ok chosen) = AreReached choice asked chosen
 AreOf choice asked (Err Memory) = Unit {0}
 AreOf choice asked (Err (NoRoots base excluded unpublished)) = AreRootless choice asked base excluded unpublished
 AreOf choice asked (Err error) = asked ≡ Err error
 
-abbrev pub AreFrom : Choice → Result (List ℕ) ReadFault → Result Chosen KratesError → Type 0
+abbrev pub AreFrom : Choice → Result (List ℕ) ReadFault → Result ReachedCrates KratesError → Type 0
 AreFrom choice heard result = AreOf choice (graph_in heard) result
 
 -- ---- the crates that are gathered from a tree, by what it answered
 
 -- one call was made, the read of the path; what its answer lets hear, and the crates from it
-pub record AreKratesRead (choice : Choice) (begun after : ℕ) (old new : List Call) (path : List ℕ) (result : Result Chosen KratesError) : Type 0 where
+pub record AreKratesRead (choice : Choice) (begun after : ℕ) (old new : List Call) (path : List ℕ) (result : Result ReachedCrates KratesError) : Type 0 where
   pub heard : Result (List ℕ) ReadFault
   pub read : IsTextRead begun after old new path heard
   pub from : AreFrom choice heard result
 
 -- the same, unless memory was refused: then the read was made too, whatever was answered
-abbrev pub GathersBy : Choice → ℕ → ℕ → List Call → List Call → List ℕ → Result Chosen KratesError → Type 0
+abbrev pub GathersBy : Choice → ℕ → ℕ → List Call → List Call → List ℕ → Result ReachedCrates KratesError → Type 0
 GathersBy choice begun after old new path (Err Memory) = (answer : CallAnswer) × (new ≡ old ++ read_of path answer ∷ [])
 GathersBy choice begun after old new path result = AreKratesRead choice begun after old new path result

@@ -10,7 +10,7 @@ use tree_core::texts::ReadFault;
 
 /// What a request asks for that is not carried.
 #[derive(Clone, Copy, Debug, PartialEq, Eq)]
-pub enum What {
+pub enum UnsupportedPart {
     /// Metadata from no file: it has no path.
     MetadataPath,
     /// A check that is not the one of licences, or all checks.
@@ -31,7 +31,7 @@ pub enum What {
 #[derive(Debug, Drop)]
 pub enum KratesError {
     Memory,
-    NotCarried(What),
+    NotCarried(UnsupportedPart),
     /// The metadata was not read.
     MetadataRead(ReadFault),
     /// The metadata is no JSON.

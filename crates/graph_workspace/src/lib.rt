@@ -4,7 +4,7 @@
 pub mod error;
 pub mod krates;
 
-pub use error::{KratesError, What};
+pub use error::{KratesError, UnsupportedPart};
 pub use graph_core::Krate;
 pub use graph_core::selection::{ExcludeSpec, ExcludeSpecs, Include, KrateRefs, Krates, Selection};
 pub use graph_metadata::{MetaFault, MetaReason};

@@ -2,7 +2,7 @@
 use Rattle.std.specs.Prelude.{ℕ, Bool, nat_lt, ◌==◌, ◌||◌, List, [], ◌∷◌, ◌++◌, codes, flat_map, if◌then◌else◌}
 use Rattle.deny_text.specs.Hash.{xxh32_of}
 use Rattle.deny_text.specs.Normal.{normal_of}
-use Rattle.diag_core.specs.texts.Manifest.{filled, hash_text}
+use Rattle.diag_core.specs.texts.Manifest.{padded_digits, hash_text}
 
 -- a byte that stands in a basic string by an escape alone: a control character, the quote and the backslash (TOML 1.0: String)
 abbrev pub is_special : ℕ → Bool
@@ -10,7 +10,7 @@ is_special byte = nat_lt byte 32 || byte == 34 || byte == 92 || byte == 127
 
 -- a byte in a string
 abbrev pub in_string : ℕ → List ℕ
-in_string byte = if is_special byte then codes "\\u00" ++ filled 16 2 byte else byte ∷ []
+in_string byte = if is_special byte then codes "\\u00" ++ padded_digits 16 2 byte else byte ∷ []
 
 -- the string that means a text
 unfoldable pub string_of : List ℕ → List ℕ

@@ -8,7 +8,7 @@ use Rattle.diag_core.specs.declared.diagnostic.Diagnostic.{Diagnostic}
 use Rattle.toml_subset.specs.Reading.{read_text}
 use Rattle.policy_core.specs.declared.valid.policy.ValidConfig.{ValidConfig}
 use Rattle.policy_core.specs.declared.valid.policy.ValidException.{ValidException}
-use Rattle.policy_core.specs.ExceptionsText.{Answer, HadMemory, ReadsBy, answer_exceptions, diagnostics_of}
+use Rattle.policy_core.specs.ExceptionsText.{ExceptionsAnswer, HadMemory, ReadsBy, answer_exceptions, diagnostics_of}
 use Rattle.policy_core.specs.Heard.{LoadState, after_exceptions}
 use Rattle.policy_core.specs.declared.exceptions.ExceptionsHeard.TheVariants.{Heard}
 use Rattle.policy_core.proofs.ExceptionLemmas.{text_taken}
@@ -16,7 +16,7 @@ use Rattle.policy_core.proofs.ExceptionLemmas.{text_taken}
 abbrev Done : Type 0
 Done = Result (Unit {0}) AllocError
 
-pub taken : (result : Done) (lists : CatalogLists) (path text : List ℕ) (file : ℕ) (answer : Answer) (policy : ValidConfig) (files : List File) (found : List Diagnostic)
+pub taken : (result : Done) (lists : CatalogLists) (path text : List ℕ) (file : ℕ) (answer : ExceptionsAnswer) (policy : ValidConfig) (files : List File) (found : List Diagnostic)
     (exceptions : List ValidException) (more : List File) (further : List Diagnostic)
     → OnOk result (HadMemory answer) → OnOk result (exceptions ≡ policy.exceptions ++ answer_exceptions file answer) → OnOk result (further ≡ found ++ diagnostics_of file answer)
     → ReadsBy lists (read_text text) answer → file ≡ length files

@@ -12,7 +12,7 @@ use Rattle.policy_core.specs.Findings.{absence_finding, moved_key_finding, targe
 use Rattle.policy_core.specs.Policy.{FileNumbers, empty_table, policy_of_files}
 
 abbrev lists : CatalogLists
-lists = record { licences = []; exceptions = []; imprecise = [] }
+lists = record { licenses = []; exceptions = []; imprecise = [] }
 
 abbrev numbers : FileNumbers
 numbers = record { policy = 0; exceptions = 1 }

@@ -11,7 +11,7 @@ use Rattle.toml_subset.specs.shapes.Shaped.{faults_in}
 use Rattle.policy_core.specs.declared.valid.policy.ValidConfig.{ValidConfig}
 use Rattle.policy_core.specs.declared.valid.policy.ValidException.{ValidException}
 use Rattle.policy_core.specs.Exceptions.{HasMoreExceptions, valid_exceptions_in, exceptions_kept, exceptions_findings, with_exceptions, shape_diagnostic, syntax_finding}
-use Rattle.policy_core.specs.ExceptionsText.{Answer, HadMemory, ReadsBy, answer_exceptions, diagnostics_of}
+use Rattle.policy_core.specs.ExceptionsText.{ExceptionsAnswer, HadMemory, ReadsBy, answer_exceptions, diagnostics_of}
 use Rattle.policy_core.specs.Heard.{LoadState, after_exceptions, value_or_fault}
 use Rattle.policy_core.specs.declared.exceptions.ExceptionsHeard.TheVariants.{Heard}
 use Rattle.policy_core.specs.declared.exceptions_text.NoExceptions.TheVariants.{Syntax, Shape, Memory}
@@ -25,7 +25,7 @@ pub no_more_exceptions : (policy : ValidConfig) → HasMoreExceptions policy pol
 no_more_exceptions policy = more_exceptions policy policy.exceptions [] (sym (append-nil policy.exceptions))
 
 -- what is kept of a text is what is kept of the answer
-pub kept_is : (lists : CatalogLists) (file : ℕ) (read : TomlReading Toml) (answer : Answer) → ReadsBy lists read answer → HadMemory answer
+pub kept_is : (lists : CatalogLists) (file : ℕ) (read : TomlReading Toml) (answer : ExceptionsAnswer) → ReadsBy lists read answer → HadMemory answer
     → exceptions_kept lists file (value_or_fault read) ≡ answer_exceptions file answer
 kept_is lists file (Ok toml) (Ok held) reads is = ap (valid_exceptions_in file) reads
 kept_is lists file (Ok toml) (Err (Syntax place)) reads is = absurd reads
@@ -37,7 +37,7 @@ kept_is lists file (Err fault) (Err (Shape faults)) reads is = absurd reads
 kept_is lists file (Err fault) (Err Memory) reads is = absurd is
 
 -- and so is what is told
-pub told_is : (lists : CatalogLists) (file : ℕ) (read : TomlReading Toml) (answer : Answer) → ReadsBy lists read answer → HadMemory answer
+pub told_is : (lists : CatalogLists) (file : ℕ) (read : TomlReading Toml) (answer : ExceptionsAnswer) → ReadsBy lists read answer → HadMemory answer
     → exceptions_findings lists file (value_or_fault read) ≡ diagnostics_of file answer
 told_is lists file (Ok toml) (Ok held) reads is = ap (λ shaped. map (shape_diagnostic file) (faults_in shaped)) reads
 told_is lists file (Ok toml) (Err (Syntax place)) reads is = absurd reads
@@ -54,7 +54,7 @@ state_is : (policy other : ValidConfig) (files more : List File) (found further 
 state_is policy other files more found further p f d = λ i. record { policy = p i; files = f i; found = d i }
 
 -- the state behind a text that was heard and read
-pub text_taken : (lists : CatalogLists) (path text : List ℕ) (file : ℕ) (answer : Answer) (policy : ValidConfig) (files : List File) (found : List Diagnostic)
+pub text_taken : (lists : CatalogLists) (path text : List ℕ) (file : ℕ) (answer : ExceptionsAnswer) (policy : ValidConfig) (files : List File) (found : List Diagnostic)
     (exceptions : List ValidException) (more : List File) (further : List Diagnostic)
     → ReadsBy lists (read_text text) answer → HadMemory answer → file ≡ length files
     → exceptions ≡ policy.exceptions ++ answer_exceptions file answer

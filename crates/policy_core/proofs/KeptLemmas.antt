@@ -33,7 +33,7 @@ use Rattle.toml_subset.specs.Answer.{TomlReading}
 use Rattle.toml_subset.specs.Data.{Toml}
 use Rattle.toml_subset.specs.Reading.{read_text}
 use Rattle.policy_core.specs.validate.Order.{PutsFilesInOrder, PutsPolicyInOrder}
-use Rattle.policy_core.specs.validate.Valid.{ItemOrFinding, clarification_judged, clarification_judged_by, exception_in, kept_by, strict, valid_part}
+use Rattle.policy_core.specs.validate.Valid.{ItemOrFinding, clarification_judged, clarification_judged_by, exception_in, kept_by, strict_mode, valid_part}
 use Rattle.policy_core.specs.declared.valid.policy.ValidClarification.{ValidClarification}
 use Rattle.policy_core.specs.declared.valid.policy.ValidConfig.{ValidConfig}
 use Rattle.policy_core.specs.declared.valid.policy.ValidException.{ValidException}
@@ -179,14 +179,14 @@ module _ (files : List File) (file : ℕ) (text : List ℕ) (source : source_of_
       ] refl
 
   clarification_stands : (lists : CatalogLists) (one : Clarification) (fault : Option ParseError) (expression : Option ExpressionView) → ClarificationKeeps text one
-      → expression_of_text strict lists one.expression.value ≡ expression → IsKept (ClarificationStands files file) (clarification_judged_by file one fault expression)
+      → expression_of_text strict_mode lists one.expression.value ≡ expression → IsKept (ClarificationStands files file) (clarification_judged_by file one fault expression)
   clarification_stands lists one (Some fault) expression keeps is = tt
   clarification_stands lists one None None keeps is = tt
   clarification_stands lists one None (Some view) keeps is = record {
     spec = in_file files file text source one.spec.span keeps.spec;
     expression =
         subst (ExpressionStands files file (cond one.escapes (Some one.expression.span) None) one.expression.span.start)
-        (sym (is_spelled strict lists one.expression.value view is).0) (expression_stands one keeps);
+        (sym (is_spelled strict_mode lists one.expression.value view is).0) (expression_stands one keeps);
     license_files = weaker (file_source_keeps text) (FileStands files file) (λ one lies. in_file files file text source one.path.span lies) one.license_files keeps.files;
   }
 
@@ -198,7 +198,7 @@ module _ (files : List File) (file : ℕ) (text : List ℕ) (source : source_of_
     allowed = licensees_stand config.allow keeps.allow;
     clarifications =
         kept_all (ClarificationKeeps text) (ClarificationStands files file) (clarification_judged lists file)
-        (λ one kept. clarification_stands lists one (first_fault strict lists one.expression.value) (expression_of_text strict lists one.expression.value) kept refl)
+        (λ one kept. clarification_stands lists one (first_fault strict_mode lists one.expression.value) (expression_of_text strict_mode lists one.expression.value) kept refl)
         config.clarify keeps.clarify;
     exceptions = map_all (ExceptionKeeps text) (ExceptionStands files) (exception_in file) exception_stands config.exceptions keeps.exceptions;
   }

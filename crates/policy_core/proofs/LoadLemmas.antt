@@ -13,7 +13,7 @@ use Rattle.policy_core.specs.Exceptions.{exceptions_kept, exceptions_findings, w
 use Rattle.policy_core.specs.Findings.{target_findings, graph_key_findings, output_key_findings}
 use Rattle.policy_core.specs.Heard.{LoadState, after_exceptions, exceptions_read_of}
 use Rattle.policy_core.specs.Load.{Keeps, numbers_at}
-use Rattle.policy_core.specs.Policy.{licences_in, policy_found}
+use Rattle.policy_core.specs.Policy.{licenses_in, policy_found}
 use Rattle.policy_core.specs.declared.exceptions.ExceptionsHeard.{ExceptionsHeard}
 
 -- further exceptions change nothing of what is put in order
@@ -34,7 +34,7 @@ one_list first absence a c r e t g o = simp append_assoc refl
 -- what is kept of a policy, by what was heard of its exceptions file
 pub keeps_policy : (lists : CatalogLists) (hearing : ExceptionsHeard) (file : ℕ) (absence : List Diagnostic) (root : RootConfig)
     (config : Config) (valid licenses : ValidConfig) (files more : List File) (found checked heard all : List Diagnostic)
-    → config ≡ licences_in root
+    → config ≡ licenses_in root
     → PutsPolicyInOrder (valid_part lists file config) valid → checked ≡ found ++ absence ++ validation_findings lists file config
     → (let behind : LoadState = record { policy = licenses; files = more; found = heard } in behind) ≡ after_exceptions lists hearing (record { policy = valid; files = files; found = checked })
     → all ≡ heard ++ target_findings file root ++ graph_key_findings file root ++ output_key_findings file root
@@ -49,8 +49,8 @@ keeps_policy lists hearing file absence root config valid licenses files more fo
     let key = output_key_findings file root in
     record {
       licenses =
-          subst (λ (one : ValidConfig). PutsPolicyInOrder (with_exceptions kept (valid_part lists file (licences_in root))) one) (sym (ap (λ (s : LoadState). s.policy) loads))
-          (more_exceptions kept (valid_part lists file (licences_in root)) valid
+          subst (λ (one : ValidConfig). PutsPolicyInOrder (with_exceptions kept (valid_part lists file (licenses_in root))) one) (sym (ap (λ (s : LoadState). s.policy) loads))
+          (more_exceptions kept (valid_part lists file (licenses_in root)) valid
           (subst (λ (one : Config). PutsPolicyInOrder (valid_part lists file one) valid) is_config puts));
       graph = refl;
       output = refl;
@@ -59,6 +59,6 @@ keeps_policy lists hearing file absence root config valid licenses files more fo
           settles
           ∙ ap (λ ds. ((ds ++ targets) ++ keys) ++ key) (ap (λ (s : LoadState). s.found) loads)
           ∙ ap (λ ds. (((ds ++ tells) ++ targets) ++ keys) ++ key) (checks ∙ ap (λ (one : Config). found ++ absence ++ validation_findings lists file one) is_config)
-          ∙ one_list found absence (address_findings file (licences_in root)) (clarification_findings lists file (licences_in root)) (removed_findings file (licences_in root))
+          ∙ one_list found absence (address_findings file (licenses_in root)) (clarification_findings lists file (licenses_in root)) (removed_findings file (licenses_in root))
           tells targets keys key;
     }

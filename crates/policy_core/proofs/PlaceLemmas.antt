@@ -19,7 +19,7 @@ use Rattle.policy_core.specs.config.Config.{no_config}
 use Rattle.policy_core.specs.declared.config.config.Config.{Config}
 use Rattle.policy_core.specs.declared.config.root.RootConfig.{RootConfig}
 use Rattle.policy_parts.specs.entries.Exceptions.{exceptions_file_of}
-use Rattle.policy_parts.specs.entries.Licensees.{moved}
+use Rattle.policy_parts.specs.entries.Licensees.{span_from}
 use Rattle.policy_parts.specs.declared.entries.clarification.Clarification.{Clarification}
 use Rattle.policy_parts.specs.declared.entries.exception.ExceptionsFile.{ExceptionsFile}
 use Rattle.policy_core.specs.place_laws.Parts.{target_keeps}
@@ -38,12 +38,12 @@ use Rattle.toml_subset.specs.Answer.{TomlReading}
 use Rattle.toml_subset.specs.Data.{Toml}
 use Rattle.toml_subset.specs.Reading.{read_text}
 use Rattle.url.specs.Parts.{Parts}
-use Rattle.policy_core.specs.validate.Valid.{ItemOrFinding, address_findings, address_judged, address_judged_by, clarification_findings, clarification_judged, clarification_judged_by, place_in, removed_findings, removed_key, strict, findings_by_each, validation_findings}
+use Rattle.policy_core.specs.validate.Valid.{ItemOrFinding, address_findings, address_judged, address_judged_by, clarification_findings, clarification_judged, clarification_judged_by, place_in, removed_findings, removed_key, strict_mode, findings_by_each, validation_findings}
 use Rattle.policy_core.specs.Exceptions.{exceptions_findings, shape_diagnostic}
 use Rattle.policy_core.specs.Findings.{graph_key_findings, moved_key_finding, output_key_findings, target_finding, target_findings}
 use Rattle.policy_core.specs.Heard.{IsFileText, IsTextHeard, LoadState, after_exceptions, heard_file_of, exceptions_read_of, value_or_fault}
 use Rattle.policy_core.specs.Places.{IsConfigPlaced, LabelPointsInFile, LiesInFile, PointInto, PointsInto}
-use Rattle.policy_core.specs.Policy.{absence_findings, licences_in}
+use Rattle.policy_core.specs.Policy.{absence_findings, licenses_in}
 use Rattle.policy_core.specs.declared.exceptions.ExceptionsHeard.{ExceptionsHeard}
 use Rattle.policy_core.specs.declared.exceptions.ExceptionsHeard.TheVariants.{NoPath, ThePolicy, Heard}
 
@@ -139,23 +139,23 @@ module _ (files : List File) (file : ℕ) (text : List ℕ) (source : source_of_
 
   module _ (is_text : IsFileText text) (lists : CatalogLists) (laws : IsCatalog lists) where
     plain_place : (one : Clarification) (fault : ParseError) → ClarificationKeeps text one → one.escapes ≡ false
-        → first_fault strict lists one.expression.value ≡ Some fault → LiesBetween text (moved one.expression.span.start fault.span)
+        → first_fault strict_mode lists one.expression.value ≡ Some fault → LiesBetween text (span_from one.expression.span.start fault.span)
     plain_place one fault keeps plain is =
         let whole = one.expression.span in
         let spelled = keeps.spelled plain in
-        let inner = fault_lies strict lists one.expression.value fault laws (subst IsUtf8 (sym spelled) (part_is_text text whole is_text.utf8 keeps.expression)) is in
+        let inner = fault_lies strict_mode lists one.expression.value fault laws (subst IsUtf8 (sym spelled) (part_is_text text whole is_text.utf8 keeps.expression)) is in
         moved_lies text whole keeps.expression is_text.fits fault.span (subst (λ (s : List ℕ). LiesBetween s fault.span) spelled inner)
 
     fault_place : (one : Clarification) (fault : ParseError) → ClarificationKeeps text one
-        → first_fault strict lists one.expression.value ≡ Some fault → LiesBetween text (place_in one fault.span)
+        → first_fault strict_mode lists one.expression.value ≡ Some fault → LiesBetween text (place_in one fault.span)
     fault_place one fault keeps is =
-        elim one.escapes as (λ b. one.escapes ≡ b → LiesBetween text (cond b one.expression.span (moved one.expression.span.start fault.span))) [
+        elim one.escapes as (λ b. one.escapes ≡ b → LiesBetween text (cond b one.expression.span (span_from one.expression.span.start fault.span))) [
           | true ↦ λ e. keeps.expression
           | false ↦ λ e. plain_place one fault keeps e is
         ] refl
 
     clarification_points : (one : Clarification) (fault : Option ParseError) (expression : Option ExpressionView) → ClarificationKeeps text one
-        → first_fault strict lists one.expression.value ≡ fault → IsTold (PointsInto files) (clarification_judged_by file one fault expression)
+        → first_fault strict_mode lists one.expression.value ≡ fault → IsTold (PointsInto files) (clarification_judged_by file one fault expression)
     clarification_points one (Some fault) expression keeps is = (in_file (place_in one fault.span) (fault_place one fault keeps is), tt)
     clarification_points one None (Some expression) keeps is = tt
     clarification_points one None None keeps is = tt
@@ -163,7 +163,7 @@ module _ (files : List File) (file : ℕ) (text : List ℕ) (source : source_of_
     clarifications_point : (config : Config) → ConfigKeeps text config → PointInto files (clarification_findings lists file config)
     clarifications_point config keeps =
         told_all (ClarificationKeeps text) (PointsInto files) (clarification_judged lists file)
-        (λ one kept. clarification_points one (first_fault strict lists one.expression.value) (expression_of_text strict lists one.expression.value) kept refl)
+        (λ one kept. clarification_points one (first_fault strict_mode lists one.expression.value) (expression_of_text strict_mode lists one.expression.value) kept refl)
         config.clarify keeps.clarify
 
 -- what is told of a policy whose places lie in the text of a file
@@ -224,11 +224,11 @@ absence_points files false None = (tt, tt)
 
 pub checked_labels : (lists : CatalogLists) → IsCatalog lists → (files : List File) (file : ℕ) (is_there : Bool) (path : Option (List ℕ)) (root : RootConfig) (found : List Diagnostic)
     → IsConfigPlaced files file root → PointInto files found
-    → PointInto files (found ++ absence_findings is_there path ++ validation_findings lists file (licences_in root))
+    → PointInto files (found ++ absence_findings is_there path ++ validation_findings lists file (licenses_in root))
 checked_labels lists laws files file is_there path root found placed points =
     let absence = absence_findings is_there path in
-    both (PointsInto files) (found ++ absence) (validation_findings lists file (licences_in root)) (both (PointsInto files) found absence points (absence_points files is_there path))
-    (validation_points lists laws files file placed.text (licences_in root) placed.source placed.is_text (no_config_keeps placed.text root.licenses placed.keeps.licenses))
+    both (PointsInto files) (found ++ absence) (validation_findings lists file (licenses_in root)) (both (PointsInto files) found absence points (absence_points files is_there path))
+    (validation_points lists laws files file placed.text (licenses_in root) placed.source placed.is_text (no_config_keeps placed.text root.licenses placed.keeps.licenses))
 
 pub settings_labels : (files : List File) (file : ℕ) (root : RootConfig) (found : List Diagnostic) → IsConfigPlaced files file root → PointInto files found
     → PointInto files (found ++ target_findings file root ++ graph_key_findings file root ++ output_key_findings file root)

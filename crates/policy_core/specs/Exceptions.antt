@@ -2,12 +2,12 @@
 use Rattle.std.specs.Prelude.{◌≡◌, ℕ, List, [], ◌∷◌, ◌++◌, map, codes, Ok, Err}
 use Rattle.spdx_terms.specs.catalog.Catalog.{CatalogLists}
 use Rattle.deny_text.specs.declared.span.Span.{Span}
-use Rattle.diag_core.specs.Diagnostic.{plain}
+use Rattle.diag_core.specs.Diagnostic.{plain_diagnostic}
 use Rattle.diag_core.specs.declared.diagnostic.Diagnostic.{Diagnostic}
 use Rattle.diag_core.specs.declared.severity.Severity.TheVariants.{Error}
 use Rattle.toml_subset.specs.Data.{Toml}
 use Rattle.toml_subset.specs.shapes.Shaped.{ShapeReading, faults_in}
-use Rattle.toml_subset.specs.shapes.Shapes.{Fault, reason_text}
+use Rattle.toml_subset.specs.shapes.Shapes.{ShapeFault, reason_text}
 use Rattle.policy_parts.specs.entries.Exceptions.{exceptions_file_of}
 use Rattle.policy_parts.specs.declared.entries.exception.ExceptionsFile.{ExceptionsFile}
 use Rattle.policy_core.specs.validate.Valid.{error_at, exception_in}
@@ -55,11 +55,11 @@ path_note path = codes "path = '" ++ path ++ codes "'"
 
 abbrev pub itself_finding : List ℕ → Diagnostic
 itself_finding path =
-    record (plain Error) { message = codes "exceptions file is the policy itself"; notes = path_note path ∷ [] }
+    record (plain_diagnostic Error) { message = codes "exceptions file is the policy itself"; notes = path_note path ∷ [] }
 
 abbrev pub unread_finding : List ℕ → List ℕ → Diagnostic
 unread_finding path words =
-    record (plain Error) {
+    record (plain_diagnostic Error) {
       message = codes "failed to read exceptions override";
       notes = path_note path ∷ (codes "error = " ++ words) ∷ [];
     }
@@ -67,7 +67,7 @@ unread_finding path words =
 abbrev pub syntax_finding : ℕ → Span → Diagnostic
 syntax_finding file place = error_at file (codes "syntax error") place []
 
-abbrev pub shape_diagnostic : ℕ → Fault → Diagnostic
+abbrev pub shape_diagnostic : ℕ → ShapeFault → Diagnostic
 shape_diagnostic file fault = error_at file (reason_text fault.reason) fault.span []
 
 -- what is wrong with an exceptions file of this number

@@ -14,41 +14,41 @@ use Rattle.policy_core.specs.Exceptions.{shape_diagnostic, syntax_finding}
 use Rattle.policy_core.specs.declared.exceptions_text.NoExceptions.{NoExceptions}
 use Rattle.policy_core.specs.declared.exceptions_text.NoExceptions.TheVariants.{Syntax, Shape, Memory}
 
-abbrev pub Answer : Type 0
-Answer = Result ExceptionsFile NoExceptions
+abbrev pub ExceptionsAnswer : Type 0
+ExceptionsAnswer = Result ExceptionsFile NoExceptions
 
 -- the answer is what a shape is read as; a syntax fault is none
-abbrev pub GivesExceptions : ShapeReading ExceptionsFile → Answer → Type 0
+abbrev pub GivesExceptions : ShapeReading ExceptionsFile → ExceptionsAnswer → Type 0
 GivesExceptions read (Ok held) = read ≡ Ok held
 GivesExceptions read (Err (Syntax place)) = ⊥
 GivesExceptions read (Err (Shape faults)) = read ≡ Err faults
 GivesExceptions read (Err Memory) = ⊤
 
 -- a text has a value, and the answer is its shape's; or it has a syntax fault, whose place is told
-abbrev pub ReadsBy : CatalogLists → TomlReading Toml → Answer → Type 0
+abbrev pub ReadsBy : CatalogLists → TomlReading Toml → ExceptionsAnswer → Type 0
 ReadsBy lists (Ok toml) answer = GivesExceptions (exceptions_file_of lists toml) answer
 ReadsBy lists (Err fault) (Ok held) = ⊥
 ReadsBy lists (Err fault) (Err (Syntax place)) = place ≡ fault.span
 ReadsBy lists (Err fault) (Err (Shape faults)) = ⊥
 ReadsBy lists (Err fault) (Err Memory) = ⊤
 
-abbrev pub ReadsExceptions : CatalogLists → List ℕ → Answer → Type 0
+abbrev pub ReadsExceptions : CatalogLists → List ℕ → ExceptionsAnswer → Type 0
 ReadsExceptions lists text answer = ReadsBy lists (read_text text) answer
 
 -- there was memory to answer
-abbrev pub HadMemory : Answer → Type 0
+abbrev pub HadMemory : ExceptionsAnswer → Type 0
 HadMemory (Ok held) = ⊤
 HadMemory (Err (Syntax place)) = ⊤
 HadMemory (Err (Shape faults)) = ⊤
 HadMemory (Err Memory) = ⊥
 
 -- the exceptions of an answer, in the file of this number
-abbrev pub answer_exceptions : ℕ → Answer → List ValidException
+abbrev pub answer_exceptions : ℕ → ExceptionsAnswer → List ValidException
 answer_exceptions file (Ok held) = map (exception_in file) held.exceptions
 answer_exceptions file (Err reason) = []
 
 -- and what is told of it
-abbrev pub diagnostics_of : ℕ → Answer → List Diagnostic
+abbrev pub diagnostics_of : ℕ → ExceptionsAnswer → List Diagnostic
 diagnostics_of file (Ok held) = []
 diagnostics_of file (Err (Syntax place)) = syntax_finding file place ∷ []
 diagnostics_of file (Err (Shape faults)) = map (shape_diagnostic file) faults

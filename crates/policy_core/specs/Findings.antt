@@ -2,7 +2,7 @@
 use Rattle.std.specs.Prelude.{ℕ, List, [], ◌∷◌, ◌++◌, map, codes, Option, Some, None}
 use Rattle.std.specs.Option.{option_to_list}
 use Rattle.deny_text.specs.declared.span.Span.{Span}
-use Rattle.diag_core.specs.Diagnostic.{plain}
+use Rattle.diag_core.specs.Diagnostic.{plain_diagnostic}
 use Rattle.diag_core.specs.GeneralCode.{general_code_name}
 use Rattle.diag_core.specs.Label.{label_at}
 use Rattle.diag_core.specs.declared.diagnostic.Diagnostic.{Diagnostic}
@@ -15,13 +15,13 @@ use Rattle.policy_core.specs.declared.config.root.RootConfig.{RootConfig}
 -- a policy that is absent, by the path where it was to be
 abbrev pub absence_finding : Option (List ℕ) → Diagnostic
 absence_finding (Some path) =
-    record (plain Warning) { message = codes "config path '" ++ path ++ codes "' doesn't exist, falling back to default config" }
-absence_finding None = record (plain Warning) { message = codes "unable to find a config path, falling back to default config" }
+    record (plain_diagnostic Warning) { message = codes "config path '" ++ path ++ codes "' doesn't exist, falling back to default config" }
+absence_finding None = record (plain_diagnostic Warning) { message = codes "unable to find a config path, falling back to default config" }
 
 -- a target, which has no effect
 abbrev pub target_finding : ℕ → Target → Diagnostic
 target_finding file target =
-    record (plain Warning) {
+    record (plain_diagnostic Warning) {
       message = codes "no platform filter is applied";
       labels = label_at Primary file target.filter.span [] ∷ [];
     }
@@ -29,7 +29,7 @@ target_finding file target =
 -- a key that stands in a table now
 abbrev pub moved_key_finding : List ℕ → ℕ → Span → Diagnostic
 moved_key_finding table file key =
-    record (plain Warning) {
+    record (plain_diagnostic Warning) {
       code = Some (general_code_name Deprecated);
       message = codes "this key has been moved to [" ++ table ++ codes "]";
       labels = label_at Primary file key [] ∷ [];

@@ -45,8 +45,8 @@ pub record PolicyFound : Type 0 where
   pub findings : List Diagnostic
 
 -- what a policy says of licences
-abbrev pub licences_in : RootConfig → Config
-licences_in root = unwrap_or root.licenses no_config
+abbrev pub licenses_in : RootConfig → Config
+licenses_in root = unwrap_or root.licenses no_config
 
 -- what is told where a policy is absent, by whether it is there
 abbrev pub absence_findings : Bool → Option (List ℕ) → List Diagnostic
@@ -58,23 +58,23 @@ absence_findings is_there path = if is_there then [] else absence_finding path �
 abbrev pub load_findings : CatalogLists → FileNumbers → List Diagnostic → RootConfig → ExceptionsRead → List Diagnostic
 load_findings lists numbers absence root exceptions =
     absence
-    ++ address_findings numbers.policy (licences_in root)
-    ++ clarification_findings lists numbers.policy (licences_in root)
-    ++ removed_findings numbers.policy (licences_in root)
+    ++ address_findings numbers.policy (licenses_in root)
+    ++ clarification_findings lists numbers.policy (licenses_in root)
+    ++ removed_findings numbers.policy (licenses_in root)
     ++ exceptions_findings lists numbers.exceptions exceptions
     ++ target_findings numbers.policy root
     ++ graph_key_findings numbers.policy root
     ++ output_key_findings numbers.policy root
 
 -- what is valid of the policy, with the exceptions of its exceptions file behind its own
-abbrev pub licences_valid : CatalogLists → FileNumbers → RootConfig → ExceptionsRead → ValidConfig
-licences_valid lists numbers root exceptions =
-    with_exceptions (exceptions_kept lists numbers.exceptions exceptions) (valid_part lists numbers.policy (licences_in root))
+abbrev pub licenses_valid : CatalogLists → FileNumbers → RootConfig → ExceptionsRead → ValidConfig
+licenses_valid lists numbers root exceptions =
+    with_exceptions (exceptions_kept lists numbers.exceptions exceptions) (valid_part lists numbers.policy (licenses_in root))
 
 -- the policy that is written so
 abbrev pub policy_found : CatalogLists → FileNumbers → List Diagnostic → ExceptionsRead → RootConfig → PolicyFound
 policy_found lists numbers absence exceptions root = record {
-  licenses = licences_valid lists numbers root exceptions;
+  licenses = licenses_valid lists numbers root exceptions;
   graph = root.graph;
   output = root.output;
   findings = load_findings lists numbers absence root exceptions;

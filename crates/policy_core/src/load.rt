@@ -57,7 +57,7 @@ fn tell_absence(
 }
 
 /// What a policy says of licences.
-fn licences_or_default(alloc: Global, licenses: Option<Config>) -> Config
+fn licenses_or_default(alloc: Global, licenses: Option<Config>) -> Config
     ensures { result ≡ unwrap_or licenses no_config }
 {
     match licenses {
@@ -87,7 +87,7 @@ pub fn validate_policy<C: Catalog>(
     ensures front { StandsInFront found.old found.new }
 {
     tell_absence(alloc, source, found)?;
-    let config = licences_or_default(alloc, licenses);
+    let config = licenses_or_default(alloc, licenses);
     let context = ValidationContext {
         cfg_id: source.file_id,
         files,

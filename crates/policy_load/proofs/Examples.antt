@@ -12,7 +12,7 @@ use Rattle.policy_load.specs.Answer.{ReadsBehind}
 use Rattle.policy_load.specs.declared.loading.PolicyPaths.{PolicyPaths}
 
 abbrev lists : CatalogLists
-lists = record { licences = []; exceptions = []; imprecise = [] }
+lists = record { licenses = []; exceptions = []; imprecise = [] }
 
 abbrev both : PolicyPaths
 both = record { policy = Some (codes "/p"); exceptions = Some (codes "/e") }

@@ -18,7 +18,7 @@ use Rattle.policy_core.specs.validate.Valid.{valid_part, validation_findings}
 use Rattle.policy_core.specs.Findings.{target_findings, graph_key_findings, output_key_findings}
 use Rattle.policy_core.specs.Heard.{IsTextHeard, LoadState, after_exceptions, heard_file_of}
 use Rattle.policy_core.specs.Places.{IsConfigPlaced, PointInto}
-use Rattle.policy_core.specs.Policy.{absence_findings, licences_in}
+use Rattle.policy_core.specs.Policy.{absence_findings, licenses_in}
 use Rattle.policy_core.specs.declared.exceptions.ExceptionsHeard.{ExceptionsHeard}
 use Rattle.policy_core.specs.declared.load.LoadedPolicy.{LoadedPolicy}
 use Rattle.policy_core.proofs.KeptLemmas.{exceptions_places, validated_stands}
@@ -53,7 +53,7 @@ refused_comes context old held config.NotCarried = record { answers = refl; file
 -- the policy was validated, its exceptions file was heard and taken, and its settings were told
 pub loads_policy : (lists : CatalogLists) → IsCatalog lists → (before after : ℕ) (calls more : List Call) (file : ℕ) (is_there : Bool) (at : Option (List ℕ)) (root : RootConfig)
     (path : Option (List ℕ)) (config : Config) (hearing : ExceptionsHeard) (valid licenses : ValidConfig) (files new : List File) (found checked heard all : List Diagnostic)
-    → IsConfigPlaced files file root → config ≡ licences_in root
+    → IsConfigPlaced files file root → config ≡ licenses_in root
     → PutsPolicyInOrder (valid_part lists file config) valid → checked ≡ found ++ absence_findings is_there at ++ validation_findings lists file config
     → IsReadOf before after calls more files path hearing → IsTextHeard hearing
     → (let behind : LoadState = record { policy = licenses; files = new; found = heard } in behind) ≡ after_exceptions lists hearing (record { policy = valid; files = files; found = checked })

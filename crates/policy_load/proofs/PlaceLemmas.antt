@@ -15,7 +15,7 @@ use Rattle.toml_subset.specs.Data.{Toml}
 use Rattle.toml_subset.specs.Reading.{read_text}
 use Rattle.toml_subset.proofs.Law.Whole.{text_sound}
 use Rattle.toml_subset.specs.shapes.Shaped.{ShapeReading}
-use Rattle.toml_subset.specs.shapes.Shapes.{Fault}
+use Rattle.toml_subset.specs.shapes.Shapes.{ShapeFault}
 use Rattle.diag_core.specs.File.{File, source_of_file}
 use Rattle.diag_core.specs.Label.{label_at}
 use Rattle.diag_core.specs.declared.diagnostic.Diagnostic.{Diagnostic}
@@ -29,7 +29,7 @@ use Rattle.policy_core.specs.place_laws.Policies.{RootKeeps}
 use Rattle.policy_core.proofs.place_laws.PolicyPlaces.{root_stays}
 use Rattle.policy_core.specs.Exceptions.{shape_diagnostic}
 use Rattle.policy_core.specs.Places.{IsConfigPlaced, LabelPointsInFile, PointInto}
-use Rattle.graph_core.specs.selection.Choice.{is_uncarried}
+use Rattle.graph_core.specs.selection.Choice.{is_unsupported}
 use Rattle.policy_core.specs.text.Config.{AnswersConfig, config_of_text, if_carried, or_shape, or_syntax, config_of_value, then_config}
 use Rattle.policy_core.specs.declared.text.error.ConfigError.{ConfigError}
 use Rattle.policy_core.specs.declared.text.error.ConfigError.TheVariants as config
@@ -45,7 +45,7 @@ Keeps text (Err _) = Unit {0}
 
 carried_keeps : (text : List ℕ) (root : RootConfig) → RootKeeps text root → Keeps text (if_carried root)
 carried_keeps text root keeps =
-    elim (list_any is_uncarried root.graph.exclude) as (λ b. Keeps text (cond b (Err NotCarried) (Ok root))) [ true ↦ tt | false ↦ keeps ]
+    elim (list_any is_unsupported root.graph.exclude) as (λ b. Keeps text (cond b (Err NotCarried) (Ok root))) [ true ↦ tt | false ↦ keeps ]
 
 shape_keeps : (text : List ℕ) (shaped : ShapeReading RootConfig) → StaysIn RootKeeps text shaped → Keeps text (then_config if_carried (or_shape shaped))
 shape_keeps text (Ok root) keeps = carried_keeps text root keeps
@@ -62,7 +62,7 @@ module _ (text : List ℕ) (utf8 : IsUtf8 text) (short : length text < 2 ^ 64) (
   pub root_placed : (root : RootConfig) → config_of_text lists text ≡ Ok root → RootKeeps text root
   root_placed root told = subst (Keeps text) told told_keeps
 
-  pub faults_placed : (faults : List Fault) → config_of_text lists text ≡ Err (ConfigShape faults) → AllByRecursion (IsToldIn text) faults
+  pub faults_placed : (faults : List ShapeFault) → config_of_text lists text ≡ Err (ConfigShape faults) → AllByRecursion (IsToldIn text) faults
   faults_placed faults told = subst (Keeps text) told told_keeps
 
 -- ---- labels in the last file
@@ -82,7 +82,7 @@ label_inside old file span words lies =
       ends = subst (λ text. IsCharBoundary text span.end) (sym own) lies.end_border;
     }
 
-faults_by_recursion : (old : List File) (file : File) (faults : List Fault) → AllByRecursion (IsToldIn file.source) faults
+faults_by_recursion : (old : List File) (file : File) (faults : List ShapeFault) → AllByRecursion (IsToldIn file.source) faults
     → AllByRecursion (LabelsAreInside (old ++ file ∷ [])) (map (shape_diagnostic (length old)) faults)
 faults_by_recursion old file [] told = tt
 faults_by_recursion old file (fault ∷ faults) told = (
@@ -91,7 +91,7 @@ faults_by_recursion old file (fault ∷ faults) told = (
 )
 
 -- the findings of a shape's faults point into the file that was added last
-pub faults_inside : (old : List File) (file : File) (faults : List Fault) → AllByRecursion (IsToldIn file.source) faults
+pub faults_inside : (old : List File) (file : File) (faults : List ShapeFault) → AllByRecursion (IsToldIn file.source) faults
     → AreInside (old ++ file ∷ []) (map (shape_diagnostic (length old)) faults)
 faults_inside old file faults told =
     All-from_recursion (LabelsAreInside (old ++ file ∷ [])) (map (shape_diagnostic (length old)) faults) (faults_by_recursion old file faults told)

@@ -2,7 +2,7 @@
 use Rattle.std.proofs.Common.{◌≡◌, ◌∙◌, refl, sym, ap, subst, ℕ, true, false, cond, List, [], ◌∷◌, ◌++◌, length, map, Option, Result, Ok, Err, append-nil, append_assoc}
 use Rattle.std.specs.List.{list_any}
 use Rattle.spdx_terms.specs.catalog.Catalog.{CatalogLists}
-use Rattle.toml_subset.specs.shapes.Shapes.{Fault}
+use Rattle.toml_subset.specs.shapes.Shapes.{ShapeFault}
 use Rattle.tree_core.specs.Faults.{GainedPrefix}
 use Rattle.diag_core.specs.File.{File}
 use Rattle.diag_core.specs.declared.diagnostic.Diagnostic.{Diagnostic}
@@ -63,7 +63,7 @@ quietly_refused context file old held (config.ConfigShape faults) none =
 quietly_refused context file old held config.NotCarried none = record { answers = refl; files = sym (append-nil old); prints = gained_nothing held [] refl }
 
 -- what is wrong with a shape was printed, or a front of it
-pub shape_refused : (context : LogContext) (file : ℕ) (old : List File) (before behind : Option (List ℕ)) (faults : List Fault) (refused : PrintError)
+pub shape_refused : (context : LogContext) (file : ℕ) (old : List File) (before behind : Option (List ℕ)) (faults : List ShapeFault) (refused : PrintError)
     → GainedPrefix before behind (printed_findings context old (map (shape_diagnostic file) faults))
     → Comes (refused_by file (config.ConfigShape faults)) context old old before behind (Err (error_of_print refused))
 shape_refused context file old before behind faults (print.WriteFault first last) cut = record {

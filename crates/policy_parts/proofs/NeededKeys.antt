@@ -7,15 +7,15 @@ use Rattle.toml_subset.specs.shapes.Shaped.{ShapeReading, TellsFaults, shaped_th
 use Rattle.toml_subset.specs.declared.shapes.shape.DeserError.{DeserError}
 use Rattle.toml_subset.specs.declared.shapes.shape.DeserError.TheVariants.{Faults, Memory}
 use Rattle.policy_toml.specs.HelperState.{HelperState, required_of}
-use Rattle.policy_toml.specs.rows.Rows.{needed, needed_at}
+use Rattle.policy_toml.specs.rows.Rows.{required_value, needed_at}
 use Rattle.policy_toml.proofs.rows.RowLemmas.{none_is, found_behind, begun, required_is}
 
 -- such a key is read as if it were the first
 pub needed_behind : {A : Type 0} (name : List ℕ) (reads : Toml → ShapeReading A) (passed : List (List ℕ)) (entries : Entries) (span : Span) (state : HelperState)
-    → none_is name passed ≡ true → state ≡ begun passed entries span → required_of name reads state ≡ needed name reads entries span
+    → none_is name passed ≡ true → state ≡ begun passed entries span → required_of name reads state ≡ required_value name reads entries span
 needed_behind name reads passed entries span state apart is =
     required_is name reads state (ap (λ (s : HelperState). s.faults) is)
-    ∙ ap (λ (s : HelperState). needed name reads s.left s.span) is
+    ∙ ap (λ (s : HelperState). required_value name reads s.left s.span) is
     ∙ ap (λ (value : Option Toml). needed_at name span (option_map reads value)) (found_behind name passed entries apart)
 
 -- what refuses a reading refuses what follows

@@ -4,7 +4,7 @@ use Rattle.deny_text.specs.declared.span.Spanned.{Spanned}
 use Rattle.toml_subset.specs.Data.{Entries, Toml}
 use Rattle.toml_subset.specs.shapes.Shaped.{ShapeReading}
 use Rattle.policy_toml.specs.Readings.{boolean_of, text_of, u32_of, list_of, spanned_of}
-use Rattle.policy_toml.specs.rows.Rows.{KeyRow, key, given, shaped_by, in_table}
+use Rattle.policy_toml.specs.rows.Rows.{KeyRow, key, optional_value, shaped_by, in_table}
 use Rattle.policy_parts.specs.Values.{target_of}
 use Rattle.policy_parts.specs.declared.graph.GraphConfig.{GraphConfig}
 use Rattle.policy_parts.specs.declared.output.OutputConfig.{OutputConfig}
@@ -12,14 +12,14 @@ use Rattle.policy_parts.specs.declared.private.Private.{Private}
 
 -- a flag that is false where it is left out
 abbrev pub flag : List ℕ → Entries → Bool
-flag name entries = unwrap_or (given name boolean_of entries) false
+flag name entries = unwrap_or (optional_value name boolean_of entries) false
 
 -- texts, and texts with their places, of which there are none where the key is left out
 abbrev pub texts : List ℕ → Entries → List (List ℕ)
-texts name entries = unwrap_or (given name (list_of text_of) entries) []
+texts name entries = unwrap_or (optional_value name (list_of text_of) entries) []
 
 abbrev pub spanned_texts : List ℕ → Entries → List (Spanned (List ℕ))
-spanned_texts name entries = unwrap_or (given name (list_of (spanned_of text_of)) entries) []
+spanned_texts name entries = unwrap_or (optional_value name (list_of (spanned_of text_of)) entries) []
 
 -- ---- private crates
 
@@ -46,7 +46,7 @@ abbrev pub output_rows : List KeyRow
 output_rows = key (codes "feature-depth") u32_of ∷ []
 
 abbrev pub output_in : Entries → OutputConfig
-output_in entries = record { feature_depth = given (codes "feature-depth") u32_of entries }
+output_in entries = record { feature_depth = optional_value (codes "feature-depth") u32_of entries }
 
 abbrev pub output_of : Toml → ShapeReading OutputConfig
 output_of = in_table (shaped_by [] output_rows output_in)
@@ -66,7 +66,7 @@ graph_rows =
 
 abbrev pub graph_config_in : Entries → GraphConfig
 graph_config_in entries = record {
-  targets = unwrap_or (given (codes "targets") (list_of target_of) entries) [];
+  targets = unwrap_or (optional_value (codes "targets") (list_of target_of) entries) [];
   exclude = texts (codes "exclude") entries;
   features = texts (codes "features") entries;
   all_features = flag (codes "all-features") entries;

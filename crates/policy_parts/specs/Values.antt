@@ -7,7 +7,7 @@ use Rattle.toml_value.specs.Lookup.{value_at}
 use Rattle.toml_value.specs.Removal.{entries_without}
 use Rattle.toml_value.specs.Taken.{as_table, given_back, left_by, string_of}
 use Rattle.policy_toml.specs.Readings.{text_of, u32_of, list_of, spanned_of}
-use Rattle.policy_toml.specs.rows.Rows.{key, given, needed, needed_at, in_table, left_of_table, shaped_by}
+use Rattle.policy_toml.specs.rows.Rows.{key, optional_value, required_value, needed_at, in_table, left_of_table, shaped_by}
 use Rattle.policy_parts.specs.declared.file_source.FileSource.{FileSource}
 use Rattle.policy_parts.specs.declared.reason.Reason.{Reason}
 use Rattle.policy_parts.specs.declared.target.Target.{Target}
@@ -18,8 +18,8 @@ abbrev pub file_source_at : Entries → Span → ShapeReading FileSource
 file_source_at entries span =
     shaped_then (λ path. shaped_then (λ hash.
     shaped_by (codes "path" ∷ codes "hash" ∷ []) [] (λ _. record { path = path; hash = hash }) entries span)
-    (needed (codes "hash") u32_of entries span))
-    (needed (codes "path") (spanned_of text_of) entries span)
+    (required_value (codes "hash") u32_of entries span))
+    (required_value (codes "path") (spanned_of text_of) entries span)
 
 abbrev pub file_source_of : Toml → ShapeReading FileSource
 file_source_of = in_table file_source_at
@@ -29,8 +29,8 @@ file_source_of = in_table file_source_at
 abbrev pub target_at : Entries → Span → ShapeReading Target
 target_at entries span =
     shaped_then (λ filter. shaped_by (codes "triple" ∷ []) (key (codes "features") (list_of text_of) ∷ [])
-    (λ entries. record { filter = filter; features = unwrap_or (given (codes "features") (list_of text_of) entries) [] }) entries span)
-    (needed (codes "triple") (spanned_of text_of) entries span)
+    (λ entries. record { filter = filter; features = unwrap_or (optional_value (codes "features") (list_of text_of) entries) [] }) entries span)
+    (required_value (codes "triple") (spanned_of text_of) entries span)
 
 abbrev pub target_by : Toml → Option Entries → ShapeReading Target
 target_by value (Some entries) = target_at entries value.span

@@ -9,7 +9,7 @@ use Rattle.toml_value.specs.Lookup.{value_at}
 use Rattle.toml_value.specs.Removal.{entry_at}
 use Rattle.policy_toml.proofs.ShapedLemmas.{tells}
 use Rattle.toml_subset.specs.shapes.Shaped.{ShapeReading, TellsFaults, IsToldBy}
-use Rattle.toml_subset.specs.shapes.Shapes.{Fault, fault_alone, missing}
+use Rattle.toml_subset.specs.shapes.Shapes.{ShapeFault, fault_alone, missing}
 use Rattle.toml_subset.specs.declared.shapes.shape.DeserError.{DeserError}
 
 -- the value at a key is that of the entry
@@ -40,19 +40,19 @@ pub after_nothing : {A : Type 0} (name : List ℕ) (read : Option (ShapeReading 
 after_nothing name read state none = sym (ap (λ faults. with_faults faults (without_key name state)) none ∙ with_no_faults (without_key name state))
 
 -- after a key whose value was refused
-pub after_faults : {A : Type 0} (name : List ℕ) (read : Option (ShapeReading A)) (state after : HelperState) (faults all : List Fault) → faults_of read ≡ faults
+pub after_faults : {A : Type 0} (name : List ℕ) (read : Option (ShapeReading A)) (state after : HelperState) (faults all : List ShapeFault) → faults_of read ≡ faults
     → after ≡ without_key name state → all ≡ after.faults ++ faults → record after { faults = all } ≡ with_faults (faults_of read) (without_key name state)
 after_faults name read state after faults all told gone appended =
     ap (λ fs. record after { faults = fs }) appended ∙ ap (with_faults faults) gone ∙ sym (ap (λ fs. with_faults fs (without_key name state)) told)
 
 -- a key that has to be there and is refused
-pub needed-refused : {A : Type 0} (name : List ℕ) (read : Option (ShapeReading A)) (state after : HelperState) (faults : List Fault) (error : DeserError)
+pub needed-refused : {A : Type 0} (name : List ℕ) (read : Option (ShapeReading A)) (state after : HelperState) (faults : List ShapeFault) (error : DeserError)
     → read ≡ Some (Err faults) → after ≡ without_key name state → IsToldBy error (after.faults ++ faults) → TellsFaults (needed_value name state read) error
 needed-refused {A} name read state after faults error refused gone told =
     subst (λ r. TellsFaults (needed_value name state r) error) (sym refused)
     (subst (λ fs. TellsFaults {A = A} (Err (fs ++ faults)) error) (ap (λ s. s.faults) gone) (tells A (after.faults ++ faults) error told))
 
-pub needed-missing : {A : Type 0} (name : List ℕ) (read : Option (ShapeReading A)) (state after : HelperState) (faults : List Fault) (error : DeserError)
+pub needed-missing : {A : Type 0} (name : List ℕ) (read : Option (ShapeReading A)) (state after : HelperState) (faults : List ShapeFault) (error : DeserError)
     → read ≡ None → after ≡ without_key name state → faults ≡ fault_alone (missing name) after.span → IsToldBy error (after.faults ++ faults) → TellsFaults (needed_value name state read) error
 needed-missing {A} name read state after faults error none gone alone told =
     subst (λ r. TellsFaults (needed_value name state r) error) (sym none)

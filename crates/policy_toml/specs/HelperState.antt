@@ -9,7 +9,7 @@ use Rattle.toml_value.specs.Lookup.{value_at}
 use Rattle.toml_value.specs.Taken.{or_wanted, as_table}
 use Rattle.toml_value.specs.Removal.{entries_without, names_in}
 use Rattle.toml_subset.specs.shapes.Shaped.{ShapeReading, shaped_map}
-use Rattle.toml_subset.specs.shapes.Shapes.{Fault, fault_alone, missing, unexpected_keys}
+use Rattle.toml_subset.specs.shapes.Shapes.{ShapeFault, fault_alone, missing, unexpected_keys}
 use Rattle.toml_value.specs.Views.{value_view, entries_view}
 use Rattle.policy_toml.specs.declared.helper.TableHelper.{TableHelper}
 use Rattle.toml_subset.specs.declared.shapes.shape.ValueKind.TheVariants as kind
@@ -19,7 +19,7 @@ pub record HelperState : Type 0 where
   pub left : Entries
   pub span : Span
   -- in the order in which they were collected
-  pub faults : List Fault
+  pub faults : List ShapeFault
 
 abbrev pub state_of : TableHelper → HelperState
 state_of helper = record { left = entries_view helper.left; span = helper.span; faults = helper.faults }
@@ -35,7 +35,7 @@ abbrev pub without_key : List ℕ → HelperState → HelperState
 without_key name state = record state { left = entries_without name state.left }
 
 -- further faults, behind the others
-abbrev pub with_faults : List Fault → HelperState → HelperState
+abbrev pub with_faults : List ShapeFault → HelperState → HelperState
 with_faults faults state = record state { faults = state.faults ++ faults }
 
 -- the faults handed out
@@ -53,7 +53,7 @@ given_value (Some (Ok x)) = Some x
 given_value (Some (Err faults)) = None
 
 -- what was wrong with it
-abbrev pub faults_of : {A : Type 0} → Option (ShapeReading A) → List Fault
+abbrev pub faults_of : {A : Type 0} → Option (ShapeReading A) → List ShapeFault
 faults_of None = []
 faults_of (Some (Ok x)) = []
 faults_of (Some (Err faults)) = faults
@@ -76,12 +76,12 @@ abbrev pub required_of : {A : Type 0} → List ℕ → (Toml → ShapeReading A)
 required_of name reads state = needed_value name state (read_at name reads state)
 
 -- the keys that nothing asked for are one fault of the table
-abbrev pub unexpected_faults : List (List ℕ) → Span → List Fault
+abbrev pub unexpected_faults : List (List ℕ) → Span → List ShapeFault
 unexpected_faults [] span = []
 unexpected_faults (name ∷ names) span = fault_alone (unexpected_keys (name ∷ names)) span
 
 -- all faults of a table whose left keys go back, or do not
-abbrev pub faults_at_end : Bool → HelperState → List Fault
+abbrev pub faults_at_end : Bool → HelperState → List ShapeFault
 faults_at_end goes_back state = if goes_back then state.faults else state.faults ++ unexpected_faults (names_in state.left) state.span
 
 -- what stands behind a reference that may be there, at the end of a call

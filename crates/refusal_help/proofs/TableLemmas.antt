@@ -1,10 +1,10 @@
 -- How many licences are built in.
 use Rattle.std.proofs.Common.{◌≡◌, ◌∙◌, ℕ, refl, ap, arith, List, [], ◌∷◌, ◌++◌, length, codes, decimal}
 use Rattle.std.proofs.lemmas.Fmt.{decimal_digit, decimal_step}
-use Rattle.spdx_terms.specs.catalog.Table.{families, gnu_families, single_names, table_licences}
+use Rattle.spdx_terms.specs.catalog.Table.{families, gnu_families, single_names, table_licenses}
 use Rattle.refusal_help.specs.Words.{built_in_words}
 
-are_counted : length table_licences ≡ 84
+are_counted : length table_licenses ≡ 84
 unfolding single_names families gnu_families
 are_counted = refl
 

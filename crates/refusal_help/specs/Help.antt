@@ -14,8 +14,8 @@ use Rattle.run_found.specs.declared.error.Error.TheVariants.{Memory, NotCarried,
 use Rattle.run_request.specs.declared.request.Request.{Request}
 use Rattle.run_request.specs.declared.request.Subcommand.{Subcommand}
 use Rattle.run_request.specs.declared.request.Subcommand.TheVariants.{Verify}
-use Rattle.spdx_listing.specs.declared.error.StoreFault.{StoreFault}
-use Rattle.spdx_listing.specs.declared.error.StoreFault.TheVariants as store
+use Rattle.spdx_own_names.specs.declared.error.StoreFault.{StoreFault}
+use Rattle.spdx_own_names.specs.declared.error.StoreFault.TheVariants as store
 use Rattle.toml_subset.specs.declared.error.SyntaxError.{SyntaxError}
 use Rattle.refusal_help.specs.declared.again.Again.{Again}
 use Rattle.refusal_help.specs.Unknown.{names_unknown}

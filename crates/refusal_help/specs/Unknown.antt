@@ -6,7 +6,7 @@ use Rattle.diag_core.specs.declared.diagnostic.Diagnostic.{Diagnostic}
 use Rattle.diag_core.specs.declared.label.Label.{Label}
 use Rattle.spdx_terms.specs.declared.error.ParseReason.TheVariants.{UnknownTerm}
 use Rattle.spdx_terms.specs.Reasons.{reason_text}
-use Rattle.toml_subset.specs.shapes.Shapes.{Fault, ShapeReason, custom}
+use Rattle.toml_subset.specs.shapes.Shapes.{ShapeFault, ShapeReason, custom}
 use Rattle.run_found.specs.declared.error.Error.{Error}
 use Rattle.run_found.specs.declared.error.Error.TheVariants.{ConfigShape, ConfigInvalid}
 
@@ -19,7 +19,7 @@ abbrev pub is_unknown_reason : ShapeReason → Bool
 is_unknown_reason (custom words) = is_unknown words
 is_unknown_reason _ = false
 
-abbrev pub is_unknown_fault : Fault → Bool
+abbrev pub is_unknown_fault : ShapeFault → Bool
 is_unknown_fault fault = is_unknown_reason fault.reason
 
 -- in a finding of its load, or at a place that the finding tells

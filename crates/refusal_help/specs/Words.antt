@@ -6,18 +6,18 @@ use Rattle.diag_core.specs.declared.severity.Severity.{Severity}
 use Rattle.diag_core.specs.declared.severity.Severity.TheVariants.{Help, Note, Warning, Error, Bug}
 use Rattle.tree_core.specs.declared.texts.fault.ReadFault.{ReadFault}
 use Rattle.tree_core.specs.declared.texts.fault.ReadFault.TheVariants.{Failed, Absent, Folder, NotUtf8}
-use Rattle.spdx_terms.specs.catalog.Table.{table_licences}
-use Rattle.spdx_listing.specs.declared.error.StoreFault.{StoreFault}
-use Rattle.spdx_listing.specs.declared.error.StoreFault.TheVariants as store
+use Rattle.spdx_terms.specs.catalog.Table.{table_licenses}
+use Rattle.spdx_own_names.specs.declared.error.StoreFault.{StoreFault}
+use Rattle.spdx_own_names.specs.declared.error.StoreFault.TheVariants as store
 use Rattle.toml_subset.specs.declared.error.SyntaxReason.{SyntaxReason}
 use Rattle.toml_subset.specs.declared.error.SyntaxReason.TheVariants.{UnexpectedEnd, Unexpected, InvalidEscape, ControlCharacter, NumberForm, NumberRange, Unsupported, DuplicateKey, RedefinedTable, TooDeep}
 use Rattle.graph_metadata.specs.declared.fault.MetaReason.{MetaReason}
 use Rattle.graph_metadata.specs.declared.fault.MetaReason.TheVariants.{Float, Missing, WrongKind, BadVersion, RepeatedId, UnknownId, NoFolder, UnknownKind}
-use Rattle.graph_workspace.specs.declared.error.What.{What}
-use Rattle.graph_workspace.specs.declared.error.What.TheVariants.{MetadataPath, Which, Format, Target, Graph, Audit, ExcludeSpec}
+use Rattle.graph_workspace.specs.declared.error.UnsupportedPart.{UnsupportedPart}
+use Rattle.graph_workspace.specs.declared.error.UnsupportedPart.TheVariants.{MetadataPath, Which, Format, Target, Graph, Audit, ExcludeSpec}
 
 -- what to give in the place of what is not carried
-unfoldable pub what_words : What → List ℕ
+unfoldable pub what_words : UnsupportedPart → List ℕ
 what_words MetadataPath = codes "give --metadata-path: cargo metadata --format-version 1 > metadata.json"
 what_words Which = codes "name the check that is carried, and no other: check licenses"
 what_words Format = codes "--format sarif is not carried: human or json"
@@ -88,7 +88,7 @@ line_words = codes "is no line of a catalogue, repeats a name, or means a licenc
 
 -- what is built in, and what to do where that is not enough
 abbrev pub built_in_words : List ℕ
-built_in_words = codes "the catalogue has " ++ decimal (length table_licences) ++ codes " licences: cargo deny --catalog FILE names others"
+built_in_words = codes "the catalogue has " ++ decimal (length table_licenses) ++ codes " licences: cargo deny --catalog FILE names others"
 
 -- the same of a file's
 abbrev pub own_words : List ℕ → List ℕ

@@ -21,7 +21,7 @@ use diag_core::{Location, Severity};
 use graph_metadata::{MetaFault, MetaReason};
 use run_found::Error;
 use run_request::{Request, Subcommand};
-use spdx_listing::StoreFault;
+use spdx_own_names::StoreFault;
 use std::alloc::{AllocError, Global};
 use toml_subset::SyntaxError;
 use tree_core::texts::ReadFault;

@@ -7,27 +7,27 @@ ghost use Rattle.refusal_help.specs.Words.{built_in_words, line_words, store_wor
 use deny_text::path::file_name;
 use diag_core::Severity;
 use graph_metadata::MetaReason;
-use graph_workspace::What;
-use spdx_listing::StoreFault;
+use graph_workspace::UnsupportedPart;
+use spdx_own_names::StoreFault;
 use std::alloc::{AllocError, Global};
 use toml_subset::SyntaxReason;
 use tree_core::texts::ReadFault;
 
 /// What to give in the place of what is not carried.
 #[tactic(auto, unfolding(crate::specs::Words::what_words))]
-pub(crate) fn what_words(what: What) -> &'static str
+pub(crate) fn what_words(what: UnsupportedPart) -> &'static str
     ensures { result.now ≡ what_words what }
 {
     match what {
-        What::MetadataPath => {
+        UnsupportedPart::MetadataPath => {
             "give --metadata-path: cargo metadata --format-version 1 > metadata.json"
         }
-        What::Which => "name the check that is carried, and no other: check licenses",
-        What::Format => "--format sarif is not carried: human or json",
-        What::Target => "--target is not carried: the crates of all platforms are checked",
-        What::Graph => "--graph is not carried",
-        What::Audit => "--audit-compatible-output is not carried",
-        What::ExcludeSpec => {
+        UnsupportedPart::Which => "name the check that is carried, and no other: check licenses",
+        UnsupportedPart::Format => "--format sarif is not carried: human or json",
+        UnsupportedPart::Target => "--target is not carried: the crates of all platforms are checked",
+        UnsupportedPart::Graph => "--graph is not carried",
+        UnsupportedPart::Audit => "--audit-compatible-output is not carried",
+        UnsupportedPart::ExcludeSpec => {
             "a crate to leave out is told as name or name@version, in the words and in the policy's exclude"
         }
     }

@@ -5,11 +5,11 @@ use Rattle.tree_core.specs.Content.{Content}
 use Rattle.tree_core.proofs.MadeLemmas.{made_none, some_made, some_none}
 use Rattle.tree_core.specs.texts.Cause.{Cause, ReadCounts, no_memory, failed_read, refused_write}
 use Rattle.tree_core.specs.texts.Cause as causes
-use Rattle.graph_workspace.specs.declared.error.What.{What}
+use Rattle.graph_workspace.specs.declared.error.UnsupportedPart.{UnsupportedPart}
 use Rattle.run_found.specs.declared.error.Error.{Error}
 use Rattle.run_found.specs.declared.error.Error.TheVariants.{NotCarried}
 use Rattle.run_found.specs.Error.{cause_of}
-use Rattle.run_found.specs.Hearing.{HasMade, TreeSeen, seen}
+use Rattle.run_found.specs.Hearing.{HasMade, TreeSeen, tree_seen}
 use Rattle.run_found.specs.Written.{SinkSeen, sink_seen}
 use Rattle.run_command.specs.Given.{CommandArguments}
 use Rattle.run_command.proofs.StopLemmas.{stops_made}
@@ -26,23 +26,23 @@ use Rattle.run_check.proofs.NamedLemmas.{certificates_of, findings_of_report, ow
 no_report : (error : Error) (report : Report) → ◌≡◌ {A = Result Report Error} (Err error) (Ok report) → ⊥
 no_report error report e = cc
 
-apart : (own : Option What) (what : What) → own ≡ Some what → own ≡ None → ⊥
+apart : (own : Option UnsupportedPart) (what : UnsupportedPart) → own ≡ Some what → own ≡ None → ⊥
 apart own what some none = let both : Some what ≡ None = sym some ∙ none in cc
 
-abbrev refused_for : What → Result Report Error
+abbrev refused_for : UnsupportedPart → Result Report Error
 refused_for what = Err (NotCarried what)
 
-same_refusal : (one other : What) (own : Option What) → own ≡ Some one → own ≡ Some other → refused_for one ≡ refused_for other
+same_refusal : (one other : UnsupportedPart) (own : Option UnsupportedPart) → own ≡ Some one → own ≡ Some other → refused_for one ≡ refused_for other
 same_refusal one other own first second = ap refused_for (some_same (sym first ∙ second))
   where
-    some_same : ◌≡◌ {A = Option What} (Some one) (Some other) → one ≡ other
+    some_same : ◌≡◌ {A = Option UnsupportedPart} (Some one) (Some other) → one ≡ other
     some_same e = cc
 
-module _ (given : CommandArguments) (told : Option Content) (count : ℕ) (calls : List Call) (held : Option (List ℕ)) (faults : ℕ) (what : What) (is : given.options.uncarried ≡ Some what) where
-  pub uncarried_run : IsCheckRun given (seen told told count count calls calls) (sink_seen held held faults faults) (Err (NotCarried what))
-  uncarried_run = record {
-    uncarried = λ other is_other. (same_refusal what other given.options.uncarried is is_other, made_none told count calls, refl);
-    written = λ carried. absurd (apart given.options.uncarried what is carried);
+module _ (given : CommandArguments) (told : Option Content) (count : ℕ) (calls : List Call) (held : Option (List ℕ)) (faults : ℕ) (what : UnsupportedPart) (is : given.options.unsupported ≡ Some what) where
+  pub unsupported_run : IsCheckRun given (tree_seen told told count count calls calls) (sink_seen held held faults faults) (Err (NotCarried what))
+  unsupported_run = record {
+    unsupported = λ other is_other. (same_refusal what other given.options.unsupported is is_other, made_none told count calls, refl);
+    written = λ carried. absurd (apart given.options.unsupported what is carried);
     made = some_none told count calls;
     counts = tt;
     later = omega arith;
@@ -50,12 +50,12 @@ module _ (given : CommandArguments) (told : Option Content) (count : ℕ) (calls
     headline_read = record {
       verdicts = λ report e. absurd (no_report (NotCarried what) report e);
       status = λ report e none clear. absurd (no_report (NotCarried what) report e);
-      lawful = λ hearing behind asked lawful quiet. absurd (apart given.options.uncarried what is lawful.asks.carried);
+      lawful = λ hearing behind asked lawful quiet. absurd (apart given.options.unsupported what is lawful.asks.carried);
     };
     headline = λ content tells. record {
       verdicts = λ report e. absurd (no_report (NotCarried what) report e);
       status = λ report e none clear. absurd (no_report (NotCarried what) report e);
-      lawful = λ hearing asked lawful quiet. absurd (apart given.options.uncarried what is lawful.asks.carried);
+      lawful = λ hearing asked lawful quiet. absurd (apart given.options.unsupported what is lawful.asks.carried);
     };
     own_reads = tt;
     rises = tt;
@@ -86,10 +86,10 @@ module _ (given : CommandArguments) (tree : TreeSeen) (err : SinkSeen) where
   of_report P each (Ok report) writes = each report writes
   of_report P each (Err error) writes = tt
 
-  pub carried_run : given.options.uncarried ≡ None → (answer : Result Report Error) → WritesCheck given tree err answer
+  pub carried_run : given.options.unsupported ≡ None → (answer : Result Report Error) → WritesCheck given tree err answer
       → IfErr answer (λ error. ReadCounts tree.count_before tree.count_before tree.count_after (cause_of error)) → err.before ≤ err.after → LabelsLie answer → IsCheckRun given tree err answer
   carried_run carried answer writes counts later labels = record {
-    uncarried = λ what is. absurd (apart given.options.uncarried what is carried);
+    unsupported = λ what is. absurd (apart given.options.unsupported what is carried);
     written = λ none. writes;
     made = writes_made answer writes;
     counts = counts;

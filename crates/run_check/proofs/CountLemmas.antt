@@ -14,9 +14,9 @@ use Rattle.gather_core.specs.declared.findings.license.LicenseInfo.TheVariants a
 use Rattle.spdx_core.specs.declared.certificates.verdict.Verdict.{Verdict}
 use Rattle.spdx_core.specs.declared.certificates.verdict.Verdict.TheVariants.{Accepted, Rejected, Skipped, Unlicensed}
 use Rattle.check_core.specs.evaluate.Evaluation.{is_allowed}
-use Rattle.graph_core.specs.Krate.{Record}
+use Rattle.graph_core.specs.Krate.{CrateRecord}
 use Rattle.policy_core.specs.valid.Policy.{Policy}
-use Rattle.check_core.specs.findings.Findings.{judged}
+use Rattle.check_core.specs.findings.Findings.{expression_finding}
 use Rattle.check_core.specs.Check.{AreVerdicts, packs_of}
 use Rattle.check_core.specs.Turns.{GatheredCrate, expression_of, pack_by, verdict_finding}
 use Rattle.check_core.specs.Verdicts.{IsVerdict, accepted, is_skipped, rejected, unlicensed, verdict_of}
@@ -43,7 +43,7 @@ last_counts kid (first ∷ front) last e =
 
 -- ---- the verdict's own finding
 
-rejected_by : (test : Bool) (labels : List Label) (notes : List (List ℕ)) → rejected ≡ cond test accepted rejected → is_error (judged test labels notes) ≡ true
+rejected_by : (test : Bool) (labels : List Label) (notes : List (List ℕ)) → rejected ≡ cond test accepted rejected → is_error (expression_finding test labels notes) ≡ true
 rejected_by true labels notes is = absurd (cc)
 rejected_by false labels notes is = refl
 
@@ -51,13 +51,13 @@ apart_by : (test : Bool) → unlicensed ≡ cond test accepted rejected → ⊥
 apart_by true is = absurd (cc)
 apart_by false is = absurd (cc)
 
-rejected_told : (private : Bool) (policy : Policy) (krate : Record) (info : LicenseInfo) (notes : List (List ℕ))
+rejected_told : (private : Bool) (policy : Policy) (krate : CrateRecord) (info : LicenseInfo) (notes : List (List ℕ))
     → rejected ≡ verdict_of private policy krate (expression_of info) → is_error (verdict_finding policy krate info notes) ≡ true
 rejected_told true policy krate info notes is = absurd (cc)
 rejected_told false policy krate license_info.Unlicensed notes is = absurd (cc)
 rejected_told false policy krate (license_info.SpdxExpression expression nfo) notes is = rejected_by (is_allowed policy krate expression.terms expression.tree) _ notes is
 
-unlicensed_told : (private : Bool) (policy : Policy) (krate : Record) (info : LicenseInfo) (notes : List (List ℕ))
+unlicensed_told : (private : Bool) (policy : Policy) (krate : CrateRecord) (info : LicenseInfo) (notes : List (List ℕ))
     → unlicensed ≡ verdict_of private policy krate (expression_of info) → is_error (verdict_finding policy krate info notes) ≡ true
 unlicensed_told true policy krate info notes is = absurd (cc)
 unlicensed_told false policy krate license_info.Unlicensed notes is = refl

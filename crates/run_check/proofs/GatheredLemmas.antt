@@ -4,19 +4,19 @@ use Rattle.std.specs.Prelude.{All, option_map, unwrap_or}
 use Rattle.std.specs.List.{AllZip}
 use Rattle.diag_core.specs.File.{File}
 use Rattle.diag_core.specs.declared.label.Coord.{Coord}
-use Rattle.gather_licence.specs.Priority.{answer_in}
-use Rattle.gather_licence.specs.declared.settling.JoinedNames.{JoinedNames}
-use Rattle.gather_licence.specs.declared.settling.LicenseBasis.{LicenseBasis}
-use Rattle.gather_licence.specs.declared.settling.LicenseBasis.TheVariants.{Clarified, Field, Files}
-use Rattle.gather_core.specs.Told.{answer_view, info_by, joined_info, joined_notes, notes_of, nowhere, source_view}
+use Rattle.gather_license.specs.Priority.{answer_in}
+use Rattle.gather_license.specs.declared.settling.JoinedNames.{JoinedNames}
+use Rattle.gather_license.specs.declared.settling.LicenseBasis.{LicenseBasis}
+use Rattle.gather_license.specs.declared.settling.LicenseBasis.TheVariants.{Clarified, Field, Files}
+use Rattle.gather_core.specs.Told.{answer_view, info_by, joined_info, joined_notes, notes_of, no_place, source_view}
 use Rattle.gather_core.specs.Turns.{IsCutOut, IsTurn, TurnInput, files_behind, findings_in, info_in, located_in, notes_in, points_in, basis_in}
 use Rattle.gather_core.specs.declared.findings.license.LicenseInfo.{LicenseInfo}
 use Rattle.gather_core.specs.declared.findings.license.LicenseInfo.TheVariants.{SpdxExpression, Unlicensed}
 use Rattle.policy_core.specs.declared.valid.policy.ValidConfig.{ValidConfig}
 use Rattle.policy_core.specs.valid.Policy.{Policy}
 use Rattle.policy_core.specs.valid.View.{policy_of}
-use Rattle.gather_licence.specs.expression.Scanned.{Scanner}
-use Rattle.gather_core.specs.Calls.{CrateReads, CrateTurn, IsTurnBy}
+use Rattle.gather_license.specs.expression.Scanned.{Scanner}
+use Rattle.gather_core.specs.Calls.{ReadsOfCrate, CrateTurn, IsTurnBy}
 use Rattle.gather_core.specs.Gathered.{krate_of}
 use Rattle.gather_core.specs.declared.summary.KrateLicense.{KrateLicense}
 use Rattle.gather_core.proofs.ZipLemmas.{all_left, same_maps}
@@ -27,7 +27,7 @@ use Rattle.check_core.specs.Reports.{license_source, reports_of}
 use Rattle.check_core.specs.Summary.{gathered_of_licenses, gathered_of_license}
 use Rattle.check_core.specs.Turns.{GatheredCrate, expression_of}
 use Rattle.check_core.specs.Verdicts.{IsVerdict}
-use Rattle.run_found.specs.Licences.{expression_in}
+use Rattle.run_found.specs.Licenses.{expression_in}
 use Rattle.run_command.specs.Found.{scanner_of_given}
 use Rattle.run_command.specs.Given.{CommandArguments}
 use Rattle.run_command.proofs.TurnLemmas.{turn_at, turns_at}
@@ -65,7 +65,7 @@ settled_nothing policy location place (Files seen (Some joined)) is = absurd (cc
 
 told_notes : (turn : TurnInput) (info : LicenseInfo) (notes : List (List ℕ)) → info ≡ info_in turn → notes ≡ notes_in turn → notes ≡ notes_of (answer_view info notes)
 told_notes turn Unlicensed notes is noted =
-    noted ∙ settled_nothing turn.policy (located_in turn).location (unwrap_or (points_in turn).expression nowhere) (basis_in turn) is
+    noted ∙ settled_nothing turn.policy (located_in turn).location (unwrap_or (points_in turn).expression no_place) (basis_in turn) is
 told_notes turn (SpdxExpression expression nfo) notes is noted = refl
 
 -- what the check has looked at is what the turns say
@@ -101,7 +101,7 @@ module _ (given : CommandArguments) (policy : ValidConfig) where
   scanner = scanner_of_given given policy
 
   -- each report is on the crate of its licence
-  pub reported_by : (files : List File) (crates : List CrateReads) (licenses : List KrateLicense) (last : List File) (verdicts : List Verdict) → AllZip (IsTurnBy last) (turns_at scanner policy files crates) licenses
+  pub reported_by : (files : List File) (crates : List ReadsOfCrate) (licenses : List KrateLicense) (last : List File) (verdicts : List Verdict) → AllZip (IsTurnBy last) (turns_at scanner policy files crates) licenses
       → AreVerdicts (policy_of policy) (gathered_of_licenses licenses) verdicts → AllZip (IsReportOf given policy) crates (reports_of licenses verdicts)
   reported_by files [] [] last verdicts each are = tt
   reported_by files [] (license ∷ licenses) last verdicts each are = absurd each

@@ -23,7 +23,7 @@ use Rattle.run_command.specs.Given.{CommandArguments}
 use Rattle.run_command.proofs.LawfulLemmas.{NoRefusal, no_refusal_read, no_refusal_told, stops_lawful}
 use Rattle.run_check.specs.declared.report.Report.{Report}
 use Rattle.run_check.specs.Found.{all_gathered}
-use Rattle.run_check.specs.Headline.{CheckHeadline, CheckHeadlineRead, TellsAgainst, is_against}
+use Rattle.run_check.specs.Headline.{CheckHeadline, CheckHeadlineRead, ZeroMeansNoneRejected, is_against}
 use Rattle.run_check.specs.Report.{IsReport, verdicts_in}
 use Rattle.run_check.specs.Script.{CutsFindings, WritesBehind, WritesCheck, findings_text}
 use Rattle.run_check.proofs.CountLemmas.{none_against, none_counted}
@@ -62,7 +62,7 @@ module _ (given : CommandArguments) (tree : TreeSeen) (err : SinkSeen) (answer :
   reported : (report : Report) → answer ≡ Ok report → WritesBehind given tree err report (findings_text given report)
   reported report e = subst (WritesCheck given tree err) e writes
 
-  clear : TellsAgainst given answer
+  clear : ZeroMeansNoneRejected given answer
   clear report e none counts = clear_counts given (reported report e).hearing report (reported report e).is none counts
 
   -- by what was read

@@ -5,7 +5,7 @@ use Rattle.tree_core.specs.declared.reads.ReadRecord.{ReadRecord}
 use Rattle.tree_core.specs.file_reads.Read.{records_of_reads}
 use Rattle.tree_core.specs.file_reads.Rising.{RiseInOrder}
 use Rattle.tree_core.proofs.file_reads.ReadLemmas.{records_in-append}
-use Rattle.gather_core.specs.Calls.{CrateReads, reads_of_all}
+use Rattle.gather_core.specs.Calls.{ReadsOfCrate, reads_of_all}
 use Rattle.gather_core.proofs.ZipLemmas.{zip_weaker}
 use Rattle.policy_core.specs.valid.View.{policy_of}
 use Rattle.check_core.specs.Verdicts.{IsVerdictShown, is_skipped}
@@ -21,7 +21,7 @@ use Rattle.run_check.specs.Named.{FailedReadsRise, ReportsCertificates, ReportsF
 use Rattle.run_check.specs.Report.{IsReport, IsReportOf, verdicts_in}
 
 -- the reads that reports list
-reads_listed : (crates : List CrateReads) (reports : List CrateReport) → AllZip (λ (one : CrateReads) (crate : CrateReport). crate.reads ≡ records_of_reads one.reads) crates reports
+reads_listed : (crates : List ReadsOfCrate) (reports : List CrateReport) → AllZip (λ (one : ReadsOfCrate) (crate : CrateReport). crate.reads ≡ records_of_reads one.reads) crates reports
     → records_of_reads (reads_of_all crates) ≡ flat_map (λ (crate : CrateReport). crate.reads) reports
 reads_listed [] [] listed = refl
 reads_listed [] (report ∷ reports) listed = absurd listed
@@ -31,9 +31,9 @@ reads_listed (one ∷ crates) (report ∷ reports) listed =
     ∙ ap₂ (λ (front back : List ReadRecord). front ++ back) (sym listed.0) (reads_listed crates reports listed.1)
 
 module _ (given : CommandArguments) (tree : TreeSeen) (hearing : RequestHearing) (report : Report) (heard : IsHeard given tree hearing) (is : IsReport given hearing report) where
-  listed : AllZip (λ (one : CrateReads) (crate : CrateReport). crate.reads ≡ records_of_reads one.reads) hearing.crates report.crates
+  listed : AllZip (λ (one : ReadsOfCrate) (crate : CrateReport). crate.reads ≡ records_of_reads one.reads) hearing.crates report.crates
   listed =
-      zip_weaker (IsReportOf given report.policy) (λ (one : CrateReads) (crate : CrateReport). crate.reads ≡ records_of_reads one.reads) (λ one crate own. own.reads)
+      zip_weaker (IsReportOf given report.policy) (λ (one : ReadsOfCrate) (crate : CrateReport). crate.reads ≡ records_of_reads one.reads) (λ one crate own. own.reads)
       hearing.crates report.crates is.verdicts.gives.verdicts
 
   pub own_of : ReportsOwnReads given tree report
@@ -65,7 +65,7 @@ module _ (given : CommandArguments) (tree : TreeSeen) (hearing : RequestHearing)
     heard = heard;
     shown =
         zip_weaker (IsReportOf given report.policy)
-        (λ (one : CrateReads) (crate : CrateReport). IsVerdictShown (is_skipped crate.verdict) (policy_of report.policy) one.krate crate.expression crate.verdict)
+        (λ (one : ReadsOfCrate) (crate : CrateReport). IsVerdictShown (is_skipped crate.verdict) (policy_of report.policy) one.krate crate.expression crate.verdict)
         (λ one crate own. own.verdict.shown) hearing.crates report.crates is.verdicts.gives.verdicts;
   }
 

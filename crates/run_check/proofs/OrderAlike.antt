@@ -11,8 +11,8 @@ use Rattle.std.proofs.lemmas.List.Elements.{recursion_from_All}
 use Rattle.std.proofs.lemmas.List.Sorted.{ranks_by, sorted_far}
 use Rattle.deny_text.specs.Path.{path_order_total}
 use Rattle.spdx_terms.specs.Licensee.{printed_order_total}
-use Rattle.gather_licence.proofs.files.PackLemmas.{by_test}
-use Rattle.graph_core.specs.Krate.{Record, ids_in}
+use Rattle.gather_license.proofs.files.PackLemmas.{by_test}
+use Rattle.graph_core.specs.Krate.{CrateRecord, ids_in}
 use Rattle.graph_core.specs.Metadata.{AreRising, Graph, CrateNode, ids_of}
 use Rattle.graph_core.specs.selection.Listed.{IsListOf}
 use Rattle.graph_core.specs.selection.Roots.{crates_of}
@@ -175,32 +175,32 @@ ids_alike (x ∷ xs) (y ∷ ys) up down to from =
 
 -- ---- crates of a graph
 
-abbrev AmongNodes : Record → List CrateNode → Type 0
+abbrev AmongNodes : CrateRecord → List CrateNode → Type 0
 AmongNodes krate [] = ⊥
 AmongNodes krate (node ∷ nodes) = (node.krate ≡ krate) ⊎ AmongNodes krate nodes
 
-among_nodes : (nodes : List CrateNode) (krate : Record) → Among krate (map (λ (node : CrateNode). node.krate) nodes) → AmongNodes krate nodes
+among_nodes : (nodes : List CrateNode) (krate : CrateRecord) → Among krate (map (λ (node : CrateNode). node.krate) nodes) → AmongNodes krate nodes
 among_nodes [] krate is = is
 among_nodes (node ∷ nodes) krate (inl e) = inl e
 among_nodes (node ∷ nodes) krate (inr more) = inr (among_nodes nodes krate more)
 
-id_among : (nodes : List CrateNode) (krate : Record) → AmongNodes krate nodes → Among krate.id (map (λ (node : CrateNode). node.krate.id) nodes)
+id_among : (nodes : List CrateNode) (krate : CrateRecord) → AmongNodes krate nodes → Among krate.id (map (λ (node : CrateNode). node.krate.id) nodes)
 id_among [] krate is = is
-id_among (node ∷ nodes) krate (inl e) = inl (ap (λ (own : Record). own.id) e)
+id_among (node ∷ nodes) krate (inl e) = inl (ap (λ (own : CrateRecord). own.id) e)
 id_among (node ∷ nodes) krate (inr more) = inr (id_among nodes krate more)
 
-one_crate : (nodes : List CrateNode) → AreRising (map (λ (node : CrateNode). node.krate.id) nodes) → (one other : Record) → AmongNodes one nodes → AmongNodes other nodes → one.id ≡ other.id → one ≡ other
+one_crate : (nodes : List CrateNode) → AreRising (map (λ (node : CrateNode). node.krate.id) nodes) → (one other : CrateRecord) → AmongNodes one nodes → AmongNodes other nodes → one.id ≡ other.id → one ≡ other
 unfolding IsStrictlySortedBy
 one_crate [] rising one other first second same = absurd first
 one_crate (node ∷ nodes) rising one other (inl e) (inl f) same = sym e ∙ f
 one_crate (node ∷ nodes) rising one other (inl e) (inr more) same =
-    absurd (not_itself node.krate.id other.id (has_among (λ z. by_bytes node.krate.id z ≡ Less) (map (λ (own : CrateNode). own.krate.id) nodes) other.id rising.0 (id_among nodes other more)) (ap (λ (own : Record). own.id) e ∙ same))
+    absurd (not_itself node.krate.id other.id (has_among (λ z. by_bytes node.krate.id z ≡ Less) (map (λ (own : CrateNode). own.krate.id) nodes) other.id rising.0 (id_among nodes other more)) (ap (λ (own : CrateRecord). own.id) e ∙ same))
 one_crate (node ∷ nodes) rising one other (inr more) (inl f) same =
-    absurd (not_itself node.krate.id one.id (has_among (λ z. by_bytes node.krate.id z ≡ Less) (map (λ (own : CrateNode). own.krate.id) nodes) one.id rising.0 (id_among nodes one more)) (ap (λ (own : Record). own.id) f ∙ sym same))
+    absurd (not_itself node.krate.id one.id (has_among (λ z. by_bytes node.krate.id z ≡ Less) (map (λ (own : CrateNode). own.krate.id) nodes) one.id rising.0 (id_among nodes one more)) (ap (λ (own : CrateRecord). own.id) f ∙ sym same))
 one_crate (node ∷ nodes) rising one other (inr more) (inr others) same = one_crate nodes rising.1 one other more others same
 
 module _ (graph : Graph) (rising : AreRising (ids_of graph)) where
-  crates_alike : (xs ys : List Record) → ids_in xs ≡ ids_in ys → AllByRecursion (Contains (crates_of graph)) xs → AllByRecursion (Contains (crates_of graph)) ys → xs ≡ ys
+  crates_alike : (xs ys : List CrateRecord) → ids_in xs ≡ ids_in ys → AllByRecursion (Contains (crates_of graph)) xs → AllByRecursion (Contains (crates_of graph)) ys → xs ≡ ys
   crates_alike [] [] same first second = refl
   crates_alike [] (y ∷ ys) same first second = absurd (cc)
   crates_alike (x ∷ xs) [] same first second = absurd (cc)
@@ -216,7 +216,7 @@ module _ (graph : Graph) (rising : AreRising (ids_of graph)) where
       tails e = cc
 
   -- a property has one list of crates
-  pub lists_alike : (Has : List ℕ → Type 0) (xs ys : List Record) → IsListOf graph Has xs → IsListOf graph Has ys → xs ≡ ys
+  pub lists_alike : (Has : List ℕ → Type 0) (xs ys : List CrateRecord) → IsListOf graph Has xs → IsListOf graph Has ys → xs ≡ ys
   lists_alike Has xs ys first second =
       let ids : ids_in xs ≡ ids_in ys =
       ids_alike (ids_in xs) (ids_in ys) first.rising second.rising

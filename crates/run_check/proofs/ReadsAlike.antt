@@ -12,22 +12,22 @@ use Rattle.tree_core.specs.declared.reads.ReadKind.{ReadKind}
 use Rattle.tree_core.specs.declared.reads.ReadKind.TheVariants.{Manifest, Listing, LicenseFile}
 use Rattle.tree_core.specs.declared.reads.ReadRecord.{ReadRecord}
 use Rattle.tree_core.proofs.JoinLemmas.{resolve-join}
-use Rattle.graph_core.specs.Krate.{Record}
+use Rattle.graph_core.specs.Krate.{CrateRecord}
 use Rattle.tree_core.specs.file_reads.Answered.{file_answered, folder_answered}
 use Rattle.tree_core.specs.file_reads.Heard.{ReadResult, absent, file_heard, is_kind, is_read, listing_by, listing_heard, read_place, read_record_of, same_parts, there_heard}
 use Rattle.tree_core.specs.file_reads.Read.{AnsweredRead, asked_for, calls_in, counts_carried, first_heard, given_path, kind_answered, read_heard, records_of_reads}
 use Rattle.diag_core.specs.File.{File, file_id_at}
-use Rattle.gather_licence.specs.files.Ears.{FolderReads, ears_by, has_hash, holds, looked_of, matches, tried_of}
-use Rattle.gather_licence.specs.files.NamedFile.{NamedFileView}
-use Rattle.gather_licence.specs.files.Pack.{first_spellings, license_files_in, reads_of, same_path, wanted_of, without_path}
-use Rattle.gather_licence.specs.files.Steps.{file_record}
-use Rattle.gather_licence.proofs.files.PackLemmas.{by_test}
-use Rattle.gather_licence.proofs.files.PathLemmas.{parts_of_same, same_itself}
-use Rattle.gather_licence.specs.location.Calls.{manifest_by}
-use Rattle.gather_licence.specs.location.Location.{located_by, manifest_record}
-use Rattle.gather_licence.specs.expression.Scanned.{Scanner}
-use Rattle.gather_licence.specs.Clarification.{ClarificationView, named_files, named_in}
-use Rattle.gather_licence.specs.Priority.{folder_of, holding, is_nothing, looks_at_files, records_of, records_with}
+use Rattle.gather_license.specs.files.KnownReads.{FolderReads, known_reads_by, has_hash, holds, looked_of, matches, tried_of}
+use Rattle.gather_license.specs.files.NamedFile.{NamedFileView}
+use Rattle.gather_license.specs.files.Pack.{first_spellings, license_files_in, reads_of, same_path, wanted_of, without_path}
+use Rattle.gather_license.specs.files.Steps.{file_record}
+use Rattle.gather_license.proofs.files.PackLemmas.{by_test}
+use Rattle.gather_license.proofs.files.PathLemmas.{parts_of_same, same_itself}
+use Rattle.gather_license.specs.location.Calls.{manifest_by}
+use Rattle.gather_license.specs.location.Location.{located_by, manifest_record}
+use Rattle.gather_license.specs.expression.Scanned.{Scanner}
+use Rattle.gather_license.specs.Clarification.{ClarificationView, named_files, named_in}
+use Rattle.gather_license.specs.Priority.{folder_of, holding_clarification, is_nothing, looks_at_files, records_of, records_with}
 use Rattle.gather_core.specs.Taken.{turn_with}
 use Rattle.gather_core.specs.Turns.{asks_manifest, field_text, in_order, not_asked, records_in}
 use Rattle.run_found.specs.Hearing.{TellsContent}
@@ -132,10 +132,10 @@ module _ (content : Content) (base : List ℕ) where
   tell_each test heard each (read ∷ reads) = (each read, tell_each test heard each reads)
 
   -- no licence file is asked for by its kind
-  tell_files : (test : ReadRecord → Bool) (heard : ReadResult) (ears : FolderReads) → ((path : List ℕ) → test (file_record ears path) ≡ true → ⊥) → (paths : List (List ℕ))
-      → AllTell test heard (map (file_record ears) paths)
-  tell_files test heard ears none [] = tt
-  tell_files test heard ears none (path ∷ paths) = (λ e. absurd (none path e), tell_files test heard ears none paths)
+  tell_files : (test : ReadRecord → Bool) (heard : ReadResult) (known_reads : FolderReads) → ((path : List ℕ) → test (file_record known_reads path) ≡ true → ⊥) → (paths : List (List ℕ))
+      → AllTell test heard (map (file_record known_reads) paths)
+  tell_files test heard known_reads none [] = tt
+  tell_files test heard known_reads none (path ∷ paths) = (λ e. absurd (none path e), tell_files test heard known_reads none paths)
 
   first_there : (test : ReadRecord → Bool) (heard : ReadResult) (reads : List AnsweredRead) → HearThere reads → AllTell test heard (records_of_reads reads) → list_any test (records_of_reads reads) ≡ true
       → first_heard test reads ≡ heard
@@ -148,13 +148,13 @@ module _ (content : Content) (base : List ℕ) where
       ∙ first_there test heard reads hear.1 tell.1 (sym (ap (λ b. b || list_any test (records_of_reads reads)) no) ∙ any))
 
   -- what the content has of the folder and of its files
-  abbrev pub ears_there : FolderReads
-  ears_there = record {
+  abbrev pub known_reads_there : FolderReads
+  known_reads_there = record {
     listing = there_of content base Listing base;
     file = λ parts. file_heard (finite.get content (read_place LicenseFile (resolve base) parts));
   }
 
-  license_there : (path : List ℕ) (kind : ReadKind) (at : List ℕ) → (is_kind LicenseFile kind && same_parts (components_of path) (components_of at)) ≡ true → there_of content base kind at ≡ ears_there.file (components_of path)
+  license_there : (path : List ℕ) (kind : ReadKind) (at : List ℕ) → (is_kind LicenseFile kind && same_parts (components_of path) (components_of at)) ≡ true → there_of content base kind at ≡ known_reads_there.file (components_of path)
   license_there path Manifest at e = cc
   license_there path Listing at e = cc
   license_there path LicenseFile at e = ap (λ parts. file_heard (finite.get content (read_place LicenseFile (resolve base) parts))) (sym (parts_of_same path at e))
@@ -219,7 +219,7 @@ module _ (one other : FolderReads) where
       ))
 
   tried_alike : (all : List ClarificationView) → AllAgree (flat_map (looked_of one) (tried_of one (named_files all)))
-      → (flat_map (looked_of one) (tried_of one (named_files all)) ≡ flat_map (looked_of other) (tried_of other (named_files all))) × (is_none (holding one all) ≡ is_none (holding other all))
+      → (flat_map (looked_of one) (tried_of one (named_files all)) ≡ flat_map (looked_of other) (tried_of other (named_files all))) × (is_none (holding_clarification one all) ≡ is_none (holding_clarification other all))
   tried_alike [] agree = (refl, refl)
   tried_alike (first ∷ more) agree =
       let files = named_in first in
@@ -230,13 +230,13 @@ module _ (one other : FolderReads) where
       (λ yes.
       let own : holds other files ≡ true = sym here.1 ∙ yes in (
         ap (λ b. looked_of one files ++ behind_one b) yes ∙ ap (λ paths. paths ++ []) here.0 ∙ sym (ap (λ b. looked_of other files ++ behind_other b) own),
-        ap (λ b. is_none (cond b (Some first) (holding one more))) yes ∙ sym (ap (λ b. is_none (cond b (Some first) (holding other more))) own),
+        ap (λ b. is_none (cond b (Some first) (holding_clarification one more))) yes ∙ sym (ap (λ b. is_none (cond b (Some first) (holding_clarification other more))) own),
       ))
       (λ no.
       let own : holds other files ≡ false = sym here.1 ∙ no in
       let rest = tried_alike more (subst (λ b. AllAgree (behind_one b)) no (agree_back (looked_of one files) (behind_one (holds one files)) agree)) in (
         ap (λ b. looked_of one files ++ behind_one b) no ∙ ap₂ (λ paths others. paths ++ others) here.0 rest.0 ∙ sym (ap (λ b. looked_of other files ++ behind_other b) own),
-        ap (λ b. is_none (cond b (Some first) (holding one more))) no ∙ rest.1 ∙ sym (ap (λ b. is_none (cond b (Some first) (holding other more))) own),
+        ap (λ b. is_none (cond b (Some first) (holding_clarification one more))) no ∙ rest.1 ∙ sym (ap (λ b. is_none (cond b (Some first) (holding_clarification other more))) own),
       ))
 
   records_alike : (paths : List (List ℕ)) → AllAgree paths → map (file_record one) paths ≡ map (file_record other) paths
@@ -258,16 +258,16 @@ manifest_located true (Some id) path field files manifest = refl
 manifest_located false None path field files manifest = refl
 manifest_located false (Some id) path field files manifest = refl
 
-any_records : (ears : FolderReads) (path : List ℕ) (paths : List (List ℕ)) → list_any (is_read LicenseFile (components_of path)) (map (file_record ears) paths) ≡ list_any (same_path path) paths
-any_records ears path [] = refl
-any_records ears path (next ∷ paths) = ap (λ b. same_path path next || b) (any_records ears path paths)
+any_records : (known_reads : FolderReads) (path : List ℕ) (paths : List (List ℕ)) → list_any (is_read LicenseFile (components_of path)) (map (file_record known_reads) paths) ≡ list_any (same_path path) paths
+any_records known_reads path [] = refl
+any_records known_reads path (next ∷ paths) = ap (λ b. same_path path next || b) (any_records known_reads path paths)
 
-module _ (content : Content) (scanner : Scanner) (all : List ClarificationView) (krate : Record) (files : List File) where
+module _ (content : Content) (scanner : Scanner) (all : List ClarificationView) (krate : CrateRecord) (files : List File) where
   abbrev base : List ℕ
   base = folder_of krate
 
-  abbrev pub there_ears : FolderReads
-  there_ears = ears_there content base
+  abbrev pub there_known_reads : FolderReads
+  there_known_reads = known_reads_there content base
 
   abbrev pub there_manifest : ReadResult
   there_manifest = there_of content base Manifest krate.manifest_path
@@ -277,16 +277,16 @@ module _ (content : Content) (scanner : Scanner) (all : List ClarificationView) 
 
   -- the records of a turn by what is heard of the files and of the manifest
   abbrev pub records_heard : FolderReads → ReadResult → List ReadRecord
-  records_heard ears manifest = in_order (is_nothing all) (manifest_asked (asks_manifest all krate ears) id krate.manifest_path manifest) (records_of scanner all krate ears)
+  records_heard known_reads manifest = in_order (is_nothing all) (manifest_asked (asks_manifest all krate known_reads) id krate.manifest_path manifest) (records_of scanner all krate known_reads)
 
-  records_are : (policy : ℕ) (ears : FolderReads) (manifest : ReadResult) → records_in (turn_with scanner policy all krate ears manifest files) ≡ records_heard ears manifest
-  records_are policy ears manifest =
-      ap (λ read. in_order (is_nothing all) read (records_of scanner all krate ears)) (manifest_located (asks_manifest all krate ears) id krate.manifest_path (field_text krate) files manifest)
+  records_are : (policy : ℕ) (known_reads : FolderReads) (manifest : ReadResult) → records_in (turn_with scanner policy all krate known_reads manifest files) ≡ records_heard known_reads manifest
+  records_are policy known_reads manifest =
+      ap (λ read. in_order (is_nothing all) read (records_of scanner all krate known_reads)) (manifest_located (asks_manifest all krate known_reads) id krate.manifest_path (field_text krate) files manifest)
 
   -- the records of two ears are the same, and whether a clarification holds by them
   pub record AsksAlike (one other : FolderReads) : Type 0 where
     pub records : records_of scanner all krate one ≡ records_of scanner all krate other
-    pub holds : is_none (holding one all) ≡ is_none (holding other all)
+    pub holds : is_none (holding_clarification one all) ≡ is_none (holding_clarification other all)
 
   nothing_looked : (one other : FolderReads) → looks_at_files scanner all krate ≡ false → AsksAlike one other
   nothing_looked one other none = record {
@@ -294,72 +294,72 @@ module _ (content : Content) (scanner : Scanner) (all : List ClarificationView) 
     holds = by_case all none;
   }
     where
-      by_case : (some : List ClarificationView) → looks_at_files scanner some krate ≡ false → is_none (holding one some) ≡ is_none (holding other some)
+      by_case : (some : List ClarificationView) → looks_at_files scanner some krate ≡ false → is_none (holding_clarification one some) ≡ is_none (holding_clarification other some)
       by_case [] e = refl
       by_case (first ∷ more) e = cc
 
   module _ (reads : List AnsweredRead) (hear : HearThere content base reads) where
-    abbrev ears : FolderReads
-    ears = ears_by reads
+    abbrev known_reads : FolderReads
+    known_reads = known_reads_by reads
 
     abbrev paths : List (List ℕ)
-    paths = reads_of ears krate.license_file (named_files all)
+    paths = reads_of known_reads krate.license_file (named_files all)
 
     -- with this manifest's read these are the records
-    module _ (first : Bool) (manifest : Option ReadRecord) (own : records_of_reads reads ≡ in_order first manifest (records_of scanner all krate ears)) (looks : looks_at_files scanner all krate ≡ true)
-        (of_manifest : AllTell content base (λ read. is_kind Listing read.kind) there_ears.listing (option_to_list manifest)) where
-      records_looked : records_of scanner all krate ears ≡ records_with all krate ears
-      records_looked = ap (λ b. cond b (records_with all krate ears) []) looks
+    module _ (first : Bool) (manifest : Option ReadRecord) (own : records_of_reads reads ≡ in_order first manifest (records_of scanner all krate known_reads)) (looks : looks_at_files scanner all krate ≡ true)
+        (of_manifest : AllTell content base (λ read. is_kind Listing read.kind) there_known_reads.listing (option_to_list manifest)) where
+      records_looked : records_of scanner all krate known_reads ≡ records_with all krate known_reads
+      records_looked = ap (λ b. cond b (records_with all krate known_reads) []) looks
 
-      own_looked : records_of_reads reads ≡ in_order first manifest (records_with all krate ears)
+      own_looked : records_of_reads reads ≡ in_order first manifest (records_with all krate known_reads)
       own_looked = own ∙ ap (in_order first manifest) records_looked
 
-      listing_agrees : ears.listing ≡ there_ears.listing
+      listing_agrees : known_reads.listing ≡ there_known_reads.listing
       listing_agrees =
-          first_there content base (λ read. is_kind Listing read.kind) there_ears.listing reads hear
-          (subst (AllTell content base (λ read. is_kind Listing read.kind) there_ears.listing) (sym own_looked)
-          (tell_in_order content base (λ read. is_kind Listing read.kind) there_ears.listing first manifest (records_with all krate ears) of_manifest
-          (λ e. refl, tell_files content base (λ read. is_kind Listing read.kind) there_ears.listing ears (λ path e. apart e) paths)))
-          (subst (λ records. list_any (λ read. is_kind Listing read.kind) records ≡ true) (sym own_looked) (any_reads (λ read. is_kind Listing read.kind) first manifest (records_with all krate ears) refl))
+          first_there content base (λ read. is_kind Listing read.kind) there_known_reads.listing reads hear
+          (subst (AllTell content base (λ read. is_kind Listing read.kind) there_known_reads.listing) (sym own_looked)
+          (tell_in_order content base (λ read. is_kind Listing read.kind) there_known_reads.listing first manifest (records_with all krate known_reads) of_manifest
+          (λ e. refl, tell_files content base (λ read. is_kind Listing read.kind) there_known_reads.listing known_reads (λ path e. apart e) paths)))
+          (subst (λ records. list_any (λ read. is_kind Listing read.kind) records ≡ true) (sym own_looked) (any_reads (λ read. is_kind Listing read.kind) first manifest (records_with all krate known_reads) refl))
 
-      file_agrees : (path : List ℕ) → list_any (same_path path) paths ≡ true → Agree ears there_ears path
+      file_agrees : (path : List ℕ) → list_any (same_path path) paths ≡ true → Agree known_reads there_known_reads path
       file_agrees path any =
           let test = is_read LicenseFile (components_of path) in
-          first_there content base test (there_ears.file (components_of path)) reads hear
-          (tell_each content base test (there_ears.file (components_of path)) (λ read. license_there content base path read.kind read.path) (records_of_reads reads))
-          (subst (λ records. list_any test records ≡ true) (sym own_looked) (any_reads test first manifest (records_with all krate ears) (any_records ears path paths ∙ any)))
+          first_there content base test (there_known_reads.file (components_of path)) reads hear
+          (tell_each content base test (there_known_reads.file (components_of path)) (λ read. license_there content base path read.kind read.path) (records_of_reads reads))
+          (subst (λ records. list_any test records ≡ true) (sym own_looked) (any_reads test first manifest (records_with all krate known_reads) (any_records known_reads path paths ∙ any)))
 
-      all_agree : AllAgree ears there_ears paths
-      all_agree = agree_each ears there_ears paths file_agrees
+      all_agree : AllAgree known_reads there_known_reads paths
+      all_agree = agree_each known_reads there_known_reads paths file_agrees
 
-      asks_alike : AsksAlike ears there_ears
+      asks_alike : AsksAlike known_reads there_known_reads
       asks_alike =
-          let wanted = wanted_of ears krate.license_file (named_files all) in
-          let found = license_files_in ears.listing krate.license_file in
-          let tried = tried_alike ears there_ears all
-          (agree_back ears there_ears found (flat_map (looked_of ears) (tried_of ears (named_files all))) (respelled ears there_ears wanted all_agree)) in
-          let wanted_same : wanted ≡ wanted_of there_ears krate.license_file (named_files all) =
+          let wanted = wanted_of known_reads krate.license_file (named_files all) in
+          let found = license_files_in known_reads.listing krate.license_file in
+          let tried = tried_alike known_reads there_known_reads all
+          (agree_back known_reads there_known_reads found (flat_map (looked_of known_reads) (tried_of known_reads (named_files all))) (respelled known_reads there_known_reads wanted all_agree)) in
+          let wanted_same : wanted ≡ wanted_of there_known_reads krate.license_file (named_files all) =
           ap₂ (λ listing more. license_files_in listing krate.license_file ++ more) listing_agrees tried.0 in
-          let with_same : records_with all krate ears ≡ records_with all krate there_ears =
+          let with_same : records_with all krate known_reads ≡ records_with all krate there_known_reads =
           ap₂ (λ listing rest. read_record_of Listing base listing ∷ rest) listing_agrees
-          (records_alike ears there_ears paths all_agree ∙ ap (λ those. map (file_record there_ears) (first_spellings those)) wanted_same) in
+          (records_alike known_reads there_known_reads paths all_agree ∙ ap (λ those. map (file_record there_known_reads) (first_spellings those)) wanted_same) in
           record {
-            records = records_looked ∙ with_same ∙ sym (ap (λ b. cond b (records_with all krate there_ears) []) looks);
+            records = records_looked ∙ with_same ∙ sym (ap (λ b. cond b (records_with all krate there_known_reads) []) looks);
             holds = tried.1;
           }
 
     -- a manifest is no listing
-    no_listing : (asks : Bool) (found : Option ℕ) (manifest : ReadResult) → AllTell content base (λ read. is_kind Listing read.kind) there_ears.listing (option_to_list (manifest_asked asks found krate.manifest_path manifest))
+    no_listing : (asks : Bool) (found : Option ℕ) (manifest : ReadResult) → AllTell content base (λ read. is_kind Listing read.kind) there_known_reads.listing (option_to_list (manifest_asked asks found krate.manifest_path manifest))
     no_listing true None manifest = (λ e. absurd (apart e), tt)
     no_listing true (Some at) manifest = tt
     no_listing false None manifest = tt
     no_listing false (Some at) manifest = tt
 
-    tell_manifest : (looks : Bool) → AllTell content base (λ read. is_kind Manifest read.kind) there_manifest (cond looks (records_with all krate ears) [])
-    tell_manifest true = (λ e. absurd (apart e), tell_files content base (λ read. is_kind Manifest read.kind) there_manifest ears (λ path e. apart e) paths)
+    tell_manifest : (looks : Bool) → AllTell content base (λ read. is_kind Manifest read.kind) there_manifest (cond looks (records_with all krate known_reads) [])
+    tell_manifest true = (λ e. absurd (apart e), tell_files content base (λ read. is_kind Manifest read.kind) there_manifest known_reads (λ path e. apart e) paths)
     tell_manifest false = tt
 
-    manifest_alike : (asks : Bool) (found : Option ℕ) → records_of_reads reads ≡ in_order (is_nothing all) (manifest_asked asks found krate.manifest_path (manifest_by reads)) (records_of scanner all krate ears)
+    manifest_alike : (asks : Bool) (found : Option ℕ) → records_of_reads reads ≡ in_order (is_nothing all) (manifest_asked asks found krate.manifest_path (manifest_by reads)) (records_of scanner all krate known_reads)
         → manifest_asked asks found krate.manifest_path (manifest_by reads) ≡ manifest_asked asks found krate.manifest_path there_manifest
     manifest_alike true None own =
         let test = λ (read : ReadRecord). is_kind Manifest read.kind in
@@ -367,21 +367,21 @@ module _ (content : Content) (scanner : Scanner) (all : List ClarificationView) 
         ap (λ manifest. Some (manifest_record krate.manifest_path manifest))
         (first_there content base test there_manifest reads hear
         (subst (AllTell content base test there_manifest) (sym own)
-        (tell_in_order content base test there_manifest (is_nothing all) read (records_of scanner all krate ears) (λ e. refl, tt) (tell_manifest (looks_at_files scanner all krate))))
-        (subst (λ records. list_any test records ≡ true) (sym own) (any_manifest test (is_nothing all) read (records_of scanner all krate ears) refl)))
+        (tell_in_order content base test there_manifest (is_nothing all) read (records_of scanner all krate known_reads) (λ e. refl, tt) (tell_manifest (looks_at_files scanner all krate))))
+        (subst (λ records. list_any test records ≡ true) (sym own) (any_manifest test (is_nothing all) read (records_of scanner all krate known_reads) refl)))
     manifest_alike true (Some at) own = refl
     manifest_alike false None own = refl
     manifest_alike false (Some at) own = refl
 
     -- the records of the turn are those by what the content has
-    pub records_there : (policy : ℕ) → records_of_reads reads ≡ records_in (turn_with scanner policy all krate ears (manifest_by reads) files) → records_of_reads reads ≡ records_heard there_ears there_manifest
+    pub records_there : (policy : ℕ) → records_of_reads reads ≡ records_in (turn_with scanner policy all krate known_reads (manifest_by reads) files) → records_of_reads reads ≡ records_heard there_known_reads there_manifest
     records_there policy has =
-        let asks = asks_manifest all krate ears in
-        let own : records_of_reads reads ≡ records_heard ears (manifest_by reads) = has ∙ records_are policy ears (manifest_by reads) in
-        let alike : AsksAlike ears there_ears =
+        let asks = asks_manifest all krate known_reads in
+        let own : records_of_reads reads ≡ records_heard known_reads (manifest_by reads) = has ∙ records_are policy known_reads (manifest_by reads) in
+        let alike : AsksAlike known_reads there_known_reads =
         by_test (looks_at_files scanner all krate)
         (λ yes. asks_alike (is_nothing all) (manifest_asked asks id krate.manifest_path (manifest_by reads)) own yes (no_listing asks id (manifest_by reads)))
-        (λ no. nothing_looked ears there_ears no) in
+        (λ no. nothing_looked known_reads there_known_reads no) in
         own
-        ∙ ap (λ read. in_order (is_nothing all) read (records_of scanner all krate ears)) (manifest_alike asks id own)
+        ∙ ap (λ read. in_order (is_nothing all) read (records_of scanner all krate known_reads)) (manifest_alike asks id own)
         ∙ ap₂ (λ none records. in_order (is_nothing all) (manifest_asked (none && is_some krate.license) id krate.manifest_path there_manifest) records) alike.holds alike.records

@@ -9,7 +9,7 @@ use Rattle.tree_core.specs.declared.reads.ReadKind.TheVariants.{Manifest}
 use Rattle.tree_core.specs.declared.reads.ReadRecord.{ReadRecord}
 use Rattle.tree_core.specs.file_reads.Read.{AnsweredRead, asked_for, calls_in, given_path, records_of_reads}
 use Rattle.spdx_core.specs.Reading.{ExpressionView}
-use Rattle.graph_core.specs.Krate.{Record}
+use Rattle.graph_core.specs.Krate.{CrateRecord}
 use Rattle.graph_core.specs.Metadata.{Graph}
 use Rattle.graph_metadata.proofs.RisingLemmas.{graph-rising}
 use Rattle.graph_core.specs.selection.Walks.{Selected}
@@ -21,9 +21,9 @@ use Rattle.policy_core.specs.Policy.{PolicyFound}
 use Rattle.policy_core.specs.valid.Policy.{IsPrivate, Policy}
 use Rattle.policy_core.specs.valid.View.{policy_of}
 use Rattle.policy_core.specs.declared.valid.policy.ValidConfig.{ValidConfig}
-use Rattle.gather_licence.specs.expression.Scanned.{Scanner}
-use Rattle.gather_licence.specs.Priority.{folder_of}
-use Rattle.gather_core.specs.Calls.{CrateReads, CrateTurn, HasOwnReads, calls_of_all, turn_by, turns_of}
+use Rattle.gather_license.specs.expression.Scanned.{Scanner}
+use Rattle.gather_license.specs.Priority.{folder_of}
+use Rattle.gather_core.specs.Calls.{ReadsOfCrate, CrateTurn, HasOwnReads, calls_of_all, turn_by, turns_of}
 use Rattle.gather_core.specs.Entries.{ClarificationEntry, clarifications_of, entries_of}
 use Rattle.gather_core.specs.Turns.{files_behind}
 use Rattle.check_core.specs.Check.{AreVerdicts, all_hits, findings_of, packs_of}
@@ -35,20 +35,20 @@ use Rattle.check_core.specs.evaluate.Evaluation.{is_allowed}
 use Rattle.diag_stats.specs.Counts.{counts_of}
 use Rattle.run_overrides.specs.Levels.{packs_at}
 use Rattle.run_found.specs.declared.error.Error.{Error}
-use Rattle.run_found.specs.Found.{FoundInput, files_loaded}
+use Rattle.run_found.specs.Found.{PolicyAndGraph, files_loaded}
 use Rattle.run_found.specs.Hearing.{RequestHearing, TellsContent}
-use Rattle.run_found.specs.Licences.{turns_heard}
+use Rattle.run_found.specs.Licenses.{turns_heard}
 use Rattle.run_found.specs.Selection.{included_in}
 use Rattle.run_command.specs.Found.{AreSelected, PutsInOrder, at_threshold, calls_of, choice_in, scanner_of_given, turns_in}
 use Rattle.run_command.specs.Given.{CommandArguments}
-use Rattle.run_command.specs.Stops.{RequestInput}
+use Rattle.run_command.specs.Stops.{PolicyAndCrates}
 use Rattle.run_command.proofs.FoundLemmas.{input_by_Asks}
 use Rattle.run_command.proofs.HeardAlike.{FindsAlike, finds_alike}
 use Rattle.run_check.specs.declared.report.Report.{Report}
 use Rattle.run_check.specs.Found.{all_gathered}
 use Rattle.run_check.specs.Report.{IsReport, verdicts_in}
 use Rattle.run_check.proofs.OrderAlike.{lists_alike, policy_alike}
-use Rattle.run_check.proofs.ReadsAlike.{hear_there, records_heard, records_there, ears_there, there_of}
+use Rattle.run_check.proofs.ReadsAlike.{hear_there, records_heard, records_there, known_reads_there, there_of}
 
 -- ---- the reads of crates
 
@@ -92,29 +92,29 @@ module _ (content : Content) where
 
   module _ (scanner : Scanner) (policy : ℕ) (all : List ClarificationEntry) where
     -- reads of a crate that tell the content, and are those that its turn asks for
-    abbrev OwnReads : List File → Record → List AnsweredRead → Type 0
+    abbrev OwnReads : List File → CrateRecord → List AnsweredRead → Type 0
     OwnReads files krate reads = Told (calls_in (folder_of krate) reads) × HasOwnReads (turn_by scanner policy all files (record { krate = krate; reads = reads }))
 
-    own_records : (files : List File) (krate : Record) (reads : List AnsweredRead) → OwnReads files krate reads
+    own_records : (files : List File) (krate : CrateRecord) (reads : List AnsweredRead) → OwnReads files krate reads
         → records_of_reads reads
-        ≡ records_heard content scanner (clarifications_of krate all) krate files (ears_there content (folder_of krate)) (there_of content (folder_of krate) Manifest krate.manifest_path)
+        ≡ records_heard content scanner (clarifications_of krate all) krate files (known_reads_there content (folder_of krate)) (there_of content (folder_of krate) Manifest krate.manifest_path)
     own_records files krate reads own =
         records_there content scanner (clarifications_of krate all) krate files reads (hear_there content (folder_of krate) reads own.0) policy own.1
 
-    own_alike : (files : List File) (krate : Record) (one other : List AnsweredRead) → OwnReads files krate one → OwnReads files krate other → one ≡ other
+    own_alike : (files : List File) (krate : CrateRecord) (one other : List AnsweredRead) → OwnReads files krate one → OwnReads files krate other → one ≡ other
     own_alike files krate one other first second =
         reads_alike (folder_of krate) one other first.0 second.0 (own_records files krate one first ∙ sym (own_records files krate other second))
 
-    crate_alike : (files : List File) (one other : CrateReads) → one.krate ≡ other.krate → OwnReads files one.krate one.reads → OwnReads files other.krate other.reads → one ≡ other
+    crate_alike : (files : List File) (one other : ReadsOfCrate) → one.krate ≡ other.krate → OwnReads files one.krate one.reads → OwnReads files other.krate other.reads → one ≡ other
     crate_alike files one other same first second =
-        ap (λ reads. let it : CrateReads = record { krate = one.krate; reads = reads } in it)
+        ap (λ reads. let it : ReadsOfCrate = record { krate = one.krate; reads = reads } in it)
         (own_alike files one.krate one.reads other.reads first (subst (λ krate. OwnReads files krate other.reads) (sym same) second))
-        ∙ ap (λ krate. let it : CrateReads = record { krate = krate; reads = other.reads } in it) same
+        ∙ ap (λ krate. let it : ReadsOfCrate = record { krate = krate; reads = other.reads } in it) same
 
-    abbrev crates_in : List CrateReads → List Record
-    crates_in crates = map (λ (one : CrateReads). one.krate) crates
+    abbrev crates_in : List ReadsOfCrate → List CrateRecord
+    crates_in crates = map (λ (one : ReadsOfCrate). one.krate) crates
 
-    crates_alike : (files : List File) (xs ys : List CrateReads) → crates_in xs ≡ crates_in ys → Told (calls_of_all xs) → Told (calls_of_all ys)
+    crates_alike : (files : List File) (xs ys : List ReadsOfCrate) → crates_in xs ≡ crates_in ys → Told (calls_of_all xs) → Told (calls_of_all ys)
         → AllByRecursion HasOwnReads (turns_of scanner policy all files xs) → AllByRecursion HasOwnReads (turns_of scanner policy all files ys) → xs ≡ ys
     crates_alike files [] [] same told tells first second = refl
     crates_alike files [] (y ∷ ys) same told tells first second = absurd (cc)
@@ -150,7 +150,7 @@ module _ (policy : Policy) where
   skips_as (Accepted choice hits) = refl
   skips_as (Rejected least blocks) = refl
 
-  skips_by : (private : Bool) (krate : Record) (expression : Option ExpressionView) → skips (verdict_of private policy krate expression) ≡ private
+  skips_by : (private : Bool) (krate : CrateRecord) (expression : Option ExpressionView) → skips (verdict_of private policy krate expression) ≡ private
   skips_by true krate expression = refl
   skips_by false krate None = refl
   skips_by false krate (Some expression) = either (is_allowed policy krate expression.terms expression.tree)
@@ -159,10 +159,10 @@ module _ (policy : Policy) where
       either true = refl
       either false = refl
 
-  skipped_by : (krate : Record) (expression : Option ExpressionView) (verdict : Verdict) (is : IsVerdict policy krate expression verdict) → is_skipped verdict ≡ is.judged.private
+  skipped_by : (krate : CrateRecord) (expression : Option ExpressionView) (verdict : Verdict) (is : IsVerdict policy krate expression verdict) → is_skipped verdict ≡ is.judged.private
   skipped_by krate expression verdict is = sym (skips_as verdict) ∙ ap skips is.judged.is ∙ skips_by is.judged.private krate expression
 
-  skipped_alike : (krate : Record) (expression : Option ExpressionView) (one other : Verdict) → IsVerdict policy krate expression one → IsVerdict policy krate expression other → is_skipped one ≡ is_skipped other
+  skipped_alike : (krate : CrateRecord) (expression : Option ExpressionView) (one other : Verdict) → IsVerdict policy krate expression one → IsVerdict policy krate expression other → is_skipped one ≡ is_skipped other
   skipped_alike krate expression one other first second =
       skipped_by krate expression one first ∙ same_test first.judged.private second.judged.private (λ (own : IsPrivate policy krate). own) (λ (own : IsPrivate policy krate). own) first.judged.tells second.judged.tells ∙ sym (skipped_by krate expression other second)
 
@@ -203,19 +203,19 @@ module _ (given : CommandArguments) (content : Content) (one other : RequestHear
   found =
       finds_alike BothTold both_step given one other begun first.verdicts.settled.due second.verdicts.settled.due (told, tells)
 
-  abbrev asked : RequestInput
+  abbrev asked : PolicyAndCrates
   asked = first.verdicts.settled.asked
 
-  abbrev asks : RequestInput
+  abbrev asks : PolicyAndCrates
   asks = second.verdicts.settled.asked
 
-  input_alike : ◌≡◌ {A = Result FoundInput Error} (Ok (record { policy = asked.policy; graph = asked.graph })) (Ok (record { policy = asks.policy; graph = asks.graph }))
+  input_alike : ◌≡◌ {A = Result PolicyAndGraph Error} (Ok (record { policy = asked.policy; graph = asked.graph })) (Ok (record { policy = asks.policy; graph = asks.graph }))
   input_alike = sym (input_by_Asks given one asked first.verdicts.settled.asks) ∙ found.input ∙ input_by_Asks given other asks second.verdicts.settled.asks
 
-  parts : (p q : PolicyFound) (g h : Graph) → ◌≡◌ {A = Result FoundInput Error} (Ok (record { policy = p; graph = g })) (Ok (record { policy = q; graph = h })) → (p ≡ q) × (g ≡ h)
+  parts : (p q : PolicyFound) (g h : Graph) → ◌≡◌ {A = Result PolicyAndGraph Error} (Ok (record { policy = p; graph = g })) (Ok (record { policy = q; graph = h })) → (p ≡ q) × (g ≡ h)
   parts p q g h e =
-      let same : ◌≡◌ {A = FoundInput} (record { policy = p; graph = g }) (record { policy = q; graph = h }) = cc in
-      (ap (λ (own : FoundInput). own.policy) same, ap (λ (own : FoundInput). own.graph) same)
+      let same : ◌≡◌ {A = PolicyAndGraph} (record { policy = p; graph = g }) (record { policy = q; graph = h }) = cc in
+      (ap (λ (own : PolicyAndGraph). own.policy) same, ap (λ (own : PolicyAndGraph). own.graph) same)
 
   policy_found_alike : asked.policy ≡ asks.policy
   policy_found_alike = (parts asked.policy asks.policy asked.graph asks.graph input_alike).0
@@ -235,7 +235,7 @@ module _ (given : CommandArguments) (content : Content) (one other : RequestHear
       (subst (λ found. PutsInOrder given found report.policy) policy_found_alike first.verdicts.settled.ordered) second.verdicts.settled.ordered
 
   -- the turns by a policy, from a file table on
-  abbrev turns_by : ValidConfig → List File → List CrateReads → List CrateTurn
+  abbrev turns_by : ValidConfig → List File → List ReadsOfCrate → List CrateTurn
   turns_by policy files crates = turns_heard (scanner_of_given given policy) policy files crates
 
   reads_of_crates_alike : one.crates ≡ other.crates

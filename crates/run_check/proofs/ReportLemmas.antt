@@ -16,7 +16,7 @@ use Rattle.check_core.specs.Labels.{VerdictPoints}
 use Rattle.check_core.specs.Summary.{gathered_of_licenses}
 use Rattle.run_overrides.specs.Levels.{packs_at}
 use Rattle.run_found.specs.Found.{files_loaded}
-use Rattle.run_found.specs.Hearing.{RequestHearing, seen}
+use Rattle.run_found.specs.Hearing.{RequestHearing, tree_seen}
 use Rattle.run_found.specs.Written.{SinkSeen}
 use Rattle.run_command.specs.declared.crates.CratesFound.{CratesFound}
 use Rattle.run_command.specs.Crates.{HasCrates}
@@ -97,11 +97,11 @@ module _ (given : CommandArguments) (hearing : RequestHearing) (policy : ValidCo
 
 -- ---- over a tree
 
-module _ (given : CommandArguments) (carried : given.options.uncarried ≡ None) (told middle tells : Option Content) (begun mid after : ℕ) (old between more : List Call) (err : SinkSeen) (files : List File)
-    (found : CratesFound) (has : HasCrates given (seen told middle begun mid old between) err files found) where
+module _ (given : CommandArguments) (carried : given.options.unsupported ≡ None) (told middle tells : Option Content) (begun mid after : ℕ) (old between more : List Call) (err : SinkSeen) (files : List File)
+    (found : CratesFound) (has : HasCrates given (tree_seen told middle begun mid old between) err files found) where
   pub report_ends : (last : List File) (checked : CheckedCrates)
-      → IsCheckedOn (scanner_of_given given found.policy) given.options.levels found.policy (seen middle tells mid after between more) files last has.graph (choice_in given has.policy) checked
-      → Reports given (seen told tells begun after old more) err (Ok (report_with checked last))
+      → IsCheckedOn (scanner_of_given given found.policy) given.options.levels found.policy (tree_seen middle tells mid after between more) files last has.graph (choice_in given has.policy) checked
+      → Reports given (tree_seen told tells begun after old more) err (Ok (report_with checked last))
   report_ends last checked done =
       let settled = is_settled given told middle tells begun mid after old between more err files found has carried last done.licenses done.gathered in
       hears_so given told middle tells begun mid after old between more err files found has carried last done.licenses done.gathered (λ hearing. IsReport given hearing (report_with checked last))

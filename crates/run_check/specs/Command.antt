@@ -2,7 +2,7 @@
 use Rattle.std.specs.Prelude.{◌≡◌, ◌≤◌, None, Some, Result, Err, IfErr, IfOk}
 use Rattle.std.specs.Option.{ForSome}
 use Rattle.tree_core.specs.texts.Cause.{ReadCounts}
-use Rattle.graph_workspace.specs.declared.error.What.{What}
+use Rattle.graph_workspace.specs.declared.error.UnsupportedPart.{UnsupportedPart}
 use Rattle.run_found.specs.declared.error.Error.{Error}
 use Rattle.run_found.specs.declared.error.Error.TheVariants.{NotCarried}
 use Rattle.run_found.specs.Error.{cause_of}
@@ -18,10 +18,10 @@ use Rattle.run_check.specs.Script.{WritesCheck}
 
 pub record IsCheckRun (given : CommandArguments) (tree : TreeSeen) (err : SinkSeen) (result : Result Report Error) : Type 0 where
   -- Where a part of the request is not carried, that is the refusal; no call is made, and nothing is written.
-  pub uncarried : (what : What) → given.options.uncarried ≡ Some what → (result ≡ Err (NotCarried what)) × IsUntouched tree × IsSilent err
+  pub unsupported : (what : UnsupportedPart) → given.options.unsupported ≡ Some what → (result ≡ Err (NotCarried what)) × IsUntouched tree × IsSilent err
   -- Else what was heard asks for is answered, whatever the tree tells of its content, and nothing else was read; each refusal is the
   -- first one, by its cause; and what is told of that was written.
-  pub written : given.options.uncarried ≡ None → WritesCheck given tree err result
+  pub written : given.options.unsupported ≡ None → WritesCheck given tree err result
   -- Calls were made on the tree, and nothing else came of it.
   pub made : HasMade tree
   -- A failed read has a cause.

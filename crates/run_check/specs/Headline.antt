@@ -23,7 +23,7 @@ use Rattle.run_found.specs.Written.{SinkSeen}
 use Rattle.run_command.specs.Complete.{IsLawfulIn, IsLawfulRead}
 use Rattle.run_command.specs.Found.{IsHeard, calls_of}
 use Rattle.run_command.specs.Given.{CommandArguments}
-use Rattle.run_command.specs.Stops.{RequestInput}
+use Rattle.run_command.specs.Stops.{PolicyAndCrates}
 use Rattle.run_check.specs.declared.report.Report.{Report}
 use Rattle.run_check.specs.Report.{TellsVerdicts}
 
@@ -35,8 +35,8 @@ is_against Skipped = false
 is_against Unlicensed = true
 
 -- without overrides no finding is an error only if no crate is unlicensed or rejected
-abbrev pub TellsAgainst : CommandArguments → Result Report Error → Type 0
-TellsAgainst given answer = (report : Report) → answer ≡ Ok report → HasNoOverrides given.options.levels → has_errors report.stats ≡ false
+abbrev pub ZeroMeansNoneRejected : CommandArguments → Result Report Error → Type 0
+ZeroMeansNoneRejected given answer = (report : Report) → answer ≡ Ok report → HasNoOverrides given.options.levels → has_errors report.stats ≡ false
     → All (λ crate. is_against crate.verdict ≡ false) report.crates
 
 -- ---- by what was read
@@ -49,8 +49,8 @@ pub record HasVerdictsRead (given : CommandArguments) (tree : TreeSeen) (report 
 
 pub record CheckHeadlineRead (given : CommandArguments) (tree : TreeSeen) (err : SinkSeen) (answer : Result Report Error) : Type 0 where
   pub verdicts : (report : Report) → answer ≡ Ok report → HasVerdictsRead given tree report
-  pub status : TellsAgainst given answer
-  pub lawful : (hearing : RequestHearing) (behind : List Call) (asked : RequestInput) → IsLawfulRead given tree hearing behind asked → (Rose err.before err.after → ⊥) → EndsLawful answer
+  pub status : ZeroMeansNoneRejected given answer
+  pub lawful : (hearing : RequestHearing) (behind : List Call) (asked : PolicyAndCrates) → IsLawfulRead given tree hearing behind asked → (Rose err.before err.after → ⊥) → EndsLawful answer
 
 -- ---- by a content
 
@@ -65,5 +65,5 @@ pub record HasVerdictsIn (given : CommandArguments) (content : Content) (tree : 
 
 pub record CheckHeadline (given : CommandArguments) (content : Content) (tree : TreeSeen) (err : SinkSeen) (answer : Result Report Error) : Type 0 where
   pub verdicts : (report : Report) → answer ≡ Ok report → HasVerdictsIn given content tree report
-  pub status : TellsAgainst given answer
-  pub lawful : (hearing : RequestHearing) (asked : RequestInput) → IsLawfulIn given content tree hearing asked → (Rose err.before err.after → ⊥) → EndsLawful answer
+  pub status : ZeroMeansNoneRejected given answer
+  pub lawful : (hearing : RequestHearing) (asked : PolicyAndCrates) → IsLawfulIn given content tree hearing asked → (Rose err.before err.after → ⊥) → EndsLawful answer

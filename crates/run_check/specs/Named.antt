@@ -4,7 +4,7 @@ use Rattle.std.specs.List.{AllZip, flat_map}
 use Rattle.tree_core.specs.declared.reads.ReadRecord.{ReadRecord}
 use Rattle.tree_core.specs.file_reads.Read.{AreReads, records_of_reads}
 use Rattle.tree_core.specs.file_reads.Rising.{RiseInOrder}
-use Rattle.gather_core.specs.Calls.{CrateReads, HasOwnReads, reads_of_all}
+use Rattle.gather_core.specs.Calls.{ReadsOfCrate, HasOwnReads, reads_of_all}
 use Rattle.policy_core.specs.Policy.{PolicyFound}
 use Rattle.policy_core.specs.valid.View.{policy_of}
 use Rattle.check_core.specs.Hits.{TellUnneeded}
@@ -29,7 +29,7 @@ pub record ReportsOwnReads (given : CommandArguments) (tree : TreeSeen) (report 
   pub heard : IsHeard given tree hearing
   pub records : AreReads (count_metadata given.request hearing) (reads_of_all hearing.crates)
   pub own : All HasOwnReads (turns_in given hearing report.policy)
-  pub listed : AllZip (λ (one : CrateReads) (crate : CrateReport). crate.reads ≡ records_of_reads one.reads) hearing.crates report.crates
+  pub listed : AllZip (λ (one : ReadsOfCrate) (crate : CrateReport). crate.reads ≡ records_of_reads one.reads) hearing.crates report.crates
 
 -- the policy that is reported is that of the bytes, its lists put in order
 pub record ReportsPolicy (given : CommandArguments) (tree : TreeSeen) (report : Report) : Type 0 where
@@ -56,7 +56,7 @@ pub record ReportsUnneeded (given : CommandArguments) (tree : TreeSeen) (report 
 pub record ReportsCertificates (given : CommandArguments) (tree : TreeSeen) (report : Report) : Type 0 where
   pub hearing : RequestHearing
   pub heard : IsHeard given tree hearing
-  pub shown : AllZip (λ (one : CrateReads) (crate : CrateReport). IsVerdictShown (is_skipped crate.verdict) (policy_of report.policy) one.krate crate.expression crate.verdict)
+  pub shown : AllZip (λ (one : ReadsOfCrate) (crate : CrateReport). IsVerdictShown (is_skipped crate.verdict) (policy_of report.policy) one.krate crate.expression crate.verdict)
       hearing.crates report.crates
 
 -- the failed reads that are listed rise one after another, between the tree's counts at the start and at the end

@@ -7,8 +7,8 @@ use Rattle.policy_core.specs.declared.valid.policy.ValidConfig.{ValidConfig}
 use Rattle.spdx_core.specs.declared.certificates.verdict.Verdict.{Verdict}
 use Rattle.diag_core.specs.File.{File}
 use Rattle.diag_stats.specs.Counts.{counts_of}
-use Rattle.gather_licence.specs.Priority.{ExpressionSource, LicenseAnswer}
-use Rattle.gather_core.specs.Calls.{CrateReads, CrateTurn, HasOwnReads, files_behind_all}
+use Rattle.gather_license.specs.Priority.{ExpressionSource, LicenseAnswer}
+use Rattle.gather_core.specs.Calls.{ReadsOfCrate, CrateTurn, HasOwnReads, files_behind_all}
 use Rattle.gather_core.specs.Told.{notes_of, source_view}
 use Rattle.gather_core.specs.Turns.{IsCutOut, info_in}
 use Rattle.gather_core.specs.declared.summary.KrateLicense.{KrateLicense}
@@ -21,7 +21,7 @@ use Rattle.run_request.specs.declared.level.LintLevels.{LintLevels}
 use Rattle.run_found.specs.declared.error.Error.{Error}
 use Rattle.run_found.specs.Found.{files_loaded}
 use Rattle.run_found.specs.Hearing.{RequestHearing, TreeSeen}
-use Rattle.run_found.specs.Licences.{ReadsItsFiles, expression_in, priority_heard}
+use Rattle.run_found.specs.Licenses.{ReadsItsFiles, expression_in, priority_heard}
 use Rattle.run_found.specs.Written.{SinkSeen}
 use Rattle.run_command.specs.Found.{scanner_of_given, turns_in}
 use Rattle.run_command.specs.Given.{CommandArguments}
@@ -39,7 +39,7 @@ source_in answer = option_map (λ own. own.source) answer
 -- The report on a crate, by a valid policy: it lists the crate's reads; it tells the expression that has priority, by what their
 -- answers let hear, where that comes from and what is noted of it, of which there is nothing where there is no expression; and the
 -- verdict on that, with what shows it. Where a field stands in its manifest is left out here.
-pub record IsReportOf (given : CommandArguments) (policy : ValidConfig) (one : CrateReads) (report : CrateReport) : Type 0 where
+pub record IsReportOf (given : CommandArguments) (policy : ValidConfig) (one : ReadsOfCrate) (report : CrateReport) : Type 0 where
   pub id : report.id ≡ one.krate.id
   pub reads : report.reads ≡ records_of_reads one.reads
   pub expression : report.expression ≡ expression_in (priority_heard (scanner_of_given given policy) policy one)

@@ -3,7 +3,7 @@ use Rattle.std.specs.Prelude.{◌≡◌, List, All}
 use Rattle.graph_core.specs.Metadata.{Graph}
 use Rattle.diag_core.specs.File.{File}
 use Rattle.graph_core.specs.selection.Choice.{Choice}
-use Rattle.gather_licence.specs.expression.Scanned.{Scanner}
+use Rattle.gather_license.specs.expression.Scanned.{Scanner}
 use Rattle.policy_core.specs.valid.View.{policy_of}
 use Rattle.policy_core.specs.declared.valid.policy.ValidConfig.{ValidConfig}
 use Rattle.gather_core.specs.declared.summary.KrateLicense.{KrateLicense}
@@ -16,7 +16,7 @@ use Rattle.diag_stats.specs.Counts.{counts_of}
 use Rattle.run_request.specs.declared.level.LintLevels.{LintLevels}
 use Rattle.run_overrides.specs.Levels.{packs_at}
 use Rattle.run_found.specs.Hearing.{TreeSeen}
-use Rattle.run_found.specs.Licences.{IsGatheredOn}
+use Rattle.run_found.specs.Licenses.{IsGatheredOn}
 use Rattle.run_check.specs.declared.check.CheckedCrates.{CheckedCrates}
 use Rattle.run_check.specs.declared.report.Report.{Report}
 

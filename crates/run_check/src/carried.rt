@@ -2,13 +2,13 @@
 ghost use Rattle.std.specs.Prelude.{◌≡◌};
 ghost use Rattle.std.specs.List.{list_all};
 ghost use Rattle.run_check.specs.Carried as spec;
-ghost use Rattle.run_check.specs.Carried.{uncarried_of};
+ghost use Rattle.run_check.specs.Carried.{unsupported_of};
 
 use diag_print::LogContext;
-use graph_core::selection::has_uncarried;
-use graph_workspace::What;
+use graph_core::selection::has_unsupported;
+use graph_workspace::UnsupportedPart;
 use run_found::is_sarif;
-use run_request::check::Args;
+use run_request::check::CheckArgs;
 use run_request::{KrateContext, WhichCheck};
 
 /// Whether licences are named, once or more, and nothing else.
@@ -34,23 +34,23 @@ fn is_licenses(check: WhichCheck) -> bool
 }
 
 /// The first part of a request that is not carried.
-pub fn uncarried_in(log_ctx: LogContext, args: &Args, context: &KrateContext) -> Option<What>
-    ensures { result ≡ uncarried_of log_ctx args.now context.now }
+pub fn unsupported_in(log_ctx: LogContext, args: &CheckArgs, context: &KrateContext) -> Option<UnsupportedPart>
+    ensures { result ≡ unsupported_of log_ctx args.now context.now }
 {
     if context.metadata_path.is_none() {
-        Some(What::MetadataPath)
+        Some(UnsupportedPart::MetadataPath)
     } else if !names_licenses(args.which.items()) {
-        Some(What::Which)
+        Some(UnsupportedPart::Which)
     } else if is_sarif(log_ctx.format) {
-        Some(What::Format)
+        Some(UnsupportedPart::Format)
     } else if !context.targets.items().is_empty() {
-        Some(What::Target)
+        Some(UnsupportedPart::Target)
     } else if args.graph.is_some() {
-        Some(What::Graph)
+        Some(UnsupportedPart::Graph)
     } else if args.audit_compatible_output {
-        Some(What::Audit)
-    } else if has_uncarried(&context.exclude) {
-        Some(What::ExcludeSpec)
+        Some(UnsupportedPart::Audit)
+    } else if has_unsupported(&context.exclude) {
+        Some(UnsupportedPart::ExcludeSpec)
     } else {
         None
     }

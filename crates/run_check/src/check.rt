@@ -11,7 +11,7 @@ ghost use Rattle.check_core.specs.Labels.{PackLies, VerdictPoints};
 ghost use Rattle.check_core.specs.Summary.{gathered_of_licenses};
 ghost use Rattle.run_request.specs.declared.level.LintLevels.{LintLevels};
 ghost use Rattle.run_overrides.specs.Levels.{PutAtLevels};
-ghost use Rattle.run_found.specs.Licences.{IsGatherCut, scanner_of_policy};
+ghost use Rattle.run_found.specs.Licenses.{IsGatherCut, scanner_of_policy};
 ghost use Rattle.run_check.specs.Steps.{IsCheckOf, IsCheckedOn};
 ghost use Rattle.run_found.specs.Hearing.{seen_between};
 
@@ -20,7 +20,7 @@ use diag_core::{DiagnosticOverrides, ErrorSink, Files, LevelFilter, Packs};
 use gather_core::Summary;
 use graph_workspace::Krates;
 use policy_core::valid::ValidConfig;
-use run_found::licences_found;
+use run_found::licenses_found;
 use spdx_core::{Catalog, Identifier};
 use std::alloc::{AllocError, Global};
 use tree_core::Tree;
@@ -91,6 +91,6 @@ pub(crate) fn settle_and_judge<T: Tree, C: Catalog, I: Identifier>(
         files.old graph choice) }
     ensures labels { IfOk result (λ checked. All (PackLies files.new) checked.findings) }
 {
-    let summary = licences_found(alloc, &policy, krates, files, tree, catalog, identifier)?;
+    let summary = licenses_found(alloc, &policy, krates, files, tree, catalog, identifier)?;
     judge_and_report(alloc, policy, overrides, krates, files, summary)
 }

@@ -1,19 +1,19 @@
 //! The command `check`.
 ghost use Rattle.std.specs.Prelude.{◌≡◌, ◌≤◌, [], None, IfErr};
 ghost use Rattle.tree_core.specs.texts.Cause.{ReadCounts};
-ghost use Rattle.run_context.specs.Asked.{uncarried};
+ghost use Rattle.run_context.specs.Asked.{unsupported_part};
 ghost use Rattle.run_found.specs.Error.{cause_of};
 ghost use Rattle.run_found.specs.Hearing.{seen_between};
 ghost use Rattle.run_found.specs.Written.{sink_between};
 ghost use Rattle.run_command.specs.Given.{command_arguments_of};
-ghost use Rattle.run_check.specs.Carried.{uncarried_of};
+ghost use Rattle.run_check.specs.Carried.{unsupported_of};
 ghost use Rattle.run_check.specs.Command.{IsCheckRun};
 ghost use Rattle.run_check.specs.Given.{check_arguments_of, report_options};
 ghost use Rattle.run_check.specs.Report.{LabelsLie, Reports};
 ghost use Rattle.run_check.specs.Script.{WritesCheck};
 ghost use Rattle.run_check.specs.Steps.{report_with};
 
-use crate::carried::uncarried_in;
+use crate::carried::unsupported_in;
 use crate::check::{CheckedCrates, settle_and_judge};
 use crate::report::Report;
 use diag_core::Files;
@@ -21,7 +21,7 @@ use diag_print::{LogContext, index_packs, print_packs};
 use diag_stats::AllStats;
 use run_command::{PolicyUse, crates_found};
 use run_found::Error;
-use run_request::check::Args;
+use run_request::check::CheckArgs;
 use run_request::{KrateContext, LintLevels};
 use spdx_core::{Catalog, Identifier};
 use std::alloc::Global;
@@ -60,7 +60,7 @@ pub fn report_since<T: Tree, S: Sink, C: Catalog, I: Identifier>(
     levels: &LintLevels,
     context: &KrateContext,
 ) -> Result<Report, Error>
-    requires { uncarried context.now [] ≡ None }
+    requires { unsupported_part context.now [] ≡ None }
     ensures reports { Reports (command_arguments_of (C.lists catalog.now) (I.match_of identifier.now)
         log_ctx context.now (report_options levels.now None))
         (seen_between T.content T.fault_count T.trace tree.old tree.new)
@@ -101,10 +101,10 @@ pub fn check_since<T: Tree, S: Sink, C: Catalog, I: Identifier>(
     catalog: &C,
     identifier: &I,
     log_ctx: LogContext,
-    args: &Args,
+    args: &CheckArgs,
     context: &KrateContext,
 ) -> Result<Report, Error>
-    requires { uncarried_of log_ctx args.now context.now ≡ None }
+    requires { unsupported_of log_ctx args.now context.now ≡ None }
     ensures written { WritesCheck
         (check_arguments_of (C.lists catalog.now) (I.match_of identifier.now) log_ctx args.now context.now)
         (seen_between T.content T.fault_count T.trace tree.old tree.new)
@@ -143,7 +143,7 @@ pub fn cmd<T: Tree, S: Sink, C: Catalog, I: Identifier>(
     catalog: &C,
     identifier: &I,
     log_ctx: LogContext,
-    args: Args,
+    args: CheckArgs,
     krate_ctx: KrateContext,
 ) -> Result<Report, Error>
     ensures { IsCheckRun
@@ -151,7 +151,7 @@ pub fn cmd<T: Tree, S: Sink, C: Catalog, I: Identifier>(
         (seen_between T.content T.fault_count T.trace tree.old tree.new)
         (sink_between S.written S.fault_count err.old err.new) result }
 {
-    match uncarried_in(log_ctx, &args, &krate_ctx) {
+    match unsupported_in(log_ctx, &args, &krate_ctx) {
         Some(what) => Err(Error::NotCarried(what)),
         None => check_since(
             alloc, tree, err, catalog, identifier, log_ctx, &args, &krate_ctx,

@@ -6,6 +6,6 @@ mod check;
 pub mod command;
 pub mod report;
 
-pub use carried::uncarried_in;
+pub use carried::unsupported_in;
 pub use command::{check_since, cmd, report_since};
 pub use report::{CrateReport, Report};

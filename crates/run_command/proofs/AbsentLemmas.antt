@@ -9,14 +9,14 @@ use Rattle.tree_core.specs.declared.texts.fault.ReadFault.{ReadFault}
 use Rattle.tree_core.specs.declared.texts.fault.ReadFault.TheVariants.{Failed, Absent, Folder, NotUtf8}
 use Rattle.diag_core.specs.File.{File}
 use Rattle.graph_core.specs.Metadata.{Graph}
-use Rattle.graph_core.specs.selection.Choice.{is_uncarried}
+use Rattle.graph_core.specs.selection.Choice.{is_unsupported}
 use Rattle.graph_workspace.specs.Krates.{graph_in}
 use Rattle.graph_workspace.specs.declared.error.KratesError.{KratesError}
 use Rattle.graph_workspace.specs.declared.error.KratesError.TheVariants as krates
 use Rattle.spdx_terms.specs.catalog.Catalog.{CatalogLists}
 use Rattle.spdx_terms.specs.declared.catalog.identifier.Match.{Match}
-use Rattle.spdx_listing.specs.File.{first_fault, lines_of, lists_of}
-use Rattle.spdx_listing.specs.Folder.{StoreHeard, store_answered}
+use Rattle.spdx_own_names.specs.File.{first_fault, lines_of, lists_of}
+use Rattle.spdx_own_names.specs.Folder.{StoreHeard, store_answered}
 use Rattle.policy_core.specs.config.Root.{root_of}
 use Rattle.policy_core.specs.declared.config.root.RootConfig.{RootConfig}
 use Rattle.policy_core.specs.declared.exceptions.ExceptionsHeard.{ExceptionsHeard}
@@ -37,17 +37,17 @@ use Rattle.run_overrides.specs.Twice.{Twice, first_twice}
 use Rattle.run_found.specs.declared.error.Error.{Error}
 use Rattle.run_found.specs.declared.error.Error.TheVariants.{ConfigRead}
 use Rattle.policy_load.specs.declared.error.LoadError.TheVariants as load
-use Rattle.run_found.specs.Found.{FoundInput, config_by, config_in, exceptions_in, graph_heard, load_heard, metadata_heard, or_krates_error, or_load_error, path_by, paths_found, policy_found}
+use Rattle.run_found.specs.Found.{PolicyAndGraph, config_by, config_in, exceptions_in, graph_heard, load_heard, metadata_heard, or_krates_error, or_load_error, path_by, paths_found, policy_found}
 use Rattle.run_found.specs.Given.{RequestArguments}
 use Rattle.run_found.specs.Hearing.{LooksResult, look_failed, nowhere, at, unended, RequestHearing, TreeSeen}
 use Rattle.run_found.specs.Steps.{◌>>=◌}
 use Rattle.run_found.specs.Written.{SinkSeen}
-use Rattle.run_found.specs.lists.Found.{AnswersHeard}
-use Rattle.run_found.specs.lists.Given.{ListsAsked, ListsGiven}
-use Rattle.run_found.specs.lists.Heard.{ListsHearing, catalog_by, catalog_told, count_catalog, given_by, given_heard, lists_calls, lists_heard, texts_by, texts_heard, texts_told}
+use Rattle.run_found.specs.own_names.Found.{AnswersHeard}
+use Rattle.run_found.specs.own_names.Given.{ListsAsked, ListsGiven}
+use Rattle.run_found.specs.own_names.Heard.{ListsHearing, catalog_by, catalog_told, count_catalog, given_by, given_heard, lists_calls, lists_heard, texts_by, texts_heard, texts_told}
 use Rattle.run_command.specs.Found.{input_of, policy_asked, unless_twice}
-use Rattle.run_command.specs.Given.{CommandArguments, CommandAsked, command_by, handed_in}
-use Rattle.run_command.specs.Prelude.{ComesTo, Runs, came, from_there, lists_had, no_lists, no_manifest, stopped, uncarried}
+use Rattle.run_command.specs.Given.{CommandArguments, CommandRequest, command_by, handed_in}
+use Rattle.run_command.specs.Prelude.{ComesTo, Runs, came, from_there, lists_had, no_lists, no_manifest, stopped, unsupported}
 use Rattle.run_command.specs.Stops.{Refuses, Stops}
 use Rattle.run_command.proofs.ManifestLemmas.{look_apart}
 
@@ -88,7 +88,7 @@ carried_by true root = tt
 carried_by false root = tt
 
 shaped_by : (shaped : ShapeReading RootConfig) → IsRefusedByText (then_config if_carried (or_shape shaped))
-shaped_by (Ok root) = carried_by (list_any is_uncarried root.graph.exclude) root
+shaped_by (Ok root) = carried_by (list_any is_unsupported root.graph.exclude) root
 shaped_by (Err faults) = tt
 
 text_by : (lists : CatalogLists) (value : TomlReading Toml) → IsRefusedByText (then_config (λ one. then_config if_carried (or_shape (root_of lists one))) (or_syntax value))
@@ -164,10 +164,10 @@ input_never given hearing =
 pub stops_never : (given : CommandArguments) (tree : TreeSeen) (err : SinkSeen) → Stops given tree err (ConfigRead Absent) → ⊥
 stops_never given tree err stops = by_found (input_of given stops.hearing) refl stops.refused.1.refused
   where
-    as_refusal : {own : Error} → own ≡ ConfigRead Absent → ◌≡◌ {A = Result FoundInput Error} (Err own) (Err (ConfigRead Absent))
+    as_refusal : {own : Error} → own ≡ ConfigRead Absent → ◌≡◌ {A = Result PolicyAndGraph Error} (Err own) (Err (ConfigRead Absent))
     as_refusal is = cc
 
-    by_found : (found : Result FoundInput Error) → input_of given stops.hearing ≡ found → Refuses given found (ConfigRead Absent) → ⊥
+    by_found : (found : Result PolicyAndGraph Error) → input_of given stops.hearing ≡ found → Refuses given found (ConfigRead Absent) → ⊥
     by_found (Ok own) is refused = refused
     by_found (Err own) is refused = input_never given stops.hearing (is ∙ as_refusal refused)
 
@@ -222,8 +222,8 @@ lists_never given asked hearing is = by_lists (lists_heard given asked hearing) 
 same_error : {X : Type 0} {error own : Error} → ◌≡◌ {A = Result X Error} (Err error) (Err own) → own ≡ error
 same_error e = cc
 
-comes_never : (given : CommandAsked) (tree : TreeSeen) → ComesTo given tree (Err (ConfigRead Absent)) → ⊥
-comes_never given tree (uncarried what is same untouched) = absurd (cc)
+comes_never : (given : CommandRequest) (tree : TreeSeen) → ComesTo given tree (Err (ConfigRead Absent)) → ⊥
+comes_never given tree (unsupported what is same untouched) = absurd (cc)
 comes_never given tree (no_manifest carried own looked same) = look_apart given.command.request.context.manifest_path tree own looked (same_error same)
 comes_never given tree (no_lists carried told count calls looked own finds same) =
     lists_never (handed_in given.command) given.own finds.hearing (subst (λ error. AnswersHeard (given_heard (handed_in given.command) given.own finds.hearing) (Err error)) (same_error same) finds.answers)
@@ -231,7 +231,7 @@ comes_never given tree (lists_had carried told count calls looked own finds same
 
 -- ---- a run
 
-pub runs_never : {X : Type 0} (given : CommandAsked) (IsDone : CommandArguments → TreeSeen → Result X Error → Type 0) (tree : TreeSeen) (err out : SinkSeen)
+pub runs_never : {X : Type 0} (given : CommandRequest) (IsDone : CommandArguments → TreeSeen → Result X Error → Type 0) (tree : TreeSeen) (err out : SinkSeen)
     → ((own : CommandArguments) (rest : TreeSeen) → IsDone own rest (Err (ConfigRead Absent)) → ⊥) → Runs given IsDone tree err out (Err (ConfigRead Absent)) → ⊥
 runs_never {X} given IsDone tree err out never (stopped error comes same silent silent_out) = comes_never given tree (subst (λ own. ComesTo given tree (Err own)) (same_error same) comes)
 runs_never {X} given IsDone tree err out never (came told count calls lists comes is_done) = never (command_by given.command lists) (from_there tree told count calls) is_done

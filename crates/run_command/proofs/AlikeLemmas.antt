@@ -5,7 +5,7 @@ use Rattle.std.proofs.lemmas.List.Elements.{All-from_recursion, recursion_from_A
 use Rattle.tree_core.specs.Call as call
 use Rattle.tree_core.specs.Call.{CallAnswer, Call}
 use Rattle.tree_core.specs.Content.{Content}
-use Rattle.tree_core.specs.Faults.{Rose, counted}
+use Rattle.tree_core.specs.Faults.{Rose, next_count}
 use Rattle.tree_core.specs.Trace.{IsUnlessLost, Says, content_answer, fault_behind, faults_after}
 use Rattle.tree_core.proofs.MadeLemmas.{faults_after-later}
 use Rattle.tree_core.proofs.file_reads.ReadLemmas.{rose_counted}
@@ -68,8 +68,8 @@ content_alike content count after quiet one other more rest same asked path lost
   where
     failed_apart : other.answer ≡ call.failed → ⊥
     failed_apart e =
-        let counts_failed : after ≡ faults_after (counted count) rest = same.counts ∙ ap (λ answer. faults_after (fault_behind count answer) rest) e in
-        quiet (rose_counted count after (subst (λ n. counted count ≤ n) (sym counts_failed) (faults_after-later (counted count) rest)))
+        let counts_failed : after ≡ faults_after (next_count count) rest = same.counts ∙ ap (λ answer. faults_after (fault_behind count answer) rest) e in
+        quiet (rose_counted count after (subst (λ n. next_count count ≤ n) (sym counts_failed) (faults_after-later (next_count count) rest)))
 
     own : other.answer ≡ content_answer content other.asked other.path
     own = unless_lost (content_answer content other.asked other.path) other.answer lost failed_apart same.says.0

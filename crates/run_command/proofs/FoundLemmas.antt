@@ -16,7 +16,7 @@ use Rattle.run_found.proofs.CallLemmas.{counts_due, no_read}
 use Rattle.run_found.proofs.FoundLemmas.{bind-Err, bind-Ok, count-behind}
 use Rattle.run_command.specs.Found.{HearsAllDue, calls_of, input_of, metadata_by, metadata_due, policy_asked, unless_twice}
 use Rattle.run_command.specs.Given.{CommandArguments}
-use Rattle.run_command.specs.Stops.{Asks, RequestInput}
+use Rattle.run_command.specs.Stops.{Asks, PolicyAndCrates}
 
 module _ (given : CommandArguments) (hearing : RequestHearing) where
   -- where neither metadata nor crates were read
@@ -64,7 +64,7 @@ module _ (given : CommandArguments) (hearing : RequestHearing) where
         bind-Ok (policy_asked given hearing) _ policy _ is (ap (λ one. one >>= λ graph. Ok (record { policy = policy; graph = graph })) tells)
 
 -- lawful input is found
-pub input_by_Asks : (given : CommandArguments) (hearing : RequestHearing) (asked : RequestInput) → Asks given hearing asked
+pub input_by_Asks : (given : CommandArguments) (hearing : RequestHearing) (asked : PolicyAndCrates) → Asks given hearing asked
     → input_of given hearing ≡ Ok (record { policy = asked.policy; graph = asked.graph })
 input_by_Asks given hearing asked asks =
     input-graph given hearing asked.policy

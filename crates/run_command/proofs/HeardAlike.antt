@@ -7,7 +7,7 @@ use Rattle.tree_core.specs.declared.texts.fault.ReadFault.{ReadFault}
 use Rattle.policy_core.specs.Policy.{PolicyFound}
 use Rattle.run_overrides.specs.Twice.{first_twice}
 use Rattle.run_found.specs.declared.error.Error.{Error}
-use Rattle.run_found.specs.Found.{FoundInput, files_loaded, graph_heard, metadata_heard, policy_found}
+use Rattle.run_found.specs.Found.{PolicyAndGraph, files_loaded, graph_heard, metadata_heard, policy_found}
 use Rattle.run_found.specs.Hearing.{RequestHearing}
 use Rattle.run_found.specs.Steps.{◌>>=◌}
 use Rattle.run_found.proofs.HeardAlike as request_alike
@@ -22,7 +22,7 @@ asked_by given found = do
   once ← unless_twice (first_twice given.options.levels)
   Ok policy
 
-abbrev input_by : Result PolicyFound Error → Result (List ℕ) ReadFault → Result FoundInput Error
+abbrev input_by : Result PolicyFound Error → Result (List ℕ) ReadFault → Result PolicyAndGraph Error
 input_by asked metadata = do
   policy ← asked
   graph ← graph_heard metadata

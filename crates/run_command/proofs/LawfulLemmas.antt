@@ -12,21 +12,21 @@ use Rattle.tree_core.specs.texts.Cause as causes
 use Rattle.run_found.specs.declared.error.Error.{Error}
 use Rattle.run_found.specs.declared.error.Error.TheVariants.{Memory, NotCarried, ManifestPath, ManifestRead, CatalogRead, CatalogSyntax, StoreRead, ConfigRead, ConfigSyntax, ConfigShape, ConfigInvalid, OverrideTwice, MetadataRead, MetadataSyntax, MetadataShape, NoRoots, RecordRead, RecordSyntax, WriteFault}
 use Rattle.run_found.specs.Error.{MayEndLawful, cause_of}
-use Rattle.run_found.specs.Found.{FoundInput}
+use Rattle.run_found.specs.Found.{PolicyAndGraph}
 use Rattle.run_found.specs.Hearing.{RequestHearing, TellsContent, TreeSeen}
 use Rattle.run_found.specs.Written.{SinkSeen, TextWritten}
 use Rattle.run_found.proofs.AnsweredLemmas.{IsToldBy, all_fair, told_step}
 use Rattle.run_command.specs.Complete.{IsLawfulIn, IsLawfulRead}
 use Rattle.run_command.specs.Found.{HearsAllDue, IsHeard, calls_of, input_of, load_heard}
 use Rattle.run_command.specs.Given.{CommandArguments}
-use Rattle.run_command.specs.Stops.{Asks, IsRefusal, IsRefusedBy, Refuses, RefusesSelection, RequestInput, Stops}
+use Rattle.run_command.specs.Stops.{Asks, IsRefusal, IsRefusedBy, Refuses, RefusesSelection, PolicyAndCrates, Stops}
 use Rattle.run_command.proofs.AlikeLemmas.{IsSameContent}
 use Rattle.run_command.proofs.FoundLemmas.{input_by_Asks}
 use Rattle.run_command.proofs.HeardAlike.{finds_alike}
 
 -- ---- by what is found
 
-module _ (given : CommandArguments) (hearing : RequestHearing) (asked : RequestInput) (asks : Asks given hearing asked) where
+module _ (given : CommandArguments) (hearing : RequestHearing) (asked : PolicyAndCrates) (asks : Asks given hearing asked) where
   -- it has a selection
   selection_apart : (error : Error) → RefusesSelection given (record { policy = asked.policy; graph = asked.graph }) error → ⊥
   selection_apart Memory refuses = refuses
@@ -50,7 +50,7 @@ module _ (given : CommandArguments) (hearing : RequestHearing) (asked : RequestI
   selection_apart (WriteFault before last) refuses = refuses
 
   -- what is found alike is not refused
-  refuses_apart : (error : Error) (found : Result FoundInput Error) → found ≡ input_of given hearing → Refuses given found error → ⊥
+  refuses_apart : (error : Error) (found : Result PolicyAndGraph Error) → found ≡ input_of given hearing → Refuses given found error → ⊥
   refuses_apart error found same refuses =
       selection_apart error (subst (λ own. Refuses given own error) (same ∙ input_by_Asks given hearing asked asks) refuses)
 
@@ -74,7 +74,7 @@ followed_step behind asked path one other X Y e = (inl (ap first_answer e), rest
     rest_same : ◌≡◌ {A = List Call} (record { asked = asked; path = path; answer = one } ∷ X) (record { asked = asked; path = path; answer = other } ∷ (Y ++ behind)) → X ≡ Y ++ behind
     rest_same same = cc
 
-module _ (given : CommandArguments) (hearing own : RequestHearing) (asked : RequestInput) (begun : own.begun ≡ hearing.begun) (due : HearsAllDue given hearing) (asks : Asks given hearing asked) (error : Error)
+module _ (given : CommandArguments) (hearing own : RequestHearing) (asked : PolicyAndCrates) (begun : own.begun ≡ hearing.begun) (due : HearsAllDue given hearing) (asks : Asks given hearing asked) (error : Error)
     (refusal : IsRefusal given own error) where
   -- a hearing of the same calls, and of more behind them, is not refused
   pub free_read : (behind : List Call) → calls_of given own ≡ calls_of given hearing ++ behind → ⊥
@@ -95,12 +95,12 @@ module _ (given : CommandArguments) (hearing own : RequestHearing) (asked : Requ
 abbrev pub NoRefusal : CommandArguments → TreeSeen → Type 0
 NoRefusal given tree = (own : RequestHearing) (error : Error) → IsHeard given tree own → IsRefusal given own error → ⊥
 
-pub no_refusal_read : (given : CommandArguments) (tree : TreeSeen) (hearing : RequestHearing) (behind : List Call) (asked : RequestInput) → IsLawfulRead given tree hearing behind asked → NoRefusal given tree
+pub no_refusal_read : (given : CommandArguments) (tree : TreeSeen) (hearing : RequestHearing) (behind : List Call) (asked : PolicyAndCrates) → IsLawfulRead given tree hearing behind asked → NoRefusal given tree
 no_refusal_read given tree hearing behind asked lawful own error ran refusal =
     free_read given hearing own asked (ran.begun ∙ sym lawful.begun) lawful.due lawful.asks error refusal behind
     (append_cancel_left tree.calls_before (calls_of given own) (calls_of given hearing ++ behind) (sym ran.made.traced ∙ lawful.made.traced))
 
-pub no_refusal_told : (given : CommandArguments) (content : Content) (tree : TreeSeen) (hearing : RequestHearing) (asked : RequestInput) → tree.told ≡ Some content → IsLawfulIn given content tree hearing asked
+pub no_refusal_told : (given : CommandArguments) (content : Content) (tree : TreeSeen) (hearing : RequestHearing) (asked : PolicyAndCrates) → tree.told ≡ Some content → IsLawfulIn given content tree hearing asked
     → NoRefusal given tree
 no_refusal_told given content tree hearing asked told lawful own error ran refusal =
     free_told given hearing own asked (ran.begun ∙ sym lawful.heard.begun) lawful.heard.due lawful.asks error refusal content tree.count_before tree.count_after lawful.still

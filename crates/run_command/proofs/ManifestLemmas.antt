@@ -4,14 +4,14 @@ use Rattle.std.specs.Prelude.{if◌then◌else◌}
 use Rattle.tree_core.specs.Call as call
 use Rattle.tree_core.specs.Call.{CallAnswer, Call}
 use Rattle.tree_core.specs.Content.{Content}
-use Rattle.tree_core.specs.Trace.{answered, file_call}
+use Rattle.tree_core.specs.Trace.{call_answer, file_call}
 use Rattle.tree_core.specs.declared.tree.TreeError.{TreeError}
 use Rattle.tree_core.specs.declared.tree.TreeError.TheVariants as tree_error
 use Rattle.tree_core.proofs.MadeLemmas.{made_as, made_none}
 use Rattle.tree_core.specs.declared.texts.fault.ReadFault.TheVariants.{Absent}
 use Rattle.run_found.specs.declared.error.Error.{Error}
 use Rattle.run_found.specs.declared.error.Error.TheVariants.{Memory, ManifestPath, ManifestRead, ConfigRead}
-use Rattle.run_found.specs.Hearing.{MadeOn, TreeSeen, seen}
+use Rattle.run_found.specs.Hearing.{MadeOn, TreeSeen, tree_seen}
 use Rattle.run_command.specs.Manifest.{AnswersLook, IsLookedWhereDue, LooksAtManifest, ManifestLook, found_by, is_manifest, look_in, manifest_call, manifest_calls, manifest_due, manifest_found, manifest_failed, manifest_there, no_manifest, unlooked}
 
 -- ---- by the path's name
@@ -81,7 +81,7 @@ module _ (path : List ℕ) (tree : TreeSeen) where
   -- the call, by what the tree answered
   module _ (named : is_manifest path ≡ true) (result : Result Bool TreeError) (made : MadeOn tree (file_call path result ∷ [])) where
     abbrev own_answer : Option CallAnswer
-    own_answer = Some (answered call.told result)
+    own_answer = Some (call_answer call.told result)
 
     own_made : MadeOn tree (manifest_calls (manifest_due None path) own_answer)
     own_made = subst (λ due. MadeOn tree (manifest_calls due own_answer)) (sym (due_named path named)) made
@@ -120,9 +120,9 @@ module _ (path : List ℕ) (tree : TreeSeen) where
       (record { answer = Some call.failed; made = own_made named (Err tree_error.Failed) made; answers = inr (own_looked named (Err tree_error.Failed) made failed_apart, own_found named (Err tree_error.Failed) made) })
 
 pub unlooked_refused : (path : List ℕ) (told : Option Content) (count : ℕ) (calls : List Call) → is_manifest path ≡ false → (error : Error) → IsNoManifest path error
-    → LooksAtManifest path (seen told told count count calls calls) (Err error)
+    → LooksAtManifest path (tree_seen told told count count calls calls) (Err error)
 unlooked_refused path told count calls unnamed error is =
-    let tree = seen told told count count calls calls in
+    let tree = tree_seen told told count count calls calls in
     refused_by path tree None
     (subst (λ due. MadeOn tree (manifest_calls due None)) (sym (due_unnamed path unnamed)) (made_none told count calls))
     (subst (λ due. IsLookedWhereDue due None) (sym (due_unnamed path unnamed)) refl)

@@ -12,14 +12,14 @@ use Rattle.spdx_terms.specs.catalog.Catalog.{CatalogLists}
 use Rattle.spdx_terms.specs.catalog.Store.{match_of}
 use Rattle.spdx_terms.specs.declared.catalog.identifier.Match.{Match}
 use Rattle.spdx_terms.specs.declared.catalog.store.StoreText.{StoreText}
-use Rattle.spdx_listing.specs.Folder.{StoreHeard, TextFile, heard_with, if_unread, list_of, reads_answered, reads_of, store_answered, texts_due, texts_of, with_text}
-use Rattle.spdx_listing.specs.declared.error.StoreFault.{StoreFault}
-use Rattle.spdx_listing.specs.declared.error.StoreFault.TheVariants as fault
+use Rattle.spdx_own_names.specs.Folder.{StoreHeard, TextFile, heard_with, if_unread, list_of, reads_answered, reads_of, store_answered, texts_due, texts_of, with_text}
+use Rattle.spdx_own_names.specs.declared.error.StoreFault.{StoreFault}
+use Rattle.spdx_own_names.specs.declared.error.StoreFault.TheVariants as fault
 use Rattle.run_found.specs.declared.error.Error.{Error}
 use Rattle.run_found.specs.Hearing.{TreeSeen, read_calls}
-use Rattle.run_found.specs.lists.Found.{FindsLists}
-use Rattle.run_found.specs.lists.Given.{ListsAsked, ListsGiven, lists_given}
-use Rattle.run_found.specs.lists.Heard.{ListsHearing, catalog_answered, catalog_by, count_catalog, due_behind, given_behind, given_by, given_heard, lists_calls, lists_heard, store_calls, store_due, texts_by, texts_heard, texts_told}
+use Rattle.run_found.specs.own_names.Found.{FindsLists}
+use Rattle.run_found.specs.own_names.Given.{ListsAsked, ListsGiven, lists_given}
+use Rattle.run_found.specs.own_names.Heard.{ListsHearing, catalog_answered, catalog_by, count_catalog, due_behind, given_behind, given_by, given_heard, lists_calls, lists_heard, store_calls, store_due, texts_by, texts_heard, texts_told}
 
 -- ---- no call
 
@@ -66,7 +66,7 @@ record HadFirst (text : TextFile) (heard : Option (Result (List ℕ) ReadFault))
   is : heard ≡ Some (Ok body)
   more : List StoreText
   rest_is : rest ≡ Some (Ok more)
-  all_is : all ≡ record { name = text.licence; body = body } ∷ more
+  all_is : all ≡ record { name = text.license; body = body } ∷ more
 
 had_first : (text : TextFile) (heard : Option (Result (List ℕ) ReadFault)) (answers : List CallAnswer) (rest : Option StoreHeard) (all : List StoreText)
     → heard_with text heard answers rest ≡ Some (Ok all) → HadFirst text heard rest all
@@ -202,12 +202,12 @@ module _ (Same : List Call → List Call → Type 0)
       λ e. heard (ap (λ own. heard_with text (text_answered begun later own) others (reads_answered begun later texts others)) e) in
       let both = head (read_of (join_of dir text.file) answer) (read_of (join_of dir text.file) other) (reads_of dir texts reads ++ more) (reads_of dir texts others ++ rest) same refl refl lost in
       let had_other : text_answered begun later other ≡ Some (Ok first.body) = subst (λ own. text_answered begun later own ≡ Some (Ok first.body)) both.0 (text_had begun after begun later answer first.body first.is) in
-      let as_first : heard_with text (text_answered begun later other) others (reads_answered begun later texts others) ≡ option_map (with_text (record { name = text.licence; body = first.body })) (reads_answered begun later texts others) =
+      let as_first : heard_with text (text_answered begun later other) others (reads_answered begun later texts others) ≡ option_map (with_text (record { name = text.license; body = first.body })) (reads_answered begun later texts others) =
       ap (λ own. heard_with text own others (reads_answered begun later texts others)) had_other in
       let more_heard : reads_answered begun later texts others ≡ None → ⊥ =
-      λ e. heard (as_first ∙ ap (λ own. option_map (with_text (record { name = text.licence; body = first.body })) own) e) in
+      λ e. heard (as_first ∙ ap (λ own. option_map (with_text (record { name = text.license; body = first.body })) own) e) in
       let behind = reads_same begun after later dir texts reads others more rest first.more first.rest_is more_heard both.1 in
-      (as_first ∙ ap (λ own. option_map (with_text (record { name = text.licence; body = first.body })) own) behind.0 ∙ ap (λ (own : List StoreText). Some (Ok own)) (sym first.all_is), behind.1)
+      (as_first ∙ ap (λ own. option_map (with_text (record { name = text.license; body = first.body })) own) behind.0 ∙ ap (λ (own : List StoreText). Some (Ok own)) (sym first.all_is), behind.1)
 
   store_same : (given found : List ℕ → Match) (path : Option (List ℕ)) (begun after other later : ℕ) (listing listed : Option CallAnswer) (reads others : List CallAnswer) (more rest : List Call)
       → texts_by given path begun after listing reads ≡ Some (Ok found) → (texts_by given path other later listed others ≡ None → ⊥) → Same (store_calls path listing reads ++ more) (store_calls path listed others ++ rest)
@@ -238,7 +238,7 @@ module _ (Same : List Call → List Call → Type 0)
       reads_had begun after other later (text ∷ files) (answer ∷ answers) all is =
           let first = had_first text (text_answered begun after answer) answers (reads_answered begun after files answers) all is in
           ap (λ own. heard_with text own answers (reads_answered other later files answers)) (text_had begun after other later answer first.body first.is)
-          ∙ ap (λ own. option_map (with_text (record { name = text.licence; body = first.body })) own) (reads_had begun after other later files answers first.more first.rest_is)
+          ∙ ap (λ own. option_map (with_text (record { name = text.license; body = first.body })) own) (reads_had begun after other later files answers first.more first.rest_is)
           ∙ ap (λ (own : List StoreText). Some (Ok own)) (sym first.all_is)
 
   catalog_same : (given lists : CatalogLists) (path : Option (List ℕ)) (begun after other later : ℕ) (answer own : Option CallAnswer) (more rest : List Call)

@@ -11,21 +11,21 @@ use Rattle.tree_core.specs.Trace.{Says}
 use Rattle.tree_core.proofs.MadeLemmas.{made_as, made_joined, some_joined, some_made}
 use Rattle.tree_core.specs.texts.Cause.{Cause, no_memory, failed_read, refused_write}
 use Rattle.tree_core.specs.texts.Cause as causes
-use Rattle.graph_workspace.specs.declared.error.What.{What}
+use Rattle.graph_workspace.specs.declared.error.UnsupportedPart.{UnsupportedPart}
 use Rattle.run_found.specs.declared.error.Error.{Error}
 use Rattle.run_found.specs.declared.error.Error.TheVariants.{Memory, NotCarried}
 use Rattle.run_found.specs.Error.{MayEndLawful, cause_of}
 use Rattle.run_found.specs.Hearing.{HasMade, MadeOn, RequestHearing, TellsContent, TreeSeen}
 use Rattle.run_found.specs.Written.{SinkSeen}
-use Rattle.run_found.specs.lists.Found.{AnswersBy, FindsLists}
-use Rattle.run_found.specs.lists.Given.{ListsGiven}
-use Rattle.run_found.specs.lists.Heard.{ListsHearing, given_heard, lists_calls}
+use Rattle.run_found.specs.own_names.Found.{AnswersBy, FindsLists}
+use Rattle.run_found.specs.own_names.Given.{ListsGiven}
+use Rattle.run_found.specs.own_names.Heard.{ListsHearing, given_heard, lists_calls}
 use Rattle.run_command.specs.Found.{IsHeard, calls_of}
-use Rattle.run_command.specs.Given.{CommandArguments, CommandAsked, command_by, handed_in}
+use Rattle.run_command.specs.Given.{CommandArguments, CommandRequest, command_by, handed_in}
 use Rattle.run_command.specs.Lawful.{CommandHearing, IsLawful, IsLawfulOver, IsLawfulRun, IsRunHeard, run_calls, there_call}
 use Rattle.run_command.specs.Manifest.{AnswersLook, IsLookedWhereDue, LooksAtManifest, is_manifest, look_by, look_in, manifest_call, manifest_calls, manifest_due, manifest_found, unlooked}
-use Rattle.run_command.specs.Prelude.{ComesTo, IsUntouched, Runs, came, from_there, lists_had, no_lists, no_manifest, stopped, uncarried, up_to}
-use Rattle.run_command.specs.Stops.{IsRefusal, RequestInput}
+use Rattle.run_command.specs.Prelude.{ComesTo, IsUntouched, Runs, came, from_there, lists_had, no_lists, no_manifest, stopped, unsupported, up_to}
+use Rattle.run_command.specs.Stops.{IsRefusal, PolicyAndCrates}
 use Rattle.run_command.proofs.AlikeLemmas.{IsAlike, IsSameContent, IsSameTrace, content_alike, trace_alike}
 use Rattle.run_command.proofs.LawfulLemmas.{NoRefusal, free_read, free_told}
 use Rattle.run_command.proofs.ManifestLemmas.{IsThere, due_named, found_named, is_there, looked_count, looked_made}
@@ -40,9 +40,9 @@ none_apart : {X : Type 0} {value : X} → Some value ≡ None → ⊥
 none_apart e = absurd (cc)
 
 -- calls were made on the way to a command
-pub comes_made : (given : CommandAsked) (tree : TreeSeen) (answer : Result ListsGiven Error) → ComesTo given tree answer
+pub comes_made : (given : CommandRequest) (tree : TreeSeen) (answer : Result ListsGiven Error) → ComesTo given tree answer
     → MadeSome tree.told tree.tells tree.count_before tree.count_after tree.calls_before tree.calls_after
-comes_made given tree answer (uncarried what is same untouched) = some_made untouched
+comes_made given tree answer (unsupported what is same untouched) = some_made untouched
 comes_made given tree answer (no_manifest carried error looked same) = some_made looked.made
 comes_made given tree answer (no_lists carried told count calls looked error finds same) = some_joined (some_made looked.made) (some_made finds.made)
 comes_made given tree answer (lists_had carried told count calls looked lists finds same) = some_joined (some_made looked.made) (some_made finds.made)
@@ -53,8 +53,8 @@ looked_there path tree answer (inl lost) = absurd (ok_apart lost)
 looked_there path tree answer (inr (looked, found)) = is_there path tree.count_before tree.count_after answer looked found
 
 -- what came before a command that was come to: the look, and what is heard of names and texts
-pub record CameBy (given : CommandAsked) (tree : TreeSeen) (lists : ListsGiven) : Type 0 where
-  pub carried : given.command.options.uncarried ≡ None
+pub record CameBy (given : CommandRequest) (tree : TreeSeen) (lists : ListsGiven) : Type 0 where
+  pub carried : given.command.options.unsupported ≡ None
   pub named : is_manifest given.command.request.context.manifest_path ≡ true
   pub hearing : ListsHearing
   pub begun : hearing.begun ≡ tree.count_before
@@ -62,8 +62,8 @@ pub record CameBy (given : CommandAsked) (tree : TreeSeen) (lists : ListsGiven) 
   pub made : MadeOn tree (there_call given ∷ lists_calls (handed_in given.command) given.own hearing)
   pub still : tree.count_after ≡ tree.count_before
 
-pub comes_by : (given : CommandAsked) (tree : TreeSeen) (lists : ListsGiven) → ComesTo given tree (Ok lists) → CameBy given tree lists
-comes_by given tree lists (uncarried what is same untouched) = absurd (ok_apart same)
+pub comes_by : (given : CommandRequest) (tree : TreeSeen) (lists : ListsGiven) → ComesTo given tree (Ok lists) → CameBy given tree lists
+comes_by given tree lists (unsupported what is same untouched) = absurd (ok_apart same)
 comes_by given tree lists (no_manifest carried error looked same) = absurd (ok_apart same)
 comes_by given tree lists (no_lists carried told count calls looked error finds same) = absurd (ok_apart same)
 comes_by given tree lists (lists_had carried told count calls looked own finds same) =
@@ -85,33 +85,33 @@ comes_by given tree lists (lists_had carried told count calls looked own finds s
     same_lists e = cc
 
 -- all of the request is carried, and no call failed
-pub comes_carried : (given : CommandAsked) (tree : TreeSeen) (lists : ListsGiven) → ComesTo given tree (Ok lists) → given.command.options.uncarried ≡ None
+pub comes_carried : (given : CommandRequest) (tree : TreeSeen) (lists : ListsGiven) → ComesTo given tree (Ok lists) → given.command.options.unsupported ≡ None
 comes_carried given tree lists comes = (comes_by given tree lists comes).carried
 
-pub comes_still : (given : CommandAsked) (tree : TreeSeen) (lists : ListsGiven) → ComesTo given tree (Ok lists) → tree.count_after ≡ tree.count_before
+pub comes_still : (given : CommandRequest) (tree : TreeSeen) (lists : ListsGiven) → ComesTo given tree (Ok lists) → tree.count_after ≡ tree.count_before
 comes_still given tree lists comes = (comes_by given tree lists comes).still
 
 -- a part that is not carried is the refusal, and no call is made
-pub runs_uncarried : {X : Type 0} (given : CommandAsked) (IsDone : CommandArguments → TreeSeen → Result X Error → Type 0) (tree : TreeSeen) (err out : SinkSeen) (answer : Result X Error) (what : What)
-    → given.command.options.uncarried ≡ Some what → Runs given IsDone tree err out answer → (answer ≡ Err (NotCarried what)) × IsUntouched tree
-runs_uncarried {X} given IsDone tree err out answer what is (stopped error comes same silent silent_out) = by_comes comes
+pub runs_unsupported : {X : Type 0} (given : CommandRequest) (IsDone : CommandArguments → TreeSeen → Result X Error → Type 0) (tree : TreeSeen) (err out : SinkSeen) (answer : Result X Error) (what : UnsupportedPart)
+    → given.command.options.unsupported ≡ Some what → Runs given IsDone tree err out answer → (answer ≡ Err (NotCarried what)) × IsUntouched tree
+runs_unsupported {X} given IsDone tree err out answer what is (stopped error comes same silent silent_out) = by_comes comes
   where
-    refused_with : {own : What} {refusal : Error} → own ≡ what → ◌≡◌ {A = Result ListsGiven Error} (Err refusal) (Err (NotCarried own)) → ◌≡◌ {A = Result X Error} (Err refusal) (Err (NotCarried what))
+    refused_with : {own : UnsupportedPart} {refusal : Error} → own ≡ what → ◌≡◌ {A = Result ListsGiven Error} (Err refusal) (Err (NotCarried own)) → ◌≡◌ {A = Result X Error} (Err refusal) (Err (NotCarried what))
     refused_with own_is e = cc
 
-    same_what : {own : What} → ◌≡◌ {A = Option What} (Some own) (Some what) → own ≡ what
+    same_what : {own : UnsupportedPart} → ◌≡◌ {A = Option UnsupportedPart} (Some own) (Some what) → own ≡ what
     same_what e = cc
 
     by_comes : ComesTo given tree (Err error) → (answer ≡ Err (NotCarried what)) × IsUntouched tree
-    by_comes (uncarried own own_is refused untouched) = (same ∙ refused_with (same_what (sym own_is ∙ is)) refused, untouched)
+    by_comes (unsupported own own_is refused untouched) = (same ∙ refused_with (same_what (sym own_is ∙ is)) refused, untouched)
     by_comes (no_manifest carried own looked refused) = absurd (none_apart (sym is ∙ carried))
     by_comes (no_lists carried told count calls looked own finds refused) = absurd (none_apart (sym is ∙ carried))
     by_comes (lists_had carried told count calls looked own finds refused) = absurd (none_apart (sym is ∙ carried))
-runs_uncarried {X} given IsDone tree err out answer what is (came told count calls lists comes is_done) =
+runs_unsupported {X} given IsDone tree err out answer what is (came told count calls lists comes is_done) =
     absurd (none_apart (sym is ∙ comes_carried given (up_to tree told count calls) lists comes))
 
 -- what was heard on a tree that came to its command, and then by the command
-pub run_heard : (given : CommandAsked) (tree : TreeSeen) (told : Option Content) (count : ℕ) (calls : List Call) (lists : ListsGiven) (comes : ComesTo given (up_to tree told count calls) (Ok lists)) (own : RequestHearing)
+pub run_heard : (given : CommandRequest) (tree : TreeSeen) (told : Option Content) (count : ℕ) (calls : List Call) (lists : ListsGiven) (comes : ComesTo given (up_to tree told count calls) (Ok lists)) (own : RequestHearing)
     → IsHeard (command_by given.command lists) (from_there tree told count calls) own
     → IsRunHeard given tree (record { lists = (comes_by given (up_to tree told count calls) lists comes).hearing; found = own }) lists
 run_heard given tree told count calls lists comes own heard =
@@ -125,7 +125,7 @@ run_heard given tree told count calls lists comes own heard =
 -- ---- lawful input comes to its command
 
 -- the calls of a lawful run, and those that a tree was asked, are answered alike
-module _ (Same : List Call → List Call → Type 0) (alike : IsAlike Same) (given : CommandAsked) (carried : given.command.options.uncarried ≡ None)
+module _ (Same : List Call → List Call → Type 0) (alike : IsAlike Same) (given : CommandRequest) (carried : given.command.options.unsupported ≡ None)
     (named : is_manifest given.command.request.context.manifest_path ≡ true) (lawful : ListsHearing) (had : ListsGiven)
     (heard : given_heard (handed_in given.command) given.own lawful ≡ Some (Ok had)) (more : List Call) where
   abbrev path : List ℕ
@@ -190,7 +190,7 @@ module _ (Same : List Call → List Call → Type 0) (alike : IsAlike Same) (giv
 
   -- what comes before a command is refused for want of memory alone
   pub refused_before : (tree : TreeSeen) (error : Error) → ComesTo given tree (Err error) → ((calls : List Call) → MadeOn tree calls → Same (there_call given ∷ own_lists) calls) → MayEndLawful (cause_of error)
-  refused_before tree error (uncarried what is same untouched) alikes = absurd (none_apart (sym is ∙ carried))
+  refused_before tree error (unsupported what is same untouched) alikes = absurd (none_apart (sym is ∙ carried))
   refused_before tree error (no_manifest all own looked same) alikes =
       let calls = manifest_calls (manifest_due None path) looked.answer in
       let wanting : own ≡ Memory = look_lawful tree own looked (alikes (calls ++ []) (made_as (sym (append-nil calls)) looked.made)) in
@@ -227,7 +227,7 @@ module _ (Same : List Call → List Call → Type 0) (alike : IsAlike Same) (giv
 
 -- What is so of a refusal for want of memory, and of what the command answers by the lawful names and texts where nothing that it hears is
 -- refused, is so of the answer.
-module _ {X : Type 0} (given : CommandAsked) (IsDone : CommandArguments → TreeSeen → Result X Error → Type 0) (tree : TreeSeen) (err out : SinkSeen) (answer : Result X Error)
+module _ {X : Type 0} (given : CommandRequest) (IsDone : CommandArguments → TreeSeen → Result X Error → Type 0) (tree : TreeSeen) (err out : SinkSeen) (answer : Result X Error)
     (makes : (own : CommandArguments) (rest : TreeSeen) → IsDone own rest answer → HasMade rest) where
   -- calls were made, and nothing else came of the run
   pub runs_made : Runs given IsDone tree err out answer → HasMade tree
@@ -240,7 +240,7 @@ module _ {X : Type 0} (given : CommandAsked) (IsDone : CommandArguments → Tree
     abbrev own : CommandArguments
     own = command_by given.command had
 
-    module _ (Same : List Call → List Call → Type 0) (alike : IsAlike Same) (hearing : CommandHearing) (asked : RequestInput) (lawful : IsLawful given hearing had asked) (more : List Call)
+    module _ (Same : List Call → List Call → Type 0) (alike : IsAlike Same) (hearing : CommandHearing) (asked : PolicyAndCrates) (lawful : IsLawful given hearing had asked) (more : List Call)
         (alikes : (calls : List Call) → MadeOn tree calls → Same (there_call given ∷ (lists_calls (handed_in given.command) given.own hearing.lists ++ more)) calls)
         (free : (one : RequestHearing) (error : Error) → one.begun ≡ tree.count_before → Same more (calls_of own one) → IsRefusal own one error → ⊥) where
       -- the calls behind names and texts are alike
@@ -267,7 +267,7 @@ module _ {X : Type 0} (given : CommandAsked) (IsDone : CommandArguments → Tree
           (subst (λ one. IsDone (command_by given.command one) rest answer) (alike_behind told count calls lists by made.calls made.made).0 is_done)
 
     -- by what was read
-    pub lawful_run : (hearing : CommandHearing) (behind : List Call) (asked : RequestInput) → IsLawfulRun given tree hearing had behind asked → Runs given IsDone tree err out answer → EndsSo answer
+    pub lawful_run : (hearing : CommandHearing) (behind : List Call) (asked : PolicyAndCrates) → IsLawfulRun given tree hearing had behind asked → Runs given IsDone tree err out answer → EndsSo answer
     lawful_run hearing behind asked is =
         lawful_by IsSameTrace trace_alike hearing asked is.lawful (calls_of own hearing.found ++ behind) alikes
         (λ one error begun same refusal. free_read own hearing.found one asked (begun ∙ sym is.begun.found) is.lawful.due is.lawful.asks error refusal behind (sym same))
@@ -278,7 +278,7 @@ module _ {X : Type 0} (given : CommandAsked) (IsDone : CommandArguments → Tree
             ∙ append_cancel_left tree.calls_before (run_calls given hearing had ++ behind) calls (sym is.made.traced ∙ made.traced)
 
     -- and by a content, where the tree tells it
-    pub lawful_over : (content : Content) → tree.told ≡ Some content → ¬ (Rose tree.count_before tree.count_after) → (hearing : CommandHearing) (asked : RequestInput)
+    pub lawful_over : (content : Content) → tree.told ≡ Some content → ¬ (Rose tree.count_before tree.count_after) → (hearing : CommandHearing) (asked : PolicyAndCrates)
         → IsLawfulOver given content tree.count_before hearing had asked → Runs given IsDone tree err out answer → EndsSo answer
     lawful_over content told still hearing asked is =
         lawful_by (IsSameContent content tree.count_before tree.count_after) (content_alike content tree.count_before tree.count_after still) hearing asked is.lawful (calls_of own hearing.found)

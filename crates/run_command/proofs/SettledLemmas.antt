@@ -5,13 +5,13 @@ use Rattle.tree_core.specs.Content.{Content}
 use Rattle.tree_core.specs.Trace.{faults_after}
 use Rattle.tree_core.proofs.MadeLemmas.{made_as, made_joined}
 use Rattle.diag_core.specs.File.{File}
-use Rattle.graph_core.specs.Krate.{Record}
+use Rattle.graph_core.specs.Krate.{CrateRecord}
 use Rattle.graph_core.specs.selection.Listed.{IsListOf}
 use Rattle.graph_core.specs.selection.Walks.{Selected}
 use Rattle.tree_core.specs.file_reads.Read.{AreReads}
 use Rattle.policy_core.specs.declared.valid.policy.ValidConfig.{ValidConfig}
-use Rattle.gather_licence.specs.expression.Scanned.{Scanner}
-use Rattle.gather_core.specs.Calls.{AreTurnsBy, CrateReads, calls_of_all, reads_of_all}
+use Rattle.gather_license.specs.expression.Scanned.{Scanner}
+use Rattle.gather_core.specs.Calls.{AreTurnsBy, ReadsOfCrate, calls_of_all, reads_of_all}
 use Rattle.gather_core.specs.Entries.{entries_of}
 use Rattle.gather_core.specs.Gathered.{include_of, krate_of}
 use Rattle.gather_core.specs.declared.summary.KrateLicense.{KrateLicense}
@@ -19,8 +19,8 @@ use Rattle.gather_core.proofs.CrateTurns.{krates_told}
 use Rattle.run_found.specs.declared.error.Error.TheVariants.{Memory}
 use Rattle.run_found.specs.Finds.{hearing_of}
 use Rattle.run_found.specs.Found.{count_metadata, files_loaded, policy_calls}
-use Rattle.run_found.specs.Hearing.{RequestHearing, TreeSeen, read_calls, seen}
-use Rattle.run_found.specs.Licences.{HaveTurns, IsGatherCut, IsGatheredOn, turns_heard}
+use Rattle.run_found.specs.Hearing.{RequestHearing, TreeSeen, read_calls, tree_seen}
+use Rattle.run_found.specs.Licenses.{HaveTurns, IsGatherCut, IsGatheredOn, turns_heard}
 use Rattle.run_found.specs.Selection.{included_in}
 use Rattle.run_found.specs.Written.{SinkSeen}
 use Rattle.run_found.proofs.ByteLemmas.{bytes_of_found, bytes_of_graph}
@@ -39,26 +39,26 @@ include_at None policy = refl
 include_at (Some threshold) policy = refl
 
 module _ (given : CommandArguments) (told middle tells : Option Content) (begun mid after : ℕ) (old between more : List Call) (err : SinkSeen) (files : List File) (found : CratesFound)
-    (has : HasCrates given (seen told middle begun mid old between) err files found) where
+    (has : HasCrates given (tree_seen told middle begun mid old between) err files found) where
   abbrev whole : TreeSeen
-  whole = seen told tells begun after old more
+  whole = tree_seen told tells begun after old more
 
   abbrev behind : TreeSeen
-  behind = seen middle tells mid after between more
+  behind = tree_seen middle tells mid after between more
 
-  abbrev pub hears : List CrateReads → RequestHearing
+  abbrev pub hears : List ReadsOfCrate → RequestHearing
   hears crates = hearing_of begun has.heard (Some has.answer) crates
 
   abbrev scanner : Scanner
   scanner = scanner_of_given given found.policy
 
   -- the calls, with those of the crates
-  calls_at : (crates : List CrateReads) → calls_of given (hears []) ++ calls_of_all crates ≡ calls_of given (hears crates)
+  calls_at : (crates : List ReadsOfCrate) → calls_of given (hears []) ++ calls_of_all crates ≡ calls_of given (hears crates)
   calls_at crates =
       ap (λ own. own ++ calls_of_all crates)
       (append-nil (policy_calls given.request (hears []) ++ read_calls (metadata_due given (hears [])) (Some has.answer)))
 
-  due_at : (crates : List CrateReads) → HearsAllDue given (hears crates)
+  due_at : (crates : List ReadsOfCrate) → HearsAllDue given (hears crates)
   due_at crates = record {
     policy = record {
       looks = record { sought = has.due.policy.looks.sought; looks = has.due.policy.looks.looks };
@@ -79,16 +79,16 @@ module _ (given : CommandArguments) (told middle tells : Option Content) (begun 
   same_flags : include_of found.policy ≡ included_in has.policy
   same_flags = ap include_of has.ordered.rest ∙ include_at given.options.threshold has.policy.licenses
 
-  selected_at : (chosen : List Record) → IsListOf has.graph (Selected has.graph (choice_in given has.policy) (include_of found.policy)) chosen → AreSelected given has.policy has.graph chosen
+  selected_at : (chosen : List CrateRecord) → IsListOf has.graph (Selected has.graph (choice_in given has.policy) (include_of found.policy)) chosen → AreSelected given has.policy has.graph chosen
   selected_at chosen selected = subst (λ include. IsListOf has.graph (Selected has.graph (choice_in given has.policy) include) chosen) same_flags selected
 
-  input_at : (crates : List CrateReads) → input_of given (hears crates) ≡ Ok (record { policy = has.policy; graph = has.graph })
+  input_at : (crates : List ReadsOfCrate) → input_of given (hears crates) ≡ Ok (record { policy = has.policy; graph = has.graph })
   input_at crates = input-graph given (hears crates) has.policy (asked-once given (hears crates) has.policy has.policy_is has.once) (Ok has.graph) has.graph_is
 
   -- ---- once all were settled
 
-  module _ (carried : given.options.uncarried ≡ None) (last : List File) (licenses : List KrateLicense)
-      (gathered : IsGatheredOn (scanner_of_given given found.policy) found.policy (seen middle tells mid after between more) files last has.graph (choice_in given has.policy) licenses) where
+  module _ (carried : given.options.unsupported ≡ None) (last : List File) (licenses : List KrateLicense)
+      (gathered : IsGatheredOn (scanner_of_given given found.policy) found.policy (tree_seen middle tells mid after between more) files last has.graph (choice_in given has.policy) licenses) where
     turned : AreTurnsBy (files_loaded given.request (hears gathered.crates)) (turns_in given (hears gathered.crates) found.policy) licenses last
     turned = subst (λ table. AreTurnsBy table (turns_heard scanner found.policy table gathered.crates) licenses last) has.files_are gathered.turns
 

@@ -8,7 +8,7 @@ use Rattle.tree_core.specs.Trace.{fault_behind}
 use Rattle.tree_core.proofs.MadeLemmas.{made_as, made_joined, made_these, some_made}
 use Rattle.graph_core.specs.Metadata.{Graph}
 use Rattle.graph_core.specs.selection.Choice.{Choice}
-use Rattle.graph_core.specs.selection.Listed.{Chosen, IsChosen}
+use Rattle.graph_core.specs.selection.Listed.{ReachedCrates, IsChosen}
 use Rattle.tree_core.specs.texts.Cause.{Cause, no_memory, told, failed_read, refused_write}
 use Rattle.tree_core.specs.texts.Heard.{text_answered}
 use Rattle.tree_core.specs.declared.texts.fault.ReadFault.{ReadFault}
@@ -20,7 +20,7 @@ use Rattle.graph_workspace.specs.declared.error.KratesError.TheVariants as krate
 use Rattle.policy_parts.specs.declared.graph.GraphConfig.{GraphConfig}
 use Rattle.policy_core.specs.declared.valid.policy.ValidConfig.{ValidConfig}
 use Rattle.diag_core.specs.File.{File}
-use Rattle.gather_core.specs.Calls.{CrateReads, calls_of_all}
+use Rattle.gather_core.specs.Calls.{ReadsOfCrate, calls_of_all}
 use Rattle.policy_core.specs.Policy.{PolicyFound}
 use Rattle.policy_core.specs.declared.load.LoadedPolicy.{LoadedPolicy}
 use Rattle.policy_load.specs.Answer.{IsPolicyOf}
@@ -34,10 +34,10 @@ use Rattle.run_found.specs.declared.error.Error.{Error}
 use Rattle.run_found.specs.declared.error.Error.TheVariants.{Memory, OverrideTwice}
 use Rattle.run_found.specs.declared.policy.PolicyRefusal.{PolicyRefusal}
 use Rattle.run_found.specs.Error.{cause_of, error_of_krates, error_of_override, error_of_policy}
-use Rattle.run_found.specs.Finds.{FindsBy, FindsInPart, FindsLoaded, FindsPolicy, FindsRefusal, HearsPolicy, PolicyHeard, alone, hearing_of}
+use Rattle.run_found.specs.Finds.{FindsBy, FindsInPart, FindsLoaded, FindsPolicy, FindsRefusal, HearsPolicy, PolicyHeard, policy_hearing, hearing_of}
 use Rattle.run_found.specs.Found.{count_exceptions, count_metadata, graph_heard, metadata_heard, or_krates_error, policy_calls}
 use Rattle.run_found.specs.Gathering.{HasNoCrates, NoCratesBy}
-use Rattle.run_found.specs.Hearing.{IsReadWhereDue, MadeOn, RequestHearing, TreeSeen, is_heard, read_calls, seen, text_by}
+use Rattle.run_found.specs.Hearing.{IsReadWhereDue, MadeOn, RequestHearing, TreeSeen, is_heard, read_calls, tree_seen, text_by}
 use Rattle.run_found.specs.Written.{SinkSeen, TextWritten}
 use Rattle.run_found.proofs.CallLemmas.{heard_where, text_heard_by}
 use Rattle.run_found.proofs.FoundLemmas.{count-behind}
@@ -106,35 +106,35 @@ first_of given hearing error due none is =
 
 module _ (given : CommandArguments) (tree : TreeSeen) (err : SinkSeen) where
   -- the calls up to the policy, and no other
-  alone_calls : (heard : PolicyHeard) → calls_of given (alone tree heard) ≡ policy_calls given.request (alone tree heard)
-  alone_calls heard = calls-unread given (alone tree heard) refl refl
+  alone_calls : (heard : PolicyHeard) → calls_of given (policy_hearing tree heard) ≡ policy_calls given.request (policy_hearing tree heard)
+  alone_calls heard = calls-unread given (policy_hearing tree heard) refl refl
 
-  alone_heard : (heard : PolicyHeard) → MadeOn tree (policy_calls given.request (alone tree heard)) → IsHeard given tree (alone tree heard)
+  alone_heard : (heard : PolicyHeard) → MadeOn tree (policy_calls given.request (policy_hearing tree heard)) → IsHeard given tree (policy_hearing tree heard)
   alone_heard heard made = record { begun = refl; made = made_as (sym (alone_calls heard)) made }
 
   part_ends : (error : Error) → IsFree (cause_of error) → FindsInPart given.request tree err.old err.new err.before err.after (cause_of error) → Stops given tree err error
   part_ends error free part = record {
-    hearing = alone tree part.heard;
-    refused = given_up given tree (alone tree part.heard) error
-        (up_without given tree (alone tree part.heard) refl (made_as (sym (alone_calls part.heard)) part.made) (at_policy part.stops refl refl refl)) free;
+    hearing = policy_hearing tree part.heard;
+    refused = given_up given tree (policy_hearing tree part.heard) error
+        (up_without given tree (policy_hearing tree part.heard) refl (made_as (sym (alone_calls part.heard)) part.made) (at_policy part.stops refl refl refl)) free;
     written = part.written;
   }
 
   -- a refusal of what is found up to the policy
-  alone_due : (heard : PolicyHeard) (error : Error) → HearsPolicy given.request (alone tree heard) → policy_asked given (alone tree heard) ≡ Err error → HearsAllDue given (alone tree heard)
+  alone_due : (heard : PolicyHeard) (error : Error) → HearsPolicy given.request (policy_hearing tree heard) → policy_asked given (policy_hearing tree heard) ≡ Err error → HearsAllDue given (policy_hearing tree heard)
   alone_due heard error due asked =
-      record { policy = due; metadata = subst (λ own. IsReadWhereDue own None) (sym (metadata-refused given (alone tree heard) error asked)) refl }
+      record { policy = due; metadata = subst (λ own. IsReadWhereDue own None) (sym (metadata-refused given (policy_hearing tree heard) error asked)) refl }
 
-  alone_refused : (heard : PolicyHeard) (error : Error) → MadeOn tree (policy_calls given.request (alone tree heard)) → HearsPolicy given.request (alone tree heard) → policy_asked given (alone tree heard) ≡ Err error
-      → (IsFree (cause_of error) → ⊥) → IsRefusedBy given tree (alone tree heard) error (cause_of error)
+  alone_refused : (heard : PolicyHeard) (error : Error) → MadeOn tree (policy_calls given.request (policy_hearing tree heard)) → HearsPolicy given.request (policy_hearing tree heard) → policy_asked given (policy_hearing tree heard) ≡ Err error
+      → (IsFree (cause_of error) → ⊥) → IsRefusedBy given tree (policy_hearing tree heard) error (cause_of error)
   alone_refused heard error made due asked bound =
-      refused_first given tree (alone tree heard) error (alone_heard heard made)
-      (first_of given (alone tree heard) error (alone_due heard error due asked) refl (input-refused given (alone tree heard) error asked)) bound
+      refused_first given tree (policy_hearing tree heard) error (alone_heard heard made)
+      (first_of given (policy_hearing tree heard) error (alone_due heard error due asked) refl (input-refused given (policy_hearing tree heard) error asked)) bound
 
   refusal_ends : (refused : PolicyRefusal) → (IsFree (cause_of (error_of_policy refused)) → ⊥) → FindsRefusal given.request tree err.old err.new err.before err.after refused → Stops given tree err (error_of_policy refused)
   refusal_ends refused bound finds = record {
-    hearing = alone tree finds.heard;
-    refused = alone_refused finds.heard (error_of_policy refused) finds.made finds.due (asked-refused given (alone tree finds.heard) (error_of_policy refused) finds.is) bound;
+    hearing = policy_hearing tree finds.heard;
+    refused = alone_refused finds.heard (error_of_policy refused) finds.made finds.due (asked-refused given (policy_hearing tree finds.heard) (error_of_policy refused) finds.is) bound;
     written = finds.written;
   }
 
@@ -154,22 +154,22 @@ module _ (given : CommandArguments) (tree : TreeSeen) (err : SinkSeen) where
   module _ (files : List File) (policy : LoadedPolicy) (finds : FindsLoaded given.request tree err.old err.new files policy) where
     pub twice_ends : (refused : OverrideError) → IsFirstTold (first_twice given.options.levels) refused → Stops given tree err (error_of_override refused)
     twice_ends overrides.Memory told_first = record {
-      hearing = alone tree finds.heard;
-      refused = given_up given tree (alone tree finds.heard) Memory
-          (up_without given tree (alone tree finds.heard) refl (alone_heard finds.heard finds.made).made (at_metadata finds.due refl refl)) tt;
-      written = all_of err.old err.new (load_heard given (alone tree finds.heard)) finds.written;
+      hearing = policy_hearing tree finds.heard;
+      refused = given_up given tree (policy_hearing tree finds.heard) Memory
+          (up_without given tree (policy_hearing tree finds.heard) refl (alone_heard finds.heard finds.made).made (at_metadata finds.due refl refl)) tt;
+      written = all_of err.old err.new (load_heard given (policy_hearing tree finds.heard)) finds.written;
     }
     twice_ends (overrides.OverrideTwice name first second) told_first = record {
-      hearing = alone tree finds.heard;
+      hearing = policy_hearing tree finds.heard;
       refused = alone_refused finds.heard (OverrideTwice name first second) finds.made finds.due
-          (asked-twice given (alone tree finds.heard) finds.found finds.is (record { name = name; first = first; second = second }) told_first) (λ free. free);
+          (asked-twice given (policy_hearing tree finds.heard) finds.found finds.is (record { name = name; first = first; second = second }) told_first) (λ free. free);
       written = finds.written;
     }
 
 -- ---- behind the policy
 
 -- what is heard up to the policy is heard behind it too
-due_behind : (given : CommandArguments) (begun : ℕ) (heard : PolicyHeard) (metadata : Option CallAnswer) (crates : List CrateReads) → HearsPolicy given.request (hearing_of begun heard None [])
+due_behind : (given : CommandArguments) (begun : ℕ) (heard : PolicyHeard) (metadata : Option CallAnswer) (crates : List ReadsOfCrate) → HearsPolicy given.request (hearing_of begun heard None [])
     → HearsPolicy given.request (hearing_of begun heard metadata crates)
 due_behind given begun heard metadata crates due =
     record { looks = record { sought = due.looks.sought; looks = due.looks.looks }; policy = due.policy; exceptions = due.exceptions }
@@ -187,12 +187,12 @@ in_order_at (Some threshold) written sorted order =
 
 module _ (given : CommandArguments) (once : first_twice given.options.levels ≡ None) (path : List ℕ) (at : given.request.context.metadata_path ≡ Some path)
     (begun mid after : ℕ) (told_first middle tells : Option Content) (old between more : List Call) (err : SinkSeen) (files : List File) (policy : LoadedPolicy)
-    (finds : FindsLoaded given.request (seen told_first middle begun mid old between) err.old err.new files policy) where
+    (finds : FindsLoaded given.request (tree_seen told_first middle begun mid old between) err.old err.new files policy) where
   abbrev whole : TreeSeen
-  whole = seen told_first tells begun after old more
+  whole = tree_seen told_first tells begun after old more
 
   abbrev behind : TreeSeen
-  behind = seen middle tells mid after between more
+  behind = tree_seen middle tells mid after between more
 
   abbrev hears : Option CallAnswer → RequestHearing
   hears metadata = hearing_of begun finds.heard metadata []
@@ -299,7 +299,7 @@ module _ (given : CommandArguments) (once : first_twice given.options.levels ≡
 
   -- ---- the crates
 
-  module _ (made : MadeSome middle tells mid after between more) (chosen : Chosen) (gathers : GathersBy choice begun after between more path (Ok chosen)) where
+  module _ (made : MadeSome middle tells mid after between more) (chosen : ReachedCrates) (gathers : GathersBy choice begun after between more path (Ok chosen)) where
     pub crates_are : (found : CratesFound) → found.policy ≡ at_threshold given.options.threshold policy.licenses → found.krates ≡ chosen → HasCrates given whole err files found
     crates_are found policy_is krates_are =
         let answer = gathers.read.answer in

@@ -8,7 +8,7 @@ pub use Rattle.run_found.specs.Hearing.{TellsContent}
 use Rattle.run_found.specs.Written.{SinkSeen}
 use Rattle.run_command.specs.Found.{HearsAllDue, calls_of}
 use Rattle.run_command.specs.Given.{CommandArguments}
-use Rattle.run_command.specs.Stops.{Asks, RequestInput}
+use Rattle.run_command.specs.Stops.{Asks, PolicyAndCrates}
 
 -- neither sink refused a write
 pub record AreQuiet (err out : SinkSeen) : Type 0 where
@@ -18,7 +18,7 @@ pub record AreQuiet (err out : SinkSeen) : Type 0 where
 -- ---- by what was read
 
 -- the calls of this hearing were made, and then these; nothing refuses what was heard by the first ones
-pub record IsLawfulRead (given : CommandArguments) (tree : TreeSeen) (hearing : RequestHearing) (behind : List Call) (asked : RequestInput) : Type 0 where
+pub record IsLawfulRead (given : CommandArguments) (tree : TreeSeen) (hearing : RequestHearing) (behind : List Call) (asked : PolicyAndCrates) : Type 0 where
   pub begun : hearing.begun ≡ tree.count_before
   pub made : MadeOn tree (calls_of given hearing ++ behind)
   pub due : HearsAllDue given hearing
@@ -33,7 +33,7 @@ pub record IsHeardOf (given : CommandArguments) (content : Content) (count : ℕ
   pub tells : All (TellsContent content) (calls_of given hearing)
 
 -- nothing refuses what the content has, and no count of the tree rose
-pub record IsLawfulIn (given : CommandArguments) (content : Content) (tree : TreeSeen) (hearing : RequestHearing) (asked : RequestInput) : Type 0 where
+pub record IsLawfulIn (given : CommandArguments) (content : Content) (tree : TreeSeen) (hearing : RequestHearing) (asked : PolicyAndCrates) : Type 0 where
   pub heard : IsHeardOf given content tree.count_before hearing
   pub asks : Asks given hearing asked
   pub still : Rose tree.count_before tree.count_after → ⊥

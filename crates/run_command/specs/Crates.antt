@@ -21,7 +21,7 @@ use Rattle.run_command.specs.Stops.{Stops}
 
 -- the options of a command all of whose request is carried
 abbrev pub options_of : PolicyUse → CommandOptions
-options_of use_of = record { uncarried = None; levels = use_of.levels.now; with_flags = use_of.with_flags; threshold = use_of.threshold }
+options_of use_of = record { unsupported = None; levels = use_of.levels.now; with_flags = use_of.with_flags; threshold = use_of.threshold }
 
 -- what is heard up to the crates
 abbrev pub hearing_up_to : TreeSeen → PolicyHeard → CallAnswer → RequestHearing

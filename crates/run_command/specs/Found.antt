@@ -1,7 +1,7 @@
 -- What a request and the files ask of a command, all of which is carried, step by step, and which calls that takes.
 use Rattle.std.specs.Prelude.{◌≡◌, ◌&&◌, ℕ, ℤ, Bool, List, Option, Some, None, Result, Ok, Err}
 use Rattle.tree_core.specs.Call.{Call}
-use Rattle.graph_core.specs.Krate.{Record}
+use Rattle.graph_core.specs.Krate.{CrateRecord}
 use Rattle.graph_core.specs.Metadata.{Graph}
 use Rattle.graph_core.specs.selection.Choice.{Choice}
 use Rattle.graph_core.specs.selection.Listed.{IsListOf}
@@ -11,15 +11,15 @@ use Rattle.policy_parts.specs.declared.graph.GraphConfig.{GraphConfig}
 use Rattle.policy_core.specs.declared.valid.policy.ValidConfig.{ValidConfig}
 use Rattle.policy_core.specs.validate.Order.{PutsPolicyInOrder}
 use Rattle.gather_core.specs.Calls.{CrateTurn}
-use Rattle.gather_licence.specs.expression.Scanned.{Scanner}
+use Rattle.gather_license.specs.expression.Scanned.{Scanner}
 use Rattle.run_context.specs.Asked.{LeavesOut, choice_asked}
 use Rattle.run_overrides.specs.Twice.{Twice, first_twice}
 use Rattle.run_found.specs.declared.error.Error.{Error}
 use Rattle.run_found.specs.declared.error.Error.TheVariants.{OverrideTwice}
 use Rattle.run_found.specs.Finds.{HearsPolicy}
-use Rattle.run_found.specs.Found.{FoundInput, calls_with, files_loaded, graph_heard, load_told, metadata_heard, policy_found}
+use Rattle.run_found.specs.Found.{PolicyAndGraph, calls_with, files_loaded, graph_heard, load_told, metadata_heard, policy_found}
 use Rattle.run_found.specs.Hearing.{RequestHearing, IsReadWhereDue, MadeOn, TreeSeen}
-use Rattle.run_found.specs.Licences.{scanner_of_policy, turns_heard}
+use Rattle.run_found.specs.Licenses.{scanner_of_policy, turns_heard}
 use Rattle.run_found.specs.Selection.{included_in}
 use Rattle.run_found.specs.Steps.{◌>>=◌}
 use Rattle.run_command.specs.Given.{CommandArguments}
@@ -45,7 +45,7 @@ abbrev pub choice_in : CommandArguments → PolicyFound → Choice
 choice_in given policy = choice_asked given.request.context (left_by given.options.with_flags policy.graph)
 
 -- the crates that the command looks at, in the order of their ids
-abbrev pub AreSelected : CommandArguments → PolicyFound → Graph → List Record → Type 0
+abbrev pub AreSelected : CommandArguments → PolicyFound → Graph → List CrateRecord → Type 0
 AreSelected given policy graph crates = IsListOf graph (Selected graph (choice_in given policy) (included_in policy)) crates
 
 -- ---- step by step
@@ -63,7 +63,7 @@ policy_asked given hearing = do
   Ok policy
 
 -- What is found, or the first refusal: of these, and then of the metadata.
-abbrev pub input_of : CommandArguments → RequestHearing → Result FoundInput Error
+abbrev pub input_of : CommandArguments → RequestHearing → Result PolicyAndGraph Error
 input_of given hearing = do
   policy ← policy_asked given hearing
   graph ← graph_heard (metadata_heard given.request hearing)

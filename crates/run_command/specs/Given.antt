@@ -1,6 +1,6 @@
 -- What a command is given, but for its files.
 use Rattle.std.specs.Prelude.{ℕ, ℤ, Bool, List, Option}
-use Rattle.graph_workspace.specs.declared.error.What.{What}
+use Rattle.graph_workspace.specs.declared.error.UnsupportedPart.{UnsupportedPart}
 use Rattle.spdx_terms.specs.catalog.Catalog.{CatalogLists}
 use Rattle.spdx_terms.specs.declared.catalog.identifier.Match.{Match}
 use Rattle.diag_print.specs.declared.context.LogContext.{LogContext}
@@ -8,12 +8,12 @@ use Rattle.run_request.specs.declared.context.KrateContext.{KrateContext}
 use Rattle.run_request.specs.declared.level.LintLevels.{LintLevels}
 use Rattle.run_found.specs.Given.{RequestArguments, request_arguments_of}
 use Rattle.run_request.specs.declared.request.Request.{Request}
-use Rattle.run_found.specs.lists.Given.{ListsAsked, ListsGiven, lists_asked, lists_given}
+use Rattle.run_found.specs.own_names.Given.{ListsAsked, ListsGiven, lists_asked, lists_given}
 
 -- In what commands differ before they do their own: the first part of the request that is not carried, the codes and levels that are
 -- asked for, whether the flags of the policy's graph leave crates out, and the least score of a text, where that is not the policy's.
 pub record CommandOptions : Type 0 where
-  pub uncarried : Option What
+  pub unsupported : Option UnsupportedPart
   pub levels : LintLevels
   pub with_flags : Bool
   pub threshold : Option ℤ
@@ -31,7 +31,7 @@ command_arguments_of lists match_of log context options =
 -- ---- an organisation's own names and texts
 
 -- a command by the names and texts that are handed in, and where a catalogue's file and a folder of texts take their place
-pub record CommandAsked : Type 0 where
+pub record CommandRequest : Type 0 where
   pub command : CommandArguments
   pub own : ListsAsked
 
@@ -44,6 +44,6 @@ abbrev pub command_by : CommandArguments → ListsGiven → CommandArguments
 command_by command lists = command_arguments_of lists.lists lists.match_of command.request.log command.request.context command.options
 
 -- what a request asks of a command, by what is handed in
-abbrev pub command_asked : CatalogLists → (List ℕ → Match) → Request → CommandOptions → CommandAsked
+abbrev pub command_asked : CatalogLists → (List ℕ → Match) → Request → CommandOptions → CommandRequest
 command_asked lists match_of request options =
     record { command = command_arguments_of lists match_of request.log_ctx request.krate_ctx options; own = lists_asked request.catalog request.store }

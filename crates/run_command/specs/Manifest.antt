@@ -5,7 +5,7 @@ use Rattle.std.specs.Str.{bytes_eq}
 use Rattle.deny_text.specs.Path.{file_name_of}
 use Rattle.tree_core.specs.Call as call
 use Rattle.tree_core.specs.Call.{CallAnswer, Call}
-use Rattle.graph_workspace.specs.declared.error.What.{What}
+use Rattle.graph_workspace.specs.declared.error.UnsupportedPart.{UnsupportedPart}
 use Rattle.run_found.specs.declared.error.Error.{Error}
 use Rattle.run_found.specs.declared.error.Error.TheVariants.{Memory, ManifestPath, ManifestRead}
 use Rattle.run_found.specs.Hearing.{MadeOn, TreeSeen}
@@ -15,7 +15,7 @@ abbrev pub is_manifest : List ℕ → Bool
 is_manifest path = option_map_or (λ name. bytes_eq name (codes "Cargo.toml")) (file_name_of path) false
 
 -- the path that is looked at: one with that name, where no part of the request is left uncarried
-abbrev pub manifest_due : Option What → List ℕ → Option (List ℕ)
+abbrev pub manifest_due : Option UnsupportedPart → List ℕ → Option (List ℕ)
 manifest_due None path = if is_manifest path then Some path else None
 manifest_due (Some what) path = None
 

@@ -5,27 +5,27 @@ use Rattle.tree_core.specs.texts.Cause.{Cause, no_memory, refused_write}
 use Rattle.tree_core.specs.file_reads.Read.{AreReads, records_of_reads}
 use Rattle.diag_core.specs.File.{File}
 use Rattle.policy_core.specs.declared.valid.policy.ValidConfig.{ValidConfig}
-use Rattle.gather_licence.specs.expression.Scanned.{Scanner}
+use Rattle.gather_license.specs.expression.Scanned.{Scanner}
 use Rattle.gather_core.specs.findings.License.{expression_of}
-use Rattle.gather_core.specs.Calls.{AreTurnsBy, CrateReads, reads_of_all}
+use Rattle.gather_core.specs.Calls.{AreTurnsBy, ReadsOfCrate, reads_of_all}
 use Rattle.gather_core.specs.Gathered.{krate_of}
 use Rattle.gather_core.specs.declared.summary.KrateLicense.{KrateLicense}
 use Rattle.run_found.specs.declared.error.Error.{Error}
 use Rattle.run_found.specs.Found.{count_metadata, files_loaded}
 use Rattle.run_found.specs.Hearing.{RequestHearing, TreeSeen, crates_heard}
-use Rattle.run_found.specs.Licences.{expression_in, priority_heard}
+use Rattle.run_found.specs.Licenses.{expression_in, priority_heard}
 use Rattle.run_found.specs.Error.{cause_of}
 use Rattle.run_found.specs.Written.{IsRefusedIn, IsSilent, SinkSeen}
 use Rattle.run_command.specs.Found.{HearsAllDue, IsHeard, PutsInOrder, load_heard, turns_in}
 use Rattle.run_command.specs.Given.{CommandArguments}
-use Rattle.run_command.specs.Stops.{Asks, RequestInput, Stops}
+use Rattle.run_command.specs.Stops.{Asks, PolicyAndCrates, Stops}
 
 -- What was heard asks for these crates, and the licences are theirs, in the order of their ids: each look and each read that was due was
 -- made; the policy is the one that was found, its lists in order; each crate had its turn, by the answers to its own reads, which left
 -- this table of files.
 pub record IsSettled (given : CommandArguments) (hearing : RequestHearing) (policy : ValidConfig) (licenses : List KrateLicense) (last : List File) : Type 0 where
   pub due : HearsAllDue given hearing
-  pub asked : RequestInput
+  pub asked : PolicyAndCrates
   pub asks : Asks given hearing asked
   pub ordered : PutsInOrder given asked.policy policy
   pub crates : crates_heard hearing ≡ asked.crates
@@ -34,7 +34,7 @@ pub record IsSettled (given : CommandArguments) (hearing : RequestHearing) (poli
 
 -- The licence of a crate is the one that has priority by what the answers to its own reads let hear, and its reads are kept as they were
 -- made. Of all crates this follows from their turns.
-pub record IsLicenceHeard (scanner : Scanner) (policy : ValidConfig) (one : CrateReads) (license : KrateLicense) : Type 0 where
+pub record IsLicenseHeard (scanner : Scanner) (policy : ValidConfig) (one : ReadsOfCrate) (license : KrateLicense) : Type 0 where
   pub krate : krate_of license ≡ one.krate
   pub reads : license.reads ≡ records_of_reads one.reads
   pub expression : expression_of license.lic_info ≡ expression_in (priority_heard scanner policy one)

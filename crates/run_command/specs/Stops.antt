@@ -1,7 +1,7 @@
 -- When a command is refused before it does its own: in which order, for which cause, and what was heard and written up to there.
 use Rattle.std.specs.Prelude.{◌≡◌, ℕ, List, [], ◌++◌, None, Option, Result, Ok, Err}
 use Rattle.tree_core.specs.Call.{Call}
-use Rattle.graph_core.specs.Krate.{Record}
+use Rattle.graph_core.specs.Krate.{CrateRecord}
 use Rattle.graph_core.specs.Metadata.{Graph}
 use Rattle.graph_core.specs.selection.Roots.{HasRoot, LacksRoots}
 use Rattle.policy_core.specs.declared.valid.policy.ValidConfig.{ValidConfig}
@@ -11,11 +11,11 @@ use Rattle.run_found.specs.declared.error.Error.{Error}
 use Rattle.run_found.specs.declared.error.Error.TheVariants.{NoRoots}
 use Rattle.run_found.specs.Error.{cause_of}
 use Rattle.run_found.specs.Finds.{HearsPolicy, StopsBeforePolicy}
-use Rattle.run_found.specs.Found.{FoundInput, files_loaded}
+use Rattle.run_found.specs.Found.{PolicyAndGraph, files_loaded}
 use Rattle.run_found.specs.Hearing.{MadeOn, RequestHearing, TreeSeen}
-use Rattle.run_found.specs.Licences.{HaveTurns}
+use Rattle.run_found.specs.Licenses.{HaveTurns}
 use Rattle.run_found.specs.Policy.{GraphAt, PolicyAt}
-pub use Rattle.run_found.specs.Selection.{RequestInput}
+pub use Rattle.run_found.specs.Selection.{PolicyAndCrates}
 use Rattle.run_found.specs.Written.{SinkSeen, TextWritten}
 use Rattle.run_command.specs.Found.{AreSelected, HearsAllDue, IsHeard, PutsInOrder, calls_of, choice_in, input_of, load_heard, scanner_of_given}
 use Rattle.run_command.specs.Given.{CommandArguments}
@@ -24,8 +24,8 @@ use Rattle.run_command.specs.Given.{CommandArguments}
 
 -- All of the request is carried, and it sets no code and no level twice; the policy and the metadata are of their forms, and ask for
 -- these crates.
-pub record Asks (given : CommandArguments) (hearing : RequestHearing) (asked : RequestInput) : Type 0 where
-  pub carried : given.options.uncarried ≡ None
+pub record Asks (given : CommandArguments) (hearing : RequestHearing) (asked : PolicyAndCrates) : Type 0 where
+  pub carried : given.options.unsupported ≡ None
   pub policy : PolicyAt given.request hearing asked.policy
   pub once : first_twice given.options.levels ≡ None
   pub metadata : GraphAt given.request hearing asked.graph
@@ -35,12 +35,12 @@ pub record Asks (given : CommandArguments) (hearing : RequestHearing) (asked : R
 -- ---- the first refusal
 
 -- no root is left
-abbrev pub RefusesSelection : CommandArguments → FoundInput → Error → Type 0
+abbrev pub RefusesSelection : CommandArguments → PolicyAndGraph → Error → Type 0
 RefusesSelection given found (NoRoots base excluded unpublished) = LacksRoots found.graph (choice_in given found.policy) base excluded unpublished
 RefusesSelection given found _ = ⊥
 
 -- of what is looked for, else of the selection
-abbrev pub Refuses : CommandArguments → Result FoundInput Error → Error → Type 0
+abbrev pub Refuses : CommandArguments → Result PolicyAndGraph Error → Error → Type 0
 Refuses given (Err first) error = first ≡ error
 Refuses given (Ok found) error = RefusesSelection given found error
 
@@ -54,11 +54,11 @@ pub record IsRefusal (given : CommandArguments) (hearing : RequestHearing) (erro
 
 -- the first ones of the crates that are asked for by what was heard had their turns, under the policy that was found
 pub record AreSettling (given : CommandArguments) (hearing : RequestHearing) (lost : List Call) : Type 0 where
-  pub found : FoundInput
+  pub found : PolicyAndGraph
   pub is : input_of given hearing ≡ Ok found
   pub policy : ValidConfig
   pub ordered : PutsInOrder given found.policy policy
-  pub chosen : List Record
+  pub chosen : List CrateRecord
   pub selected : AreSelected given found.policy found.graph chosen
   pub turns : HaveTurns (scanner_of_given given policy) policy (files_loaded given.request hearing) chosen hearing.crates lost
 

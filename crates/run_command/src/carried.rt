@@ -1,27 +1,27 @@
 //! What of a request is not carried.
 ghost use Rattle.std.specs.Prelude.{◌≡◌};
 ghost use Rattle.run_command.specs.Carried as spec;
-ghost use Rattle.run_command.specs.Carried.{uncarried_of};
+ghost use Rattle.run_command.specs.Carried.{unsupported_of};
 
 use diag_print::LogContext;
-use graph_core::selection::has_uncarried;
-use graph_workspace::What;
+use graph_core::selection::has_unsupported;
+use graph_workspace::UnsupportedPart;
 use run_found::is_sarif;
 use run_request::{CodeOrLevels, KrateContext, LintLevels};
 use std::alloc::Global;
 
 /// The first part of a request that is not carried.
-pub fn uncarried_in(log_ctx: LogContext, context: &KrateContext) -> Option<What>
-    ensures { result ≡ uncarried_of log_ctx context.now }
+pub fn unsupported_in(log_ctx: LogContext, context: &KrateContext) -> Option<UnsupportedPart>
+    ensures { result ≡ unsupported_of log_ctx context.now }
 {
     if context.metadata_path.is_none() {
-        Some(What::MetadataPath)
+        Some(UnsupportedPart::MetadataPath)
     } else if is_sarif(log_ctx.format) {
-        Some(What::Format)
+        Some(UnsupportedPart::Format)
     } else if !context.targets.items().is_empty() {
-        Some(What::Target)
-    } else if has_uncarried(&context.exclude) {
-        Some(What::ExcludeSpec)
+        Some(UnsupportedPart::Target)
+    } else if has_unsupported(&context.exclude) {
+        Some(UnsupportedPart::ExcludeSpec)
     } else {
         None
     }

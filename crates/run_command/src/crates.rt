@@ -5,7 +5,7 @@ ghost use Rattle.tree_core.specs.texts.Cause.{ReadCounts};
 ghost use Rattle.spdx_terms.specs.declared.catalog.identifier.Match.{Match};
 ghost use Rattle.graph_workspace.specs.Krates.{krates_cause};
 ghost use Rattle.policy_core.specs.Places.{PolicyStands};
-ghost use Rattle.run_context.specs.Asked.{IsAnswerBy, IsRefused, uncarried};
+ghost use Rattle.run_context.specs.Asked.{IsAnswerBy, IsRefused, unsupported_part};
 ghost use Rattle.run_overrides.specs.Levels.{PutAtLevels};
 ghost use Rattle.run_found.specs.Error.{cause_of};
 ghost use Rattle.run_found.specs.Hearing.{seen_between};
@@ -104,7 +104,7 @@ pub fn crates_found<T: Tree, S: Sink, C: Catalog>(
     catalog: &C,
 ) -> Result<CratesFound, Error>
     requires empty { files.old ≡ [] }
-    requires carried { uncarried context.now [] ≡ None }
+    requires carried { unsupported_part context.now [] ≡ None }
     // whatever identifies texts
     ensures found { (match_of : List ℕ → Match) → FindsCrates
         (command_arguments_of (C.lists catalog.now) match_of log_ctx context.now (options_of use_of.now))

@@ -8,7 +8,7 @@ mod manifest;
 pub mod prelude;
 mod written;
 
-pub use carried::{no_levels, uncarried_in};
+pub use carried::{no_levels, unsupported_in};
 pub use crates::{CratesFound, PolicyUse, crates_found};
 pub use prelude::lists_of_request;
 pub use written::write_answer;

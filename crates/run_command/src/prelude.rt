@@ -1,18 +1,18 @@
 //! What comes before a command.
 ghost use Rattle.std.specs.Prelude.{◌≡◌, Some, Err, IfErr};
 ghost use Rattle.tree_core.specs.texts.Cause.{ReadCounts};
-ghost use Rattle.graph_workspace.specs.declared.error.What.{What};
+ghost use Rattle.graph_workspace.specs.declared.error.UnsupportedPart.{UnsupportedPart};
 ghost use Rattle.run_found.specs.Error.{cause_of};
 ghost use Rattle.run_found.specs.Hearing.{seen_between};
-ghost use Rattle.run_found.specs.lists.Found.{FindsLists, found_answer};
-ghost use Rattle.run_found.specs.lists.Given.{lists_asked, lists_given};
+ghost use Rattle.run_found.specs.own_names.Found.{FindsLists, found_answer};
+ghost use Rattle.run_found.specs.own_names.Given.{lists_asked, lists_given};
 ghost use Rattle.run_command.specs.Given.{CommandOptions, command_asked};
 ghost use Rattle.run_command.specs.Prelude.{ComesTo};
 
 use crate::manifest::look_at_manifest;
-use graph_workspace::What;
+use graph_workspace::UnsupportedPart;
 use run_found::Error;
-use run_found::lists::{ListsFound, lists_found};
+use run_found::own_names::{ListsFound, lists_found};
 use run_request::Request;
 use spdx_core::{Catalog, Identifier};
 use std::alloc::Global;
@@ -46,19 +46,19 @@ pub fn lists_of_request<'g, T: Tree, C: Catalog, I: Identifier>(
     alloc: Global,
     tree: &mut T,
     request: &Request,
-    uncarried: Option<What>,
+    unsupported: Option<UnsupportedPart>,
     catalog: &'g C,
     identifier: &'g I,
 ) -> Result<ListsFound<'g, C, I>, Error>
     // whatever else the command is given
-    ensures comes { (options : CommandOptions) → options.uncarried ≡ uncarried → ComesTo
+    ensures comes { (options : CommandOptions) → options.unsupported ≡ unsupported → ComesTo
         (command_asked (C.lists catalog.now) (I.match_of identifier.now) request.now options)
         (seen_between T.content T.fault_count T.trace tree.old tree.new)
         (found_answer C.lists I.match_of result) }
     ensures counts { IfErr result (λ error. ReadCounts
         (T.fault_count tree.old) (T.fault_count tree.old) (T.fault_count tree.new) (cause_of error)) }
 {
-    match uncarried {
+    match unsupported {
         Some(what) => Err(Error::NotCarried(what)),
         None => match look_at_manifest(alloc, tree, request.krate_ctx.manifest_path.as_path()) {
             Err(error) => Err(error),

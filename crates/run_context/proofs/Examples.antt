@@ -1,8 +1,8 @@
 -- Computed examples: each row holds as it stands.
 use Rattle.std.proofs.Common.{◌≡◌, ℕ, List, [], ◌∷◌, codes, Bool, false, true, Option, Some, None, refl}
 use Rattle.run_request.specs.declared.context.KrateContext.{KrateContext}
-use Rattle.graph_workspace.specs.declared.error.What.TheVariants.{MetadataPath, ExcludeSpec}
-use Rattle.run_context.specs.Asked.{LeavesOut, by_specs, choice_asked, uncarried}
+use Rattle.graph_workspace.specs.declared.error.UnsupportedPart.TheVariants.{MetadataPath, ExcludeSpec}
+use Rattle.run_context.specs.Asked.{LeavesOut, by_specs, choice_asked, unsupported_part}
 
 -- a request with a path of metadata, or none, and with such specs
 abbrev asks : Option (List ℕ) → List (List ℕ) → KrateContext
@@ -26,20 +26,20 @@ asks path specs = record {
 
 -- ---- the first part that is not carried
 
-path_first : uncarried (asks None (codes "x#1" ∷ [])) [] ≡ Some MetadataPath
+path_first : unsupported_part (asks None (codes "x#1" ∷ [])) [] ≡ Some MetadataPath
 path_first = refl
 
-number_sign : uncarried (asks (Some (codes "m.json")) (codes "x#1" ∷ [])) [] ≡ Some ExcludeSpec
+number_sign : unsupported_part (asks (Some (codes "m.json")) (codes "x#1" ∷ [])) [] ≡ Some ExcludeSpec
 number_sign = refl
 
-slash_behind_others : uncarried (asks (Some (codes "m.json")) (codes "a" ∷ codes "x/y" ∷ [])) [] ≡ Some ExcludeSpec
+slash_behind_others : unsupported_part (asks (Some (codes "m.json")) (codes "a" ∷ codes "x/y" ∷ [])) [] ≡ Some ExcludeSpec
 slash_behind_others = refl
 
-slash_of_the_policy : uncarried (asks (Some (codes "m.json")) (codes "a" ∷ [])) (codes "x/y" ∷ []) ≡ Some ExcludeSpec
+slash_of_the_policy : unsupported_part (asks (Some (codes "m.json")) (codes "a" ∷ [])) (codes "x/y" ∷ []) ≡ Some ExcludeSpec
 slash_of_the_policy = refl
 
 -- unreadable ones are carried
-unreadable : uncarried (asks (Some (codes "m.json")) (codes "a@1" ∷ [])) (codes "a:1.0.0@x" ∷ []) ≡ None
+unreadable : unsupported_part (asks (Some (codes "m.json")) (codes "a@1" ∷ [])) (codes "a:1.0.0@x" ∷ []) ≡ None
 unreadable = refl
 
 -- ---- what is left out

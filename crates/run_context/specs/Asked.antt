@@ -4,22 +4,22 @@ use Rattle.std.specs.List.{filter_map, list_any}
 use Rattle.tree_core.specs.Call.{Call}
 use Rattle.run_request.specs.declared.context.KrateContext.{KrateContext}
 use Rattle.run_context.specs.declared.gather.LeftOut.{LeftOut}
-use Rattle.graph_core.specs.selection.Choice.{Choice, is_uncarried, spec_read}
-use Rattle.graph_core.specs.selection.Listed.{Chosen}
+use Rattle.graph_core.specs.selection.Choice.{Choice, is_unsupported, spec_read}
+use Rattle.graph_core.specs.selection.Listed.{ReachedCrates}
 use Rattle.graph_workspace.specs.declared.error.KratesError.{KratesError}
 use Rattle.graph_workspace.specs.declared.error.KratesError.TheVariants.{Memory, NotCarried}
-use Rattle.graph_workspace.specs.declared.error.What.{What}
-use Rattle.graph_workspace.specs.declared.error.What.TheVariants.{MetadataPath, ExcludeSpec}
+use Rattle.graph_workspace.specs.declared.error.UnsupportedPart.{UnsupportedPart}
+use Rattle.graph_workspace.specs.declared.error.UnsupportedPart.TheVariants.{MetadataPath, ExcludeSpec}
 use Rattle.graph_workspace.specs.Krates.{GathersBy}
 
 -- ---- what is not carried
 
 -- The first of the parts that are not carried: no path of metadata, a spec with such a sign, be it the request's or the
 -- policy's.
-abbrev pub uncarried : KrateContext → List (List ℕ) → Option What
-uncarried context cfg_excludes =
+abbrev pub unsupported_part : KrateContext → List (List ℕ) → Option UnsupportedPart
+unsupported_part context cfg_excludes =
     if is_none context.metadata_path then Some MetadataPath
-    else (if list_any is_uncarried context.exclude || list_any is_uncarried cfg_excludes then Some ExcludeSpec else None)
+    else (if list_any is_unsupported context.exclude || list_any is_unsupported cfg_excludes then Some ExcludeSpec else None)
 
 -- ---- what it selects by
 
@@ -53,16 +53,16 @@ choice_asked context policy = record {
 -- ---- what is answered
 
 -- a request is refused as not carried exactly for the first such part
-abbrev pub IsRefused : KrateContext → List (List ℕ) → Result Chosen KratesError → Type 0
+abbrev pub IsRefused : KrateContext → List (List ℕ) → Result ReachedCrates KratesError → Type 0
 IsRefused context cfg_excludes result =
-    (what : What) → (result ≡ Err (NotCarried what)) ↔ (uncarried context cfg_excludes ≡ Some what)
+    (what : UnsupportedPart) → (result ≡ Err (NotCarried what)) ↔ (unsupported_part context cfg_excludes ≡ Some what)
 
 -- where a part is not carried, no call is made
 abbrev pub IsUnasked : KrateContext → List (List ℕ) → List Call → List Call → Type 0
-IsUnasked context cfg_excludes old new = (what : What) → uncarried context cfg_excludes ≡ Some what → new ≡ old
+IsUnasked context cfg_excludes old new = (what : UnsupportedPart) → unsupported_part context cfg_excludes ≡ Some what → new ≡ old
 
 -- else the file at its path is read, and the crates are gathered by what its answer lets hear; memory may be wanting before the read
-abbrev pub IsAnswerBy : KrateContext → LeavesOut → ℕ → ℕ → List Call → List Call → Result Chosen KratesError → Type 0
+abbrev pub IsAnswerBy : KrateContext → LeavesOut → ℕ → ℕ → List Call → List Call → Result ReachedCrates KratesError → Type 0
 IsAnswerBy context policy before after old new result =
-    (path : List ℕ) → context.metadata_path ≡ Some path → uncarried context policy.exclude ≡ None
+    (path : List ℕ) → context.metadata_path ≡ Some path → unsupported_part context policy.exclude ≡ None
     → ((result ≡ Err Memory) × (new ≡ old)) ⊎ GathersBy (choice_asked context policy) before after old new path result

@@ -8,20 +8,20 @@ ghost use Rattle.run_context.specs.Asked as spec;
 ghost use Rattle.run_context.specs.Asked.{IsAnswerBy, IsUnasked, by_specs, choice_asked, left_out};
 
 use deny_text::Texts;
-use graph_core::selection::{has_uncarried, read_specs};
-use graph_workspace::{ExcludeSpecs, Krates, KratesError, Selection, What, krates_at};
+use graph_core::selection::{has_unsupported, read_specs};
+use graph_workspace::{ExcludeSpecs, Krates, KratesError, Selection, UnsupportedPart, krates_at};
 use run_request::KrateContext;
 use std::alloc::{AllocError, Global};
 use tree_core::Tree;
 
 /// The first part of a request that is not carried.
-fn uncarried(context: &KrateContext, cfg_excludes: &Texts) -> Option<What>
-    ensures { result ≡ spec.uncarried context.now cfg_excludes.now }
+fn unsupported(context: &KrateContext, cfg_excludes: &Texts) -> Option<UnsupportedPart>
+    ensures { result ≡ spec.unsupported_part context.now cfg_excludes.now }
 {
     if context.metadata_path.is_none() {
-        Some(What::MetadataPath)
-    } else if has_uncarried(&context.exclude) || has_uncarried(cfg_excludes) {
-        Some(What::ExcludeSpec)
+        Some(UnsupportedPart::MetadataPath)
+    } else if has_unsupported(&context.exclude) || has_unsupported(cfg_excludes) {
+        Some(UnsupportedPart::ExcludeSpec)
     } else {
         None
     }
@@ -80,13 +80,13 @@ pub fn gather_krates_since<T: Tree>(
     ensures counts { IfErr result (λ error. ReadCounts begun
         (T.fault_count tree.old) (T.fault_count tree.new) (krates_cause error)) }
 {
-    if let Some(what) = uncarried(context, policy.exclude) {
+    if let Some(what) = unsupported(context, policy.exclude) {
         return Err(KratesError::NotCarried(what));
     }
     let selection = selection_of(alloc, context, policy)?;
     match &context.metadata_path {
         Some(path) => krates_at(alloc, tree, path.as_path(), &selection, begun),
-        None => Err(KratesError::NotCarried(What::MetadataPath)),
+        None => Err(KratesError::NotCarried(UnsupportedPart::MetadataPath)),
     }
 }
 

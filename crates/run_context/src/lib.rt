@@ -6,7 +6,7 @@ pub mod paths;
 
 pub use gather::{LeftOut, gather_krates, gather_krates_since};
 pub use graph_workspace::{
-    ExcludeSpec, ExcludeSpecs, Krates, KratesError, ReadFault, Selection, What,
+    ExcludeSpec, ExcludeSpecs, Krates, KratesError, ReadFault, Selection, UnsupportedPart,
 };
 pub use paths::{
     config_path_since, exceptions_path_since, get_config_path, get_local_exceptions_path,

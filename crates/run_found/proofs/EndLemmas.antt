@@ -18,10 +18,10 @@ use Rattle.policy_load.specs.declared.error.LoadError.TheVariants as load
 use Rattle.policy_load.specs.declared.loading.PolicyPaths.{PolicyPaths}
 use Rattle.run_found.specs.declared.policy.PolicyRefusal.TheVariants as refusal
 use Rattle.run_found.specs.Error.{cause_of, error_of_load}
-use Rattle.run_found.specs.Finds.{FindsInPart, FindsPolicy, FindsRefusal, alone}
+use Rattle.run_found.specs.Finds.{FindsInPart, FindsPolicy, FindsRefusal, policy_hearing}
 use Rattle.run_found.specs.Found.{load_text, load_told}
 use Rattle.run_found.specs.Given.{RequestArguments}
-use Rattle.run_found.specs.Hearing.{RequestHearing, TreeSeen, seen}
+use Rattle.run_found.specs.Hearing.{RequestHearing, TreeSeen, tree_seen}
 use Rattle.run_found.specs.Paths.{ArePathsAt}
 use Rattle.run_found.specs.Written.{TextWritten}
 use Rattle.run_found.proofs.FoundLemmas.{found-policy, found-refused, loaded-is, table-is, told-due}
@@ -50,7 +50,7 @@ memory_of error e = cc
 
 module _ (given : RequestArguments) (tree : TreeSeen) (paths : PolicyPaths) (heard : LoadHeard) (ended : LoadEnded given tree paths heard) (held gained : Option (List ℕ)) where
   abbrev own : RequestHearing
-  own = alone tree ended.hears
+  own = policy_hearing tree ended.hears
 
   abbrev came : LoadResult
   came = load_of given.lists [] paths heard
@@ -113,7 +113,7 @@ module _ (given : RequestArguments) (paths : PolicyPaths) (old between more : Li
     (looked : MadeSome told middle begun first old between) (loaded : MadeSome middle tells first after between more)
     (new : List File) (held gained : Option (List ℕ)) (before behind : ℕ) where
   abbrev whole : TreeSeen
-  whole = seen told tells begun after old more
+  whole = tree_seen told tells begun after old more
 
   found : Searched given paths old between
   found = searched given paths old between at
@@ -122,7 +122,7 @@ module _ (given : RequestArguments) (paths : PolicyPaths) (old between more : Li
   cut_finds : (error : LoadError) → IsCutLoad given.lists begun between more [] paths held gained (Err error) → FindsPolicy given whole held gained before behind new (Err (refusal.Load error))
   cut_finds error cut =
       let part = cut_part given paths old between more found begun first after told middle tells looked loaded cut.calls_are in
-      let text = load_told given (alone whole part.heard) in
+      let text = load_told given (policy_hearing whole part.heard) in
       let finds : FindsInPart given whole held gained before behind no_memory = record {
         heard = part.heard;
         made = part.made;

@@ -8,26 +8,26 @@ use Rattle.tree_core.specs.Content.{Content}
 use Rattle.tree_core.specs.Hearing.{Made}
 use Rattle.tree_core.proofs.MadeLemmas.{made-later, made_as}
 use Rattle.diag_core.specs.File.{File}
-use Rattle.gather_licence.specs.expression.Scanned.{Scanner}
-use Rattle.graph_core.specs.Krate.{Record}
+use Rattle.gather_license.specs.expression.Scanned.{Scanner}
+use Rattle.graph_core.specs.Krate.{CrateRecord}
 use Rattle.graph_core.specs.Metadata.{Graph}
 use Rattle.tree_core.specs.file_reads.Read.{call_lost, calls_in}
-use Rattle.gather_licence.specs.files.Calls.{IsFront}
-use Rattle.gather_licence.specs.Priority.{folder_of}
+use Rattle.gather_license.specs.files.Calls.{IsFront}
+use Rattle.gather_license.specs.Priority.{folder_of}
 use Rattle.graph_core.specs.selection.Choice.{Choice}
-use Rattle.graph_core.specs.selection.Listed.{Chosen, IsChosen, IsListOf, selected_in}
+use Rattle.graph_core.specs.selection.Listed.{ReachedCrates, IsChosen, IsListOf, selected_in}
 use Rattle.graph_core.specs.selection.Walks.{Selected}
 use Rattle.graph_core.proofs.selection.SelectedLemmas.{selected-lists}
 use Rattle.policy_core.specs.declared.valid.policy.ValidConfig.{ValidConfig}
-use Rattle.gather_core.specs.Calls.{AreTurnsByReads, CrateReads, HasOwnReads, StarvesGathering, calls_of_all}
+use Rattle.gather_core.specs.Calls.{AreTurnsByReads, ReadsOfCrate, HasOwnReads, StarvesGathering, calls_of_all}
 use Rattle.gather_core.specs.Entries.{ClarificationEntry, entries_of}
 use Rattle.gather_core.specs.Gathered.{include_of, krate_of}
 use Rattle.gather_core.specs.declared.summary.KrateLicense.{KrateLicense}
 use Rattle.run_found.specs.Hearing.{MadeOn, TreeSeen}
-use Rattle.run_found.specs.Licences.{IsGatherCut, IsGatheredOn}
+use Rattle.run_found.specs.Licenses.{IsGatherCut, IsGatheredOn}
 
 -- calls never lower the count, also where memory was wanting for gathering
-pub gathering_later : {held tells : Option Content} {before after : ℕ} {old new : List Call} {scanner : Scanner} {policy : ℕ} {all : List ClarificationEntry} {files : List File} {krates : List Record}
+pub gathering_later : {held tells : Option Content} {before after : ℕ} {old new : List Call} {scanner : Scanner} {policy : ℕ} {all : List ClarificationEntry} {files : List File} {krates : List CrateRecord}
     → Made held tells before after old new [] ⊎ StarvesGathering held tells before after old new scanner policy all files krates → before ≤ after
 gathering_later (inl made) = made-later made
 gathering_later (inr starves) = made-later starves.made
@@ -46,8 +46,8 @@ module _ (scanner : Scanner) (policy : ValidConfig) (tree : TreeSeen) (files : L
   }
 
   -- memory was wanting before they were all gathered
-  module _ (chosen : Chosen) (is : IsChosen graph choice chosen) where
-    abbrev reached : List Record
+  module _ (chosen : ReachedCrates) (is : IsChosen graph choice chosen) where
+    abbrev reached : List CrateRecord
     reached = selected_in (include_of policy) chosen
 
     none_cut : MadeOn tree [] → IsGatherCut scanner policy tree files graph choice
@@ -69,7 +69,7 @@ module _ (scanner : Scanner) (policy : ValidConfig) (tree : TreeSeen) (files : L
         let calls_are : calls_of_all starves.crates ++ (own ++ lost) ≡ calls_of_all all ++ lost =
         sym (append_assoc (calls_of_all starves.crates) own lost)
         ∙ ap (λ those. calls_of_all starves.crates ++ those ++ lost) (sym (append-nil own))
-        ∙ ap (λ those. those ++ lost) (sym (flat_map-append (λ (one : CrateReads). calls_in (folder_of one.krate) one.reads) starves.crates (starves.begun ∷ []))) in
+        ∙ ap (λ those. those ++ lost) (sym (flat_map-append (λ (one : ReadsOfCrate). calls_in (folder_of one.krate) one.reads) starves.crates (starves.begun ∷ []))) in
         record {
           crates = all;
           lost = lost;
@@ -80,7 +80,7 @@ module _ (scanner : Scanner) (policy : ValidConfig) (tree : TreeSeen) (files : L
             earlier = starves.crates;
             own = starves.own;
             ends = inr (record { one = starves.begun; next = starves.next; crates_are = refl; lost_is = refl; front = starves.front });
-            among = subst (λ those. IsFront those reached) (sym (map-append (λ (one : CrateReads). one.krate) starves.crates (starves.begun ∷ []))) starves.among;
+            among = subst (λ those. IsFront those reached) (sym (map-append (λ (one : ReadsOfCrate). one.krate) starves.crates (starves.begun ∷ []))) starves.among;
           };
         }
 

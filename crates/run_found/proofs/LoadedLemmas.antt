@@ -16,10 +16,10 @@ use Rattle.policy_load.specs.Answer.{MayReadBoth, ReadsBehind}
 use Rattle.policy_load.specs.Heard.{IsPolicyRead, LoadHeard, MayReadPolicy}
 use Rattle.policy_load.specs.Load.{load_by_text, load_of, with_policy}
 use Rattle.policy_load.specs.declared.loading.PolicyPaths.{PolicyPaths}
-use Rattle.run_found.specs.Finds.{HearsPolicy, PolicyHeard, StopsBeforePolicy, alone, at_exceptions, at_policy}
+use Rattle.run_found.specs.Finds.{HearsPolicy, PolicyHeard, StopsBeforePolicy, policy_hearing, at_exceptions, at_policy}
 use Rattle.run_found.specs.Found.{LooksEnd, policy_calls, config_in, count_looked, count_policy, count_sought, due_behind, due_by_text, exceptions_due, exceptions_in, load_at, load_heard, path_by, paths_found, paths_looked, paths_sought, policy_due}
 use Rattle.run_found.specs.Given.{RequestArguments}
-use Rattle.run_found.specs.Hearing.{IsReadWhereDue, MadeOn, RequestHearing, TreeSeen, count_behind, look_calls, looks_by, read_calls, seen, text_by}
+use Rattle.run_found.specs.Hearing.{IsReadWhereDue, MadeOn, RequestHearing, TreeSeen, count_behind, look_calls, looks_by, read_calls, tree_seen, text_by}
 use Rattle.run_found.proofs.CallLemmas.{counts_due, heard_where, looks_found, no_read, text_heard_by}
 use Rattle.run_found.proofs.FoundLemmas.{calls-due, exceptions-is, looked-at, paths-are, policy-is}
 use Rattle.run_found.proofs.LoadCalls.{CountsFurther, LoadsAlike, ReadsDue, may_further, reads_behind, text_anyhow}
@@ -92,12 +92,12 @@ module _ (given : RequestArguments) (paths : PolicyPaths) (old between : List Ca
 
   module _ (tree : TreeSeen) (policy exceptions : Option CallAnswer) where
     abbrev own : RequestHearing
-    own = alone tree (heard_with policy exceptions)
+    own = policy_hearing tree (heard_with policy exceptions)
 
     own_config : config_in given own ≡ Ok paths.policy
     own_config = found.config tree.count_before (count_sought given own)
 
-    pub own_looked : paths_looked given (alone tree (heard_with policy exceptions)) ≡ manifest_looks
+    pub own_looked : paths_looked given (policy_hearing tree (heard_with policy exceptions)) ≡ manifest_looks
     own_looked = looked-at given own paths.policy own_config
 
     own_by : looks_by (paths_looked given own) found.looks ≡ looks_found paths.exceptions
@@ -107,20 +107,20 @@ module _ (given : RequestArguments) (paths : PolicyPaths) (old between : List Ca
     own_exceptions = ap (path_by tree.count_before (count_looked given own)) own_by ∙ path_found tree.count_before (count_looked given own) paths.exceptions
 
     -- the paths are those that were found
-    pub own_paths : paths_found given (alone tree (heard_with policy exceptions)) ≡ Ok paths
+    pub own_paths : paths_found given (policy_hearing tree (heard_with policy exceptions)) ≡ Ok paths
     own_paths = paths-are given own paths.policy own_config paths.exceptions own_exceptions
 
-    pub own_ended : LooksEnd given (alone tree (heard_with policy exceptions))
+    pub own_ended : LooksEnd given (policy_hearing tree (heard_with policy exceptions))
     own_ended = record { sought = found.ended; looks = λ e. found-apart paths.exceptions (sym own_by ∙ e) }
 
-    pub own_count : count_looked given (alone tree (heard_with policy exceptions)) ≡ faults_after tree.count_before search_calls
+    pub own_count : count_looked given (policy_hearing tree (heard_with policy exceptions)) ≡ faults_after tree.count_before search_calls
     own_count =
         ap (λ those. faults_after (count_sought given own) (look_calls those found.looks)) own_looked
         ∙ sym (faults_after-append tree.count_before (look_calls (paths_sought given) found.sought) (look_calls manifest_looks found.looks))
 
     -- all calls, with those of the load
-    pub own_calls : (due : Option (List ℕ)) → exceptions_due given (alone tree (heard_with policy exceptions)) ≡ due
-        → policy_calls given (alone tree (heard_with policy exceptions)) ≡ search_calls ++ (read_calls paths.policy policy ++ read_calls due exceptions)
+    pub own_calls : (due : Option (List ℕ)) → exceptions_due given (policy_hearing tree (heard_with policy exceptions)) ≡ due
+        → policy_calls given (policy_hearing tree (heard_with policy exceptions)) ≡ search_calls ++ (read_calls paths.policy policy ++ read_calls due exceptions)
     own_calls due is =
         let load = read_calls paths.policy policy in
         let further = read_calls due exceptions in
@@ -132,11 +132,11 @@ module _ (given : RequestArguments) (paths : PolicyPaths) (old between : List Ca
 -- A load came to its end over a tree: this is heard of the policy's files, and it loads to the same.
 pub record LoadEnded (given : RequestArguments) (tree : TreeSeen) (paths : PolicyPaths) (heard : LoadHeard) : Type 0 where
   pub hears : PolicyHeard
-  pub paths_are : paths_found given (alone tree hears) ≡ Ok paths
-  pub loads : load_at given (alone tree hears) paths ≡ load_of given.lists [] paths heard
-  pub made : MadeOn tree (policy_calls given (alone tree hears))
-  pub due : HearsPolicy given (alone tree hears)
-  pub stops : StopsBeforePolicy given (alone tree hears)
+  pub paths_are : paths_found given (policy_hearing tree hears) ≡ Ok paths
+  pub loads : load_at given (policy_hearing tree hears) paths ≡ load_of given.lists [] paths heard
+  pub made : MadeOn tree (policy_calls given (policy_hearing tree hears))
+  pub due : HearsPolicy given (policy_hearing tree hears)
+  pub stops : StopsBeforePolicy given (policy_hearing tree hears)
 
 module _ (given : RequestArguments) (paths : PolicyPaths) (old between more : List Call) (found : Searched given paths old between) (begun first after : ℕ) (told middle tells : Option Content)
     (looked : MadeSome told middle begun first old between) (loaded : MadeSome middle tells first after between more)
@@ -144,7 +144,7 @@ module _ (given : RequestArguments) (paths : PolicyPaths) (old between more : Li
     (counts : (own : List Call) → inner ≡ between ++ own → mid ≡ faults_after first own)
     (behind : ReadsBehind given.lists [] paths mid after inner more heard.exceptions (config_text_of heard.policy)) where
   abbrev whole : TreeSeen
-  whole = seen told tells begun after old more
+  whole = tree_seen told tells begun after old more
 
   abbrev policy : PolicyRead begun first mid between inner paths.policy heard.policy
   policy = policy_read begun first mid between inner paths.policy heard.policy read counts
@@ -179,7 +179,7 @@ module _ (given : RequestArguments) (paths : PolicyPaths) (old between more : Li
   load_hears = heard_with given paths old between found policy.answer reads.answer
 
   abbrev own_load : RequestHearing
-  own_load = alone whole load_hears
+  own_load = policy_hearing whole load_hears
 
   load_paths : paths_found given own_load ≡ Ok paths
   load_paths = own_paths given paths old between found whole policy.answer reads.answer
@@ -210,7 +210,7 @@ module _ (given : RequestArguments) (paths : PolicyPaths) (old between more : Li
   load_looked : LooksEnd given own_load
   load_looked = own_ended given paths old between found whole policy.answer reads.answer
 
-  pub load_ended : LoadEnded given (seen told tells begun after old more) paths heard
+  pub load_ended : LoadEnded given (tree_seen told tells begun after old more) paths heard
   load_ended = record {
     hears = load_hears;
     paths_are = load_paths;
@@ -231,17 +231,17 @@ module _ (given : RequestArguments) (paths : PolicyPaths) (old between more : Li
 -- the calls are those that were due, up to some place
 pub record LoadsInPart (given : RequestArguments) (tree : TreeSeen) : Type 0 where
   pub heard : PolicyHeard
-  pub made : MadeOn tree (policy_calls given (alone tree heard))
-  pub stops : StopsBeforePolicy given (alone tree heard)
+  pub made : MadeOn tree (policy_calls given (policy_hearing tree heard))
+  pub stops : StopsBeforePolicy given (policy_hearing tree heard)
 
 module _ (given : RequestArguments) (paths : PolicyPaths) (old between more : List Call) (found : Searched given paths old between) (begun first after : ℕ) (told middle tells : Option Content)
     (looked : MadeSome told middle begun first old between) (loaded : MadeSome middle tells first after between more) where
   abbrev part : TreeSeen
-  part = seen told tells begun after old more
+  part = tree_seen told tells begun after old more
 
-  in_part : (policy exceptions : Option CallAnswer) (due : Option (List ℕ)) → exceptions_due given (alone part (heard_with given paths old between found policy exceptions)) ≡ due
+  in_part : (policy exceptions : Option CallAnswer) (due : Option (List ℕ)) → exceptions_due given (policy_hearing part (heard_with given paths old between found policy exceptions)) ≡ due
       → more ≡ between ++ (read_calls paths.policy policy ++ read_calls due exceptions)
-      → MadeOn part (policy_calls given (alone part (heard_with given paths old between found policy exceptions)))
+      → MadeOn part (policy_calls given (policy_hearing part (heard_with given paths old between found policy exceptions)))
   in_part policy exceptions due is made =
       made_as (sym (own_calls given paths old between found part policy exceptions due is)) (made_joined (made_these looked found.made) (made_these loaded made))
 
@@ -249,7 +249,7 @@ module _ (given : RequestArguments) (paths : PolicyPaths) (old between more : Li
   policy_part : MayReadPolicy between more paths.policy → LoadsInPart given part
   policy_part may =
       let read = may_read paths.policy between more may in
-      let due = exceptions_due given (alone part (heard_with given paths old between found read.answer None)) in
+      let due = exceptions_due given (policy_hearing part (heard_with given paths old between found read.answer None)) in
       record {
         heard = heard_with given paths old between found read.answer None;
         made = in_part read.answer None due refl
@@ -263,7 +263,7 @@ module _ (given : RequestArguments) (paths : PolicyPaths) (old between more : Li
       let read = policy_anyhow begun both.mid between both.between paths.policy both.heard both.text both.policy both.is in
       let due = due_behind (with_policy [] paths both.text) paths.exceptions (config_of_text given.lists both.text.text) in
       let may = may_further (with_policy [] paths both.text) paths.exceptions (config_of_text given.lists both.text.text) both.between more both.further in
-      let hearing = alone part (heard_with given paths old between found read.answer may.answer) in
+      let hearing = policy_hearing part (heard_with given paths old between found read.answer may.answer) in
       let own = own_paths given paths old between found part read.answer may.answer in
       let due_is : exceptions_due given hearing ≡ due =
       exceptions-is given hearing paths own

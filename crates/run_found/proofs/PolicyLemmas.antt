@@ -2,7 +2,7 @@
 use Rattle.std.proofs.Common.{◌≡◌, ◌∙◌, refl, sym, ap, subst, ℕ, Bool, true, false, cond, List, [], ◌∷◌, ◌++◌, map, Option, Some, None, Result, Ok, Err, ◌||◌}
 use Rattle.std.specs.List.{list_any}
 use Rattle.spdx_terms.specs.catalog.Catalog.{CatalogLists}
-use Rattle.graph_core.specs.selection.Choice.{is_uncarried}
+use Rattle.graph_core.specs.selection.Choice.{is_unsupported}
 use Rattle.diag_core.specs.File.{File, file_id_at}
 use Rattle.diag_core.specs.declared.diagnostic.Diagnostic.{Diagnostic}
 use Rattle.tree_core.specs.declared.texts.fault.ReadFault.{ReadFault}
@@ -16,7 +16,7 @@ use Rattle.policy_core.specs.declared.config.root.RootConfig.{RootConfig}
 use Rattle.policy_core.specs.Exceptions.{ExceptionsRead, exceptions_findings, shape_diagnostic}
 use Rattle.policy_core.specs.Heard.{exceptions_read_of, value_or_fault}
 use Rattle.policy_core.specs.declared.exceptions.ExceptionsHeard.TheVariants.{Heard as heard}
-use Rattle.policy_core.specs.Policy.{PolicyFound, absence_findings, policy_found, load_findings, licences_in}
+use Rattle.policy_core.specs.Policy.{PolicyFound, absence_findings, policy_found, load_findings, licenses_in}
 use Rattle.policy_core.specs.Findings.{target_findings, graph_key_findings, output_key_findings}
 use Rattle.policy_core.specs.validate.Valid.{address_findings, clarification_findings, removed_findings}
 use Rattle.policy_parts.specs.entries.Exceptions.{exceptions_file_of}
@@ -26,7 +26,7 @@ use Rattle.policy_core.specs.declared.text.error.ConfigError.{ConfigError}
 use Rattle.policy_core.specs.declared.text.error.ConfigError.TheVariants.{NotCarried}
 use Rattle.policy_core.specs.declared.text.text.ConfigText.{ConfigText}
 use Rattle.toml_subset.specs.shapes.Shaped.{ShapeReading, faults_in}
-use Rattle.toml_subset.specs.shapes.Shapes.{Fault}
+use Rattle.toml_subset.specs.shapes.Shapes.{ShapeFault}
 use Rattle.toml_subset.specs.Answer.{TomlReading}
 use Rattle.toml_subset.specs.Data.{Toml}
 use Rattle.toml_subset.specs.Reading.{read_text}
@@ -52,7 +52,7 @@ pub told_among : (lists : CatalogLists) (policy exceptions : ℕ) (absence : Lis
     → list_any is_error (exceptions_findings lists exceptions read) ≡ true
     → list_any is_error (load_findings lists (record { policy = policy; exceptions = exceptions }) absence root read) ≡ true
 told_among lists policy exceptions absence root read any =
-    let config = licences_in root in
+    let config = licenses_in root in
     let front = absence ++ address_findings policy config ++ clarification_findings lists policy config ++ removed_findings policy config in
     let file = front ++ exceptions_findings lists exceptions read in
     let targets = file ++ target_findings policy root in
@@ -77,19 +77,19 @@ pub record Written (lists : CatalogLists) (text : List ℕ) (root : RootConfig) 
   pub toml : Toml
   pub reads : read_text text ≡ Ok toml
   pub shape : root_of lists toml ≡ Ok root
-  pub carried : list_any is_uncarried root.graph.exclude ≡ false
+  pub carried : list_any is_unsupported root.graph.exclude ≡ false
 
-carried_of : (own root : RootConfig) → if_carried own ≡ Ok root → (own ≡ root) × (list_any is_uncarried own.graph.exclude ≡ false)
+carried_of : (own root : RootConfig) → if_carried own ≡ Ok root → (own ≡ root) × (list_any is_unsupported own.graph.exclude ≡ false)
 carried_of own root e =
-    elim (list_any is_uncarried own.graph.exclude) as (λ b. cond b (Err NotCarried) (Ok own) ≡ Ok root → (own ≡ root) × (b ≡ false)) [
+    elim (list_any is_unsupported own.graph.exclude) as (λ b. cond b (Err NotCarried) (Ok own) ≡ Ok root → (own ≡ root) × (b ≡ false)) [
       | true ↦ λ is. absurd (cc)
       | false ↦ λ is. (let same : own ≡ root = cc in (same, refl))
     ] e
 
-shaped_of : (shaped : ShapeReading RootConfig) (root : RootConfig) → then_config if_carried (or_shape shaped) ≡ Ok root → (shaped ≡ Ok root) × (list_any is_uncarried root.graph.exclude ≡ false)
+shaped_of : (shaped : ShapeReading RootConfig) (root : RootConfig) → then_config if_carried (or_shape shaped) ≡ Ok root → (shaped ≡ Ok root) × (list_any is_unsupported root.graph.exclude ≡ false)
 shaped_of (Ok own) root e =
     let (same, carried) = carried_of own root e in
-    (ap Ok same, subst (λ one. list_any is_uncarried one.graph.exclude ≡ false) same carried)
+    (ap Ok same, subst (λ one. list_any is_unsupported one.graph.exclude ≡ false) same carried)
 shaped_of (Err faults) root e = absurd (cc)
 
 written_by : (lists : CatalogLists) (text : List ℕ) (read : TomlReading Toml) (root : RootConfig) → read_text text ≡ read
@@ -103,7 +103,7 @@ pub written_of : (lists : CatalogLists) (text : List ℕ) (root : RootConfig) �
 written_of lists text root e = written_by lists text (read_text text) root refl e
 
 pub config_of : (lists : CatalogLists) (text : List ℕ) (toml : Toml) (root : RootConfig) → read_text text ≡ Ok toml → root_of lists toml ≡ Ok root
-    → list_any is_uncarried root.graph.exclude ≡ false → config_of_text lists text ≡ Ok root
+    → list_any is_unsupported root.graph.exclude ≡ false → config_of_text lists text ≡ Ok root
 config_of lists text toml root reads shape carried =
     ap (λ read. then_config (λ value. then_config if_carried (config_of_value lists value)) (or_syntax read)) reads
     ∙ ap (λ shaped. then_config if_carried (or_shape shaped)) shape
@@ -112,7 +112,7 @@ config_of lists text toml root reads shape carried =
 -- ---- the exceptions file
 
 -- a fault of the shape is an error
-no_faults : (file : ℕ) (faults : List Fault) → list_any is_error (map (shape_diagnostic file) faults) ≡ false → faults ≡ []
+no_faults : (file : ℕ) (faults : List ShapeFault) → list_any is_error (map (shape_diagnostic file) faults) ≡ false → faults ≡ []
 no_faults file [] none = refl
 no_faults file (fault ∷ faults) none = absurd (cc)
 

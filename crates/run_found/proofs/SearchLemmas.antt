@@ -19,10 +19,10 @@ use Rattle.run_context.specs.Paths.{LooksForPath, PathUntil}
 use Rattle.run_found.specs.declared.error.Error.{Error}
 use Rattle.run_found.specs.declared.error.Error.TheVariants.{ConfigRead}
 use Rattle.run_found.specs.declared.policy.PolicyRefusal.TheVariants as refusal
-use Rattle.run_found.specs.Finds.{FindsPolicy, HearsPolicy, PolicyHeard, alone, at_looks, at_sought}
+use Rattle.run_found.specs.Finds.{FindsPolicy, HearsPolicy, PolicyHeard, policy_hearing, at_looks, at_sought}
 use Rattle.run_found.specs.Found.{policy_calls, config_by, config_in, count_looked, count_sought, exceptions_due, exceptions_in, load_text, load_told, path_by, paths_found, paths_looked, paths_sought, policy_due, sought_for}
 use Rattle.run_found.specs.Given.{RequestArguments}
-use Rattle.run_found.specs.Hearing.{LooksResult, look_failed, nowhere, at, unended, IsReadWhereDue, MadeOn, RequestHearing, TreeSeen, look_calls, looks_by, read_calls, seen}
+use Rattle.run_found.specs.Hearing.{LooksResult, look_failed, nowhere, at, unended, IsReadWhereDue, MadeOn, RequestHearing, TreeSeen, look_calls, looks_by, read_calls, tree_seen}
 use Rattle.run_found.specs.Paths.{ArePathsAt, PathsUntil}
 use Rattle.run_found.proofs.CallLemmas.{LooksAre, LooksMade, failed_are, looked_are, looks_found, lost_made, no_looks, no_read}
 use Rattle.run_found.proofs.FoundLemmas.{due-refused, exceptions-refused, loaded-refused, looked-at, looked-none, paths-config, paths-exceptions, policy-refused, told-due}
@@ -132,10 +132,10 @@ abbrev pub looked_alone : List CallAnswer → List CallAnswer → PolicyHeard
 looked_alone sought looks = record { sought = sought; looks = looks; policy = None; exceptions = None }
 
 calls-looked : (given : RequestArguments) (tree : TreeSeen) (sought looks : List CallAnswer)
-    → policy_calls given (alone tree (looked_alone sought looks))
-    ≡ look_calls (paths_sought given) sought ++ look_calls (paths_looked given (alone tree (looked_alone sought looks))) looks
+    → policy_calls given (policy_hearing tree (looked_alone sought looks))
+    ≡ look_calls (paths_sought given) sought ++ look_calls (paths_looked given (policy_hearing tree (looked_alone sought looks))) looks
 calls-looked given tree sought looks =
-    let hearing = alone tree (looked_alone sought looks) in
+    let hearing = policy_hearing tree (looked_alone sought looks) in
     let own = look_calls (paths_sought given) sought ++ look_calls (paths_looked given hearing) looks in
     ap (λ calls. own ++ calls ++ read_calls (exceptions_due given hearing) None) (no_read (policy_due given hearing))
     ∙ ap (λ calls. own ++ [] ++ calls) (no_read (exceptions_due given hearing))
@@ -153,7 +153,7 @@ nothing_of held text = record { front = []; rest = text; parts = refl; gained = 
 module _ (given : RequestArguments) (told tells : Option Content) (count after : ℕ) (calls more : List Call) (made : MadeSome told tells count after calls more)
     (held : Option (List ℕ)) (before behind : ℕ) (files : List File) where
   abbrev tree : TreeSeen
-  tree = seen told tells count after calls more
+  tree = tree_seen told tells count after calls more
 
   abbrev manifest_looks : List (List ℕ)
   manifest_looks = candidates Exceptions given.context.manifest_path
@@ -161,9 +161,9 @@ module _ (given : RequestArguments) (told tells : Option Content) (count after :
   -- ---- among the looks for a policy
 
   -- these are the calls
-  sought_made : (sought : List CallAnswer) → more ≡ calls ++ look_calls (paths_sought given) sought → MadeOn tree (policy_calls given (alone tree (looked_alone sought [])))
+  sought_made : (sought : List CallAnswer) → more ≡ calls ++ look_calls (paths_sought given) sought → MadeOn tree (policy_calls given (policy_hearing tree (looked_alone sought [])))
   sought_made sought is =
-      let hearing = alone tree (looked_alone sought []) in
+      let hearing = policy_hearing tree (looked_alone sought []) in
       made_as
       (sym (calls-looked given tree sought [] ∙ ap (λ own. look_calls (paths_sought given) sought ++ own) (no_looks (paths_looked given hearing)) ∙ append-nil (look_calls (paths_sought given) sought)))
       (made_these made is)
@@ -173,7 +173,7 @@ module _ (given : RequestArguments) (told tells : Option Content) (count after :
     heard = looked_alone looks.looks [];
     made = sought_made looks.looks looks.made;
     stops = at_sought refl refl refl;
-    written = nothing_of held (load_told given (alone tree (looked_alone looks.looks [])));
+    written = nothing_of held (load_told given (policy_hearing tree (looked_alone looks.looks [])));
   }
 
   -- what is heard where the paths were refused
@@ -186,11 +186,11 @@ module _ (given : RequestArguments) (told tells : Option Content) (count after :
   }
 
   -- a refusal of the searches, with the counts of the run's start and end
-  refused_finds : (heard : PolicyHeard) (own first last : ℕ) → MadeOn tree (policy_calls given (alone tree heard)) → HearsPolicy given (alone tree heard)
-      → paths_found given (alone tree heard) ≡ Err (ConfigRead (Failed count own)) → after ≡ own → ReadCounts count count after (failed_read first last)
+  refused_finds : (heard : PolicyHeard) (own first last : ℕ) → MadeOn tree (policy_calls given (policy_hearing tree heard)) → HearsPolicy given (policy_hearing tree heard)
+      → paths_found given (policy_hearing tree heard) ≡ Err (ConfigRead (Failed count own)) → after ≡ own → ReadCounts count count after (failed_read first last)
       → FindsPolicy given tree held held before behind files (Err (refusal.Search (search.Failed first last)))
   refused_finds heard own first last all due refused is counts =
-      let hearing = alone tree heard in
+      let hearing = policy_hearing tree heard in
       let same : paths_found given hearing ≡ Err (ConfigRead (Failed first last)) =
       refused ∙ ap₂ (λ one other. let it : Result PolicyPaths Error = Err (ConfigRead (Failed one other)) in it) (sym counts.0) (sym (counts.1 ∙ is)) in
       let error = ConfigRead (Failed first last) in
@@ -206,7 +206,7 @@ module _ (given : RequestArguments) (told tells : Option Content) (count after :
       → FindsPolicy given tree held held before behind files (Err (refusal.Search (search.Failed first last)))
   sought_refused first last failed counts =
       let heard = looked_alone failed.sought [] in
-      let hearing = alone tree heard in
+      let hearing = policy_hearing tree heard in
       let own = count_sought given hearing in
       let refused : config_in given hearing ≡ Err (ConfigRead (Failed count own)) = failed.config count own in
       let paths = paths-config given hearing (ConfigRead (Failed count own)) refused in
@@ -223,7 +223,7 @@ module _ (given : RequestArguments) (told tells : Option Content) (count after :
       heard_both = looked_alone config.sought looks
 
       abbrev hearing_both : RequestHearing
-      hearing_both = alone tree heard_both
+      hearing_both = policy_hearing tree heard_both
 
       config_both : config_in given hearing_both ≡ Ok found
       config_both = config.config count (count_sought given hearing_both)

@@ -6,14 +6,14 @@ use Rattle.tree_core.specs.Hearing.{MadeSome}
 use Rattle.tree_core.specs.Trace.{fault_behind}
 use Rattle.tree_core.proofs.MadeLemmas.{made_as, made_these}
 use Rattle.diag_core.specs.File.{File}
-use Rattle.gather_licence.specs.expression.Scanned.{Scanner}
+use Rattle.gather_license.specs.expression.Scanned.{Scanner}
 use Rattle.graph_core.specs.Metadata.{Graph}
 use Rattle.tree_core.specs.texts.Heard.{read_of, text_answered}
 use Rattle.tree_core.specs.declared.texts.fault.ReadFault.{ReadFault}
 use Rattle.graph_core.specs.selection.Choice.{Choice}
-use Rattle.graph_core.specs.selection.Listed.{Chosen}
+use Rattle.graph_core.specs.selection.Listed.{ReachedCrates}
 use Rattle.policy_core.specs.declared.valid.policy.ValidConfig.{ValidConfig}
-use Rattle.gather_core.specs.Calls.{CrateReads, calls_of_all}
+use Rattle.gather_core.specs.Calls.{ReadsOfCrate, calls_of_all}
 use Rattle.gather_core.specs.Gathered.{krate_of}
 use Rattle.gather_core.proofs.CrateTurns.{krates_told, own_turns}
 use Rattle.gather_core.specs.Entries.{entries_of}
@@ -21,12 +21,12 @@ use Rattle.gather_core.specs.declared.summary.KrateLicense.{KrateLicense}
 use Rattle.graph_workspace.specs.Krates.{AreFrom, GathersBy, IsCarried}
 use Rattle.graph_workspace.specs.declared.error.KratesError.{KratesError}
 use Rattle.graph_workspace.specs.declared.error.KratesError.TheVariants as krates
-use Rattle.graph_workspace.specs.declared.error.What.{What}
+use Rattle.graph_workspace.specs.declared.error.UnsupportedPart.{UnsupportedPart}
 use Rattle.run_request.specs.declared.context.KrateContext.{KrateContext}
-use Rattle.run_context.specs.Asked.{IsRefused, uncarried}
+use Rattle.run_context.specs.Asked.{IsRefused, unsupported_part}
 use Rattle.run_found.specs.Gathering.{HasNoCrates, NoCratesBy, TellsGraph}
-use Rattle.run_found.specs.Hearing.{TreeSeen, seen}
-use Rattle.run_found.specs.Licences.{IsGatherCut, IsGatheredOn, turns_heard}
+use Rattle.run_found.specs.Hearing.{TreeSeen, tree_seen}
+use Rattle.run_found.specs.Licenses.{IsGatherCut, IsGatheredOn, turns_heard}
 
 -- ---- the crates that were gathered
 
@@ -46,7 +46,7 @@ gather_cut scanner policy tree files last graph choice licenses gathered = recor
     among = (
       [],
       sym (krates_told scanner policy.file_id (entries_of policy) files gathered.crates licenses last gathered.turns)
-          ∙ sym (append-nil (map (λ (one : CrateReads). one.krate) gathered.crates)),
+          ∙ sym (append-nil (map (λ (one : ReadsOfCrate). one.krate) gathered.crates)),
     );
   };
 }
@@ -54,11 +54,11 @@ gather_cut scanner policy tree files last graph choice licenses gathered = recor
 -- ---- behind the metadata
 
 -- a refusal of what is carried is none of what is not
-pub carried_error : (context : KrateContext) (exclude : List (List ℕ)) (error : KratesError) → uncarried context exclude ≡ None → IsRefused context exclude (Err error) → IsCarried error
+pub carried_error : (context : KrateContext) (exclude : List (List ℕ)) (error : KratesError) → unsupported_part context exclude ≡ None → IsRefused context exclude (Err error) → IsCarried error
 carried_error context exclude krates.Memory carried refused = tt
 carried_error context exclude (krates.NotCarried what) carried refused = apart (sym carried ∙ (refused what).0 refl)
   where
-    apart : ◌≡◌ {A = Option What} None (Some what) → ⊥
+    apart : ◌≡◌ {A = Option UnsupportedPart} None (Some what) → ⊥
     apart e = absurd (cc)
 carried_error context exclude (krates.MetadataRead fault) carried refused = tt
 carried_error context exclude krates.MetadataSyntax carried refused = tt
@@ -66,19 +66,19 @@ carried_error context exclude (krates.MetadataShape fault) carried refused = tt
 carried_error context exclude (krates.NoRoots base excluded unpublished) carried refused = tt
 
 -- crates come of what was read
-pub gathers_chosen : (choice : Choice) (begun after : ℕ) (old new : List Call) (path : List ℕ) (chosen : Chosen)
-    → ((◌≡◌ {A = Result Chosen KratesError} (Ok chosen) (Err krates.Memory)) × (new ≡ old)) ⊎ GathersBy choice begun after old new path (Ok chosen)
+pub gathers_chosen : (choice : Choice) (begun after : ℕ) (old new : List Call) (path : List ℕ) (chosen : ReachedCrates)
+    → ((◌≡◌ {A = Result ReachedCrates KratesError} (Ok chosen) (Err krates.Memory)) × (new ≡ old)) ⊎ GathersBy choice begun after old new path (Ok chosen)
     → GathersBy choice begun after old new path (Ok chosen)
 gathers_chosen choice begun after old new path chosen (inl none) = absurd (apart none.0)
   where
-    apart : ◌≡◌ {A = Result Chosen KratesError} (Ok chosen) (Err krates.Memory) → ⊥
+    apart : ◌≡◌ {A = Result ReachedCrates KratesError} (Ok chosen) (Err krates.Memory) → ⊥
     apart e = absurd (cc)
 gathers_chosen choice begun after old new path chosen (inr gathers) = gathers
 
 module _ (choice : Choice) (told middle tells : Option Content) (before mid after : ℕ) (old between new : List Call) (begun : ℕ) (path : List ℕ)
-    (made : MadeSome told middle before mid old between) (chosen : Chosen) (gathers : GathersBy choice begun mid old between path (Ok chosen)) where
+    (made : MadeSome told middle before mid old between) (chosen : ReachedCrates) (gathers : GathersBy choice begun mid old between path (Ok chosen)) where
   abbrev tree : TreeSeen
-  tree = seen told tells before after old new
+  tree = tree_seen told tells before after old new
 
   -- the count behind the metadata's read
   pub mid_is : mid ≡ fault_behind before gathers.read.answer
@@ -96,10 +96,10 @@ module _ (choice : Choice) (told middle tells : Option Content) (before mid afte
 module _ (choice : Choice) (told tells : Option Content) (before after : ℕ) (old new : List Call) (begun : ℕ) (path : List ℕ)
     (made : MadeSome told tells before after old new) where
   abbrev Refuses : KratesError → Type 0
-  Refuses error = NoCratesBy choice (seen told tells before after old new) begun path error
+  Refuses error = NoCratesBy choice (tree_seen told tells before after old new) begun path error
 
   refused_by : (error : KratesError) (heard : Result (List ℕ) ReadFault) (answer : CallAnswer) → new ≡ old ++ read_of path answer ∷ [] → text_answered begun after answer ≡ Some heard
-      → AreFrom choice heard (Err error) → HasNoCrates choice (seen told tells before after old new) begun path error
+      → AreFrom choice heard (Err error) → HasNoCrates choice (tree_seen told tells before after old new) begun path error
   refused_by error heard answer traced hears from =
       let own = made_these made traced in
       record {
@@ -110,7 +110,7 @@ module _ (choice : Choice) (told tells : Option Content) (before after : ℕ) (o
         from = from;
       }
 
-  memory_of : (error : KratesError) → ◌≡◌ {A = Result Chosen KratesError} (Err error) (Err krates.Memory) → krates.Memory ≡ error
+  memory_of : (error : KratesError) → ◌≡◌ {A = Result ReachedCrates KratesError} (Err error) (Err krates.Memory) → krates.Memory ≡ error
   memory_of error e = cc
 
   gathered_by : (error : KratesError) → IsCarried error → GathersBy choice begun after old new path (Err error) → Refuses error
@@ -123,7 +123,7 @@ module _ (choice : Choice) (told tells : Option Content) (before after : ℕ) (o
       refused_by (krates.NoRoots base excluded unpublished) gathers.heard gathers.read.answer gathers.read.made gathers.read.hears gathers.from
 
   pub no_crates_by : (error : KratesError) → IsCarried error
-      → ((◌≡◌ {A = Result Chosen KratesError} (Err error) (Err krates.Memory)) × (new ≡ old)) ⊎ GathersBy choice begun after old new path (Err error)
+      → ((◌≡◌ {A = Result ReachedCrates KratesError} (Err error) (Err krates.Memory)) × (new ≡ old)) ⊎ GathersBy choice begun after old new path (Err error)
       → Refuses error
   no_crates_by error carried (inl none) =
       let given_up : Refuses krates.Memory = (None, made_these made (none.1 ∙ sym (append-nil old))) in

@@ -12,12 +12,12 @@ use Rattle.diag_print.specs.declared.printer.PrintError.{PrintError}
 use Rattle.diag_print.specs.declared.printer.PrintError.TheVariants as print
 use Rattle.tree_core.specs.declared.texts.search.SearchError.{SearchError}
 use Rattle.tree_core.specs.declared.texts.search.SearchError.TheVariants as search
-use Rattle.graph_workspace.specs.declared.error.What.TheVariants.{ExcludeSpec}
-use Rattle.spdx_listing.specs.declared.error.ListingError.{ListingError}
-use Rattle.spdx_listing.specs.declared.error.ListingError.TheVariants as listing
-use Rattle.spdx_listing.specs.declared.error.StoreError.{StoreError}
-use Rattle.spdx_listing.specs.declared.error.StoreError.TheVariants as stored
-use Rattle.spdx_listing.specs.declared.error.StoreFault.TheVariants as store
+use Rattle.graph_workspace.specs.declared.error.UnsupportedPart.TheVariants.{ExcludeSpec}
+use Rattle.spdx_own_names.specs.declared.error.ListingError.{ListingError}
+use Rattle.spdx_own_names.specs.declared.error.ListingError.TheVariants as listing
+use Rattle.spdx_own_names.specs.declared.error.StoreError.{StoreError}
+use Rattle.spdx_own_names.specs.declared.error.StoreError.TheVariants as stored
+use Rattle.spdx_own_names.specs.declared.error.StoreFault.TheVariants as store
 use Rattle.run_found.specs.declared.error.Error.{Error}
 use Rattle.run_found.specs.declared.error.Error.TheVariants.{Memory, NotCarried, ManifestPath, ManifestRead, CatalogRead, CatalogSyntax, StoreRead, ConfigRead, ConfigSyntax, ConfigShape, ConfigInvalid, OverrideTwice, MetadataRead, MetadataSyntax, MetadataShape, NoRoots, RecordRead, RecordSyntax, WriteFault}
 use Rattle.run_found.specs.declared.policy.PolicyRefusal.{PolicyRefusal}

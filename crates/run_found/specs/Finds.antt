@@ -3,7 +3,7 @@ use Rattle.std.specs.Prelude.{◌≡◌, ℕ, List, [], Option, None, Result, Ok
 use Rattle.tree_core.specs.Faults.{Gained}
 use Rattle.tree_core.specs.Call.{CallAnswer}
 use Rattle.diag_core.specs.File.{File}
-use Rattle.gather_core.specs.Calls.{CrateReads}
+use Rattle.gather_core.specs.Calls.{ReadsOfCrate}
 use Rattle.policy_core.specs.declared.load.LoadedPolicy.{LoadedPolicy}
 use Rattle.policy_core.specs.Policy.{PolicyFound}
 use Rattle.policy_load.specs.Answer.{IsPolicyOf}
@@ -23,7 +23,7 @@ pub record PolicyHeard : Type 0 where
   pub exceptions : Option CallAnswer
 
 -- the same with what is heard behind it. What is found of a policy does not hang on that, so each fact below holds of each.
-abbrev pub hearing_of : ℕ → PolicyHeard → Option CallAnswer → List CrateReads → RequestHearing
+abbrev pub hearing_of : ℕ → PolicyHeard → Option CallAnswer → List ReadsOfCrate → RequestHearing
 hearing_of begun heard metadata crates = record {
   begun = begun;
   sought = heard.sought;
@@ -34,8 +34,8 @@ hearing_of begun heard metadata crates = record {
   crates = crates;
 }
 
-abbrev pub alone : TreeSeen → PolicyHeard → RequestHearing
-alone tree heard = hearing_of tree.count_before heard None []
+abbrev pub policy_hearing : TreeSeen → PolicyHeard → RequestHearing
+policy_hearing tree heard = hearing_of tree.count_before heard None []
 
 -- each look and read that was due was made
 pub record HearsPolicy (given : RequestArguments) (hearing : RequestHearing) : Type 0 where
@@ -47,21 +47,21 @@ pub record HearsPolicy (given : RequestArguments) (hearing : RequestHearing) : T
 -- lists in order; the files are those of its load; and what is told of the load was written.
 pub record FindsLoaded (given : RequestArguments) (tree : TreeSeen) (old new : Option (List ℕ)) (files : List File) (loaded : LoadedPolicy) : Type 0 where
   pub heard : PolicyHeard
-  pub made : MadeOn tree (policy_calls given (alone tree heard))
-  pub due : HearsPolicy given (alone tree heard)
+  pub made : MadeOn tree (policy_calls given (policy_hearing tree heard))
+  pub due : HearsPolicy given (policy_hearing tree heard)
   pub found : PolicyFound
-  pub is : policy_found given (alone tree heard) ≡ Ok found
+  pub is : policy_found given (policy_hearing tree heard) ≡ Ok found
   pub valid : IsPolicyOf found loaded
-  pub files_are : files ≡ files_loaded given (alone tree heard)
-  pub written : Gained old new (load_told given (alone tree heard))
+  pub files_are : files ≡ files_loaded given (policy_hearing tree heard)
+  pub written : Gained old new (load_told given (policy_hearing tree heard))
 
 -- The calls of what was heard were made, and no other; the refusal is the one that it comes to.
 pub record FindsRefusal (given : RequestArguments) (tree : TreeSeen) (old new : Option (List ℕ)) (before after : ℕ) (refusal : PolicyRefusal) : Type 0 where
   pub heard : PolicyHeard
-  pub made : MadeOn tree (policy_calls given (alone tree heard))
-  pub due : HearsPolicy given (alone tree heard)
-  pub is : policy_found given (alone tree heard) ≡ Err (error_of_policy refusal)
-  pub written : TextWritten (load_told given (alone tree heard)) old new before after (cause_of (error_of_policy refusal))
+  pub made : MadeOn tree (policy_calls given (policy_hearing tree heard))
+  pub due : HearsPolicy given (policy_hearing tree heard)
+  pub is : policy_found given (policy_hearing tree heard) ≡ Err (error_of_policy refusal)
+  pub written : TextWritten (load_told given (policy_hearing tree heard)) old new before after (cause_of (error_of_policy refusal))
 
 -- among the looks for a policy, among those for an exceptions file, at the read of the policy, or at that of the exceptions file
 pub data StopsBeforePolicy (given : RequestArguments) (hearing : RequestHearing) : Type 0 where
@@ -74,9 +74,9 @@ pub data StopsBeforePolicy (given : RequestArguments) (hearing : RequestHearing)
 -- written.
 pub record FindsInPart (given : RequestArguments) (tree : TreeSeen) (old new : Option (List ℕ)) (before after : ℕ) (cause : Cause) : Type 0 where
   pub heard : PolicyHeard
-  pub made : MadeOn tree (policy_calls given (alone tree heard))
-  pub stops : StopsBeforePolicy given (alone tree heard)
-  pub written : TextWritten (load_told given (alone tree heard)) old new before after cause
+  pub made : MadeOn tree (policy_calls given (policy_hearing tree heard))
+  pub stops : StopsBeforePolicy given (policy_hearing tree heard)
+  pub written : TextWritten (load_told given (policy_hearing tree heard)) old new before after cause
 
 abbrev pub FindsBy : RequestArguments → TreeSeen → Option (List ℕ) → Option (List ℕ) → ℕ → ℕ → PolicyRefusal → Cause → Type 0
 FindsBy given tree old new before after refusal no_memory = FindsInPart given tree old new before after no_memory

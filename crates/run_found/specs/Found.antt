@@ -22,7 +22,7 @@ use Rattle.policy_core.specs.text.Config.{config_of_text}
 use Rattle.policy_core.specs.declared.text.error.ConfigError.{ConfigError}
 use Rattle.policy_core.specs.declared.text.text.ConfigText.{ConfigText}
 use Rattle.graph_workspace.specs.declared.error.KratesError.{KratesError}
-use Rattle.graph_workspace.specs.declared.error.What.{What}
+use Rattle.graph_workspace.specs.declared.error.UnsupportedPart.{UnsupportedPart}
 use Rattle.spdx_terms.specs.catalog.Catalog.{CatalogLists}
 use Rattle.gather_core.specs.Calls.{calls_of_all}
 use Rattle.policy_load.specs.declared.loading.PolicyPaths.{PolicyPaths}
@@ -211,12 +211,12 @@ load_told given hearing = if is_load_heard given hearing then load_text given.lo
 -- ---- with a command's own steps
 
 -- nothing, where all of a request is carried
-abbrev pub unless_uncarried : Option What → Result (Unit {0}) Error
-unless_uncarried None = Ok tt
-unless_uncarried (Some what) = Err (NotCarried what)
+abbrev pub unless_unsupported : Option UnsupportedPart → Result (Unit {0}) Error
+unless_unsupported None = Ok tt
+unless_unsupported (Some what) = Err (NotCarried what)
 
 -- what was found: the policy, and the crates with the edges between them
-pub record FoundInput : Type 0 where
+pub record PolicyAndGraph : Type 0 where
   pub policy : PolicyFound
   pub graph : Graph
 

@@ -5,12 +5,12 @@ use Rattle.tree_core.specs.Call.{CallAnswer, Call}
 use Rattle.tree_core.specs.Content.{Content}
 use Rattle.tree_core.specs.Hearing.{Made, MadeSome}
 use Rattle.tree_core.specs.Trace.{content_answer, fault_behind}
-use Rattle.graph_core.specs.Krate.{Record}
+use Rattle.graph_core.specs.Krate.{CrateRecord}
 use Rattle.tree_core.specs.texts.Heard.{read_of, text_answered}
 use Rattle.tree_core.specs.declared.texts.fault.ReadFault.{ReadFault}
 use Rattle.tree_core.specs.declared.texts.fault.ReadFault.TheVariants.{Absent}
 use Rattle.tree_core.specs.texts.Looked.{look_of}
-use Rattle.gather_core.specs.Calls.{CrateReads}
+use Rattle.gather_core.specs.Calls.{ReadsOfCrate}
 
 -- The tree's count of faults when the run began, and what its calls were answered: the looks for a policy, path after path, where
 -- none is given; those for an exceptions file; the reads of the policy, of the exceptions file and of the metadata, each where it
@@ -22,7 +22,7 @@ pub record RequestHearing : Type 0 where
   pub policy : Option CallAnswer
   pub exceptions : Option CallAnswer
   pub metadata : Option CallAnswer
-  pub crates : List CrateReads
+  pub crates : List ReadsOfCrate
 
 -- what a tree told before a run and behind it: its content, its count of faults, and its calls
 pub record TreeSeen : Type 0 where
@@ -33,13 +33,13 @@ pub record TreeSeen : Type 0 where
   pub calls_before : List Call
   pub calls_after : List Call
 
-abbrev pub seen : Option Content → Option Content → ℕ → ℕ → List Call → List Call → TreeSeen
-seen told tells before after old new =
+abbrev pub tree_seen : Option Content → Option Content → ℕ → ℕ → List Call → List Call → TreeSeen
+tree_seen told tells before after old new =
     record { told = told; tells = tells; count_before = before; count_after = after; calls_before = old; calls_after = new }
 
 -- the same from one state of a tree to another one, by what it tells of its content, its count of faults and its calls
 abbrev pub seen_between : {A : Type 0} → (A → Option Content) → (A → ℕ) → (A → List Call) → A → A → TreeSeen
-seen_between {A} content count calls old new = seen (content old) (content new) (count old) (count new) (calls old) (calls new)
+seen_between {A} content count calls old new = tree_seen (content old) (content new) (count old) (count new) (calls old) (calls new)
 
 -- calls were made on it, and nothing else came of it
 abbrev pub HasMade : TreeSeen → Type 0
@@ -49,8 +49,8 @@ HasMade tree = MadeSome tree.told tree.tells tree.count_before tree.count_after 
 abbrev pub MadeOn : TreeSeen → List Call → Type 0
 MadeOn tree calls = Made tree.told tree.tells tree.count_before tree.count_after tree.calls_before tree.calls_after calls
 
-abbrev pub crates_heard : RequestHearing → List Record
-crates_heard hearing = map (λ (one : CrateReads). one.krate) hearing.crates
+abbrev pub crates_heard : RequestHearing → List CrateRecord
+crates_heard hearing = map (λ (one : ReadsOfCrate). one.krate) hearing.crates
 
 -- ---- the looks
 

@@ -5,7 +5,7 @@ pub mod Found
 pub mod Gathering
 pub mod Given
 pub mod Hearing
-pub mod Licences
+pub mod Licenses
 pub mod Paths
 pub mod Policy
 pub mod Reads
@@ -13,4 +13,4 @@ pub mod Selection
 pub mod Steps
 pub mod Written
 pub mod places
-pub mod lists
+pub mod own_names

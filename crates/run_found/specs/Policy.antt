@@ -2,7 +2,7 @@
 use Rattle.std.specs.Prelude.{◌≡◌, ℕ, false, List, [], ◌∷◌, Option, Some, None, Result, Ok}
 use Rattle.std.specs.List.{list_any}
 use Rattle.spdx_terms.specs.catalog.Catalog.{CatalogLists}
-use Rattle.graph_core.specs.selection.Choice.{is_uncarried}
+use Rattle.graph_core.specs.selection.Choice.{is_unsupported}
 use Rattle.diag_core.specs.File.{File, file_id_at}
 use Rattle.tree_core.specs.declared.texts.fault.ReadFault.{ReadFault}
 use Rattle.policy_load.specs.Heard.{LoadHeard}
@@ -56,7 +56,7 @@ pub record IsPolicyAt (lists : CatalogLists) (paths : PolicyPaths) (heard : Load
   pub reads : read_text text.text ≡ Ok toml
   pub root : RootConfig
   pub shape : root_of lists toml ≡ Ok root
-  pub carried : list_any is_uncarried root.graph.exclude ≡ false
+  pub carried : list_any is_unsupported root.graph.exclude ≡ false
   pub read : ExceptionsRead
   pub exceptions : ExceptionsAt lists (policy_file paths.policy text.text ∷ []) paths.exceptions heard.exceptions read
   pub is : found ≡ policy_found lists (record { policy = 0; exceptions = 1 }) (absence_findings text.is_there paths.policy) read root

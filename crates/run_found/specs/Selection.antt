@@ -1,6 +1,6 @@
 -- The crates that a request and its policy select.
 use Rattle.std.specs.Prelude.{List}
-use Rattle.graph_core.specs.Krate.{Record}
+use Rattle.graph_core.specs.Krate.{CrateRecord}
 use Rattle.graph_core.specs.Metadata.{Graph}
 use Rattle.graph_core.specs.declared.selection.selection.Include.{Include}
 use Rattle.graph_core.specs.selection.Choice.{Choice}
@@ -13,10 +13,10 @@ use Rattle.run_context.specs.Asked.{LeavesOut, choice_asked}
 use Rattle.run_found.specs.Given.{RequestArguments}
 
 -- what a request asks about: the policy, the graph of the metadata, and the crates of it that are checked or listed
-pub record RequestInput : Type 0 where
+pub record PolicyAndCrates : Type 0 where
   pub policy : PolicyFound
   pub graph : Graph
-  pub crates : List Record
+  pub crates : List CrateRecord
 
 -- what a policy leaves out
 abbrev pub left_by : GraphConfig → LeavesOut
@@ -31,5 +31,5 @@ abbrev pub included_in : PolicyFound → Include
 included_in policy = include_of policy.licenses
 
 -- the crates that are checked, in the order of their ids
-abbrev pub AreSelected : RequestArguments → PolicyFound → Graph → List Record → Type 0
+abbrev pub AreSelected : RequestArguments → PolicyFound → Graph → List CrateRecord → Type 0
 AreSelected given policy graph crates = IsListOf graph (Selected graph (choice_in given policy) (included_in policy)) crates

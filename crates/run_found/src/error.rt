@@ -7,10 +7,10 @@ use crate::reads::CrateReads;
 use deny_text::{PathBuf, Text};
 use diag_core::Severity;
 use diag_print::PrintError;
-use graph_workspace::{KratesError, MetaFault, What};
+use graph_workspace::{KratesError, MetaFault, UnsupportedPart};
 use policy_load::{Diagnostics, LoadError, ReadFault, ShapeErrors, SyntaxError};
 use run_overrides::OverrideError;
-use spdx_listing::{ListingError, StoreError, StoreFault};
+use spdx_own_names::{ListingError, StoreError, StoreFault};
 use std::alloc::AllocError;
 use tree_core::texts::SearchError;
 
@@ -19,7 +19,7 @@ use tree_core::texts::SearchError;
 pub enum Error {
     Memory,
     /// The first part of the request, or of the policy, that is not carried.
-    NotCarried(What),
+    NotCarried(UnsupportedPart),
     /// The path names no file `Cargo.toml`.
     ManifestPath(PathBuf),
     /// The look at the manifest failed. The numbers are the tree's counts of faults, when the run began and
@@ -186,7 +186,7 @@ impl From<LoadError> for Error {
             LoadError::ConfigRead(fault) => Error::ConfigRead(fault),
             LoadError::ConfigSyntax(fault) => Error::ConfigSyntax(fault),
             LoadError::ConfigShape(faults) => Error::ConfigShape(faults),
-            LoadError::NotCarried => Error::NotCarried(What::ExcludeSpec),
+            LoadError::NotCarried => Error::NotCarried(UnsupportedPart::ExcludeSpec),
             LoadError::ConfigInvalid(found) => Error::ConfigInvalid(found),
             LoadError::WriteFault { before, after } => Error::WriteFault { before, after },
         }

@@ -3,14 +3,14 @@
 
 pub mod carried;
 pub mod error;
-pub mod licences;
-pub mod lists;
+pub mod licenses;
+pub mod own_names;
 pub mod places;
 pub mod policy;
 pub mod reads;
 
 pub use carried::is_sarif;
 pub use error::Error;
-pub use licences::licences_found;
+pub use licenses::licenses_found;
 pub use policy::{PolicyRefusal, policy_found};
 pub use reads::{CrateRead, CrateReads, reads_of_licenses};

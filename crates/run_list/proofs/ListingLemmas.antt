@@ -11,24 +11,24 @@ use Rattle.policy_core.specs.declared.valid.policy.ValidConfig.{ValidConfig}
 use Rattle.gather_core.specs.declared.summary.KrateLicense.{KrateLicense}
 use Rattle.run_request.specs.declared.context.KrateContext.{KrateContext}
 use Rattle.run_request.specs.declared.level.LintLevels.{LintLevels}
-use Rattle.run_request.specs.declared.list.Args.{Args}
+use Rattle.run_request.specs.declared.list.ListArgs.{ListArgs}
 use Rattle.run_found.specs.declared.error.Error.{Error}
 use Rattle.run_found.specs.Error.{cause_of}
 use Rattle.run_found.specs.Found.{files_loaded}
-use Rattle.run_found.specs.Hearing.{RequestHearing, TreeSeen, seen}
-use Rattle.run_found.specs.Licences.{IsGatheredOn}
+use Rattle.run_found.specs.Hearing.{RequestHearing, TreeSeen, tree_seen}
+use Rattle.run_found.specs.Licenses.{IsGatheredOn}
 use Rattle.run_found.specs.Reads.{reads_gathered}
 use Rattle.run_found.specs.Written.{IsSilent, SinkSeen}
-use Rattle.run_listing.specs.Listed.{listed_of}
+use Rattle.run_list_text.specs.Listed.{listed_of}
 use Rattle.run_command.specs.declared.crates.CratesFound.{CratesFound}
-use Rattle.run_command.specs.Carried.{no_levels, uncarried_of}
+use Rattle.run_command.specs.Carried.{no_levels, unsupported_of}
 use Rattle.run_command.specs.Crates.{HasCrates}
 use Rattle.run_command.specs.Found.{choice_in, scanner_of_given}
 use Rattle.run_command.specs.Given.{CommandOptions}
-use Rattle.run_command.specs.Settled.{HearsSo, IsCutBy, IsLicenceHeard, IsSettled}
+use Rattle.run_command.specs.Settled.{HearsSo, IsCutBy, IsLicenseHeard, IsSettled}
 use Rattle.run_command.specs.Stops.{Stops}
 use Rattle.run_command.proofs.SettledLemmas.{hears_so, is_settled}
-use Rattle.run_command.proofs.TurnLemmas.{licences_heard, own_files}
+use Rattle.run_command.proofs.TurnLemmas.{licenses_heard, own_files}
 use Rattle.run_list.specs.declared.crates.CrateListing.{CrateListing}
 use Rattle.run_list.specs.Given.{ListArguments, list_options}
 use Rattle.run_list.specs.Listed.{IsReadOf, listing_text}
@@ -37,14 +37,14 @@ use Rattle.run_list.proofs.ListedLemmas.{all_are_listed, reads_answered}
 
 -- the options of a listing all of which is carried
 abbrev pub carried_options : LintLevels → ℤ → CommandOptions
-carried_options levels threshold = record { uncarried = None; levels = levels; with_flags = false; threshold = Some threshold }
+carried_options levels threshold = record { unsupported = None; levels = levels; with_flags = false; threshold = Some threshold }
 
-pub options_are : (log : LogContext) (args : Args) (context : KrateContext) (levels : LintLevels) (threshold : ℤ) → uncarried_of log context ≡ None → levels ≡ no_levels → threshold ≡ args.threshold
+pub options_are : (log : LogContext) (args : ListArgs) (context : KrateContext) (levels : LintLevels) (threshold : ℤ) → unsupported_of log context ≡ None → levels ≡ no_levels → threshold ≡ args.threshold
     → carried_options levels threshold ≡ list_options log args context
 options_are log args context levels threshold carried none score =
     ap (λ own. carried_options own threshold) none
     ∙ ap (carried_options no_levels) score
-    ∙ ap (λ own. let it : CommandOptions = record { uncarried = own; levels = no_levels; with_flags = false; threshold = Some args.threshold } in it) (sym carried)
+    ∙ ap (λ own. let it : CommandOptions = record { unsupported = own; levels = no_levels; with_flags = false; threshold = Some args.threshold } in it) (sym carried)
 
 -- what was not written of a listing comes of no read
 pub cut_counts : (out : SinkSeen) (text : List ℕ) (begun before after : ℕ) (cause : Cause) → IsCutBy out text cause → ReadCounts begun before after cause
@@ -62,7 +62,7 @@ module _ (given : ListArguments) where
   is_listing hearing policy licenses last settled listing crates_are reads_are =
       let scanner = scanner_of_given given.command policy in
       let files = files_loaded given.command.request hearing in
-      let heard : AllZip (IsLicenceHeard scanner policy) hearing.crates licenses = licences_heard scanner policy files hearing.crates licenses last settled.turns.each in
+      let heard : AllZip (IsLicenseHeard scanner policy) hearing.crates licenses = licenses_heard scanner policy files hearing.crates licenses last settled.turns.each in
       record {
         policy = policy;
         licenses = licenses;
@@ -74,12 +74,12 @@ module _ (given : ListArguments) where
       }
 
   -- behind the crates
-  module _ (carried : given.command.options.uncarried ≡ None) (told_first middle tells : Option Content) (begun mid after : ℕ) (old between more : List Call) (err : SinkSeen) (files : List File) (found : CratesFound)
-      (has : HasCrates given.command (seen told_first middle begun mid old between) err files found) where
+  module _ (carried : given.command.options.unsupported ≡ None) (told_first middle tells : Option Content) (begun mid after : ℕ) (old between more : List Call) (err : SinkSeen) (files : List File) (found : CratesFound)
+      (has : HasCrates given.command (tree_seen told_first middle begun mid old between) err files found) where
     pub listing_ends : (last : List File) (licenses : List KrateLicense)
-        (gathered : IsGatheredOn (scanner_of_given given.command found.policy) found.policy (seen middle tells mid after between more) files last has.graph (choice_in given.command has.policy) licenses)
+        (gathered : IsGatheredOn (scanner_of_given given.command found.policy) found.policy (tree_seen middle tells mid after between more) files last has.graph (choice_in given.command has.policy) licenses)
         (listing : CrateListing) → listing.crates ≡ map listed_of licenses → listing.reads ≡ reads_gathered licenses
-        → HearsSo given.command (seen told_first tells begun after old more) err (IsListing given listing)
+        → HearsSo given.command (tree_seen told_first tells begun after old more) err (IsListing given listing)
     listing_ends last licenses gathered listing crates_are reads_are =
         let settled = is_settled given.command told_first middle tells begun mid after old between more err files found has carried last licenses gathered in
         hears_so given.command told_first middle tells begun mid after old between more err files found has carried last licenses gathered (IsListing given listing)

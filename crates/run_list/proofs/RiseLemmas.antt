@@ -5,7 +5,7 @@ use Rattle.tree_core.specs.declared.reads.ReadRecord.{ReadRecord}
 use Rattle.tree_core.specs.file_reads.Read.{records_of_reads}
 use Rattle.tree_core.specs.file_reads.Rising.{RiseInOrder}
 use Rattle.tree_core.proofs.file_reads.ReadLemmas.{records_in-append}
-use Rattle.gather_core.specs.Calls.{CrateReads, reads_of_all}
+use Rattle.gather_core.specs.Calls.{ReadsOfCrate, reads_of_all}
 use Rattle.run_found.specs.declared.error.Error.{Error}
 use Rattle.run_found.specs.declared.reads.CrateRead.{CrateRead}
 use Rattle.run_found.specs.Hearing.{TreeSeen}
@@ -17,7 +17,7 @@ use Rattle.run_list.specs.Listed.{IsReadOf}
 use Rattle.run_list.specs.Listing.{Lists}
 
 -- the reads that are answered
-reads_listed : (crates : List CrateReads) (reads : List CrateRead) → AllZip IsReadOf crates reads → records_of_reads (reads_of_all crates) ≡ reads_in reads
+reads_listed : (crates : List ReadsOfCrate) (reads : List CrateRead) → AllZip IsReadOf crates reads → records_of_reads (reads_of_all crates) ≡ reads_in reads
 reads_listed [] [] listed = refl
 reads_listed [] (read ∷ reads) listed = absurd listed
 reads_listed (one ∷ crates) [] listed = absurd listed

@@ -6,7 +6,7 @@ use Rattle.tree_core.specs.Call.{Call}
 use Rattle.tree_core.specs.declared.reads.ReadRecord.{ReadRecord}
 use Rattle.tree_core.specs.file_reads.Rising.{RiseInOrder}
 use Rattle.tree_core.specs.texts.Cause.{ReadCounts}
-use Rattle.graph_workspace.specs.declared.error.What.{What}
+use Rattle.graph_workspace.specs.declared.error.UnsupportedPart.{UnsupportedPart}
 use Rattle.run_found.specs.declared.error.Error.{Error}
 use Rattle.run_found.specs.declared.error.Error.TheVariants.{NotCarried}
 use Rattle.run_found.specs.declared.reads.CrateRead.{CrateRead}
@@ -15,7 +15,7 @@ use Rattle.run_found.specs.Hearing.{RequestHearing, TreeSeen}
 use Rattle.run_found.specs.Written.{IsSilent, SinkSeen}
 use Rattle.run_command.specs.Complete.{AreQuiet, IsLawfulIn, IsLawfulRead}
 use Rattle.run_command.specs.Prelude.{IsUntouched}
-use Rattle.run_command.specs.Stops.{RequestInput}
+use Rattle.run_command.specs.Stops.{PolicyAndCrates}
 use Rattle.run_list.specs.Given.{ListArguments}
 use Rattle.run_list.specs.Listing.{Lists}
 
@@ -29,10 +29,10 @@ FailedReadsRise tree crates = RiseInOrder tree.count_before (reads_in crates) tr
 
 pub record IsListRun (given : ListArguments) (tree : TreeSeen) (err out : SinkSeen) (result : Result (List CrateRead) Error) : Type 0 where
   -- Where a part of the request is not carried, that is the refusal; no call is made, and nothing is written.
-  pub uncarried : (what : What) → given.command.options.uncarried ≡ Some what → (result ≡ Err (NotCarried what)) × IsUntouched tree × IsSilent err × IsSilent out
+  pub unsupported : (what : UnsupportedPart) → given.command.options.unsupported ≡ Some what → (result ≡ Err (NotCarried what)) × IsUntouched tree × IsSilent err × IsSilent out
   -- Else the listing that is asked for by what was heard is written, whatever the tree tells of its content, and nothing else was read;
   -- each refusal is the first one, by its cause.
-  pub lists : given.command.options.uncarried ≡ None → Lists given tree err out result
+  pub lists : given.command.options.unsupported ≡ None → Lists given tree err out result
   -- A failed read has a cause, and failed reads that are answered rise.
   pub counts : IfErr result (λ error. ReadCounts tree.count_before tree.count_before tree.count_after (cause_of error))
   pub rises : IfOk result (FailedReadsRise tree)
@@ -40,6 +40,6 @@ pub record IsListRun (given : ListArguments) (tree : TreeSeen) (err out : SinkSe
   pub later : err.before ≤ err.after
   pub out_later : out.before ≤ out.after
   -- Lawful input without a fault is listed, or memory was wanting: by what was read.
-  pub complete_read : (hearing : RequestHearing) (behind : List Call) (asked : RequestInput) → IsLawfulRead given.command tree hearing behind asked → AreQuiet err out → EndsLawful result
+  pub complete_read : (hearing : RequestHearing) (behind : List Call) (asked : PolicyAndCrates) → IsLawfulRead given.command tree hearing behind asked → AreQuiet err out → EndsLawful result
   -- The same by the content, where the tree tells it.
-  pub complete : ForSome tree.told (λ content. (hearing : RequestHearing) (asked : RequestInput) → IsLawfulIn given.command content tree hearing asked → AreQuiet err out → EndsLawful result)
+  pub complete : ForSome tree.told (λ content. (hearing : RequestHearing) (asked : PolicyAndCrates) → IsLawfulIn given.command content tree hearing asked → AreQuiet err out → EndsLawful result)

@@ -7,7 +7,7 @@ use Rattle.gather_core.specs.declared.summary.KrateLicense.{KrateLicense}
 use Rattle.run_found.specs.declared.error.Error.{Error}
 use Rattle.run_found.specs.declared.reads.CrateRead.{CrateRead}
 use Rattle.run_found.specs.Hearing.{RequestHearing, TreeSeen}
-use Rattle.run_found.specs.Licences.{ReadsItsFiles}
+use Rattle.run_found.specs.Licenses.{ReadsItsFiles}
 use Rattle.run_found.specs.Written.{SinkSeen}
 use Rattle.run_command.specs.Found.{scanner_of_given}
 use Rattle.run_command.specs.Settled.{AnswersSo, IsSettled, WritesOut}

@@ -6,9 +6,9 @@ ghost use Rattle.tree_core.specs.texts.Cause.{ReadCounts};
 ghost use Rattle.run_found.specs.Error.{cause_of};
 ghost use Rattle.run_found.specs.Hearing.{seen_between};
 ghost use Rattle.run_found.specs.Written.{sink_between};
-ghost use Rattle.run_command.specs.Carried.{uncarried_of};
+ghost use Rattle.run_command.specs.Carried.{unsupported_of};
 ghost use Rattle.run_command.specs.Settled.{IsCutBy};
-ghost use Rattle.run_listing.specs.Listing.{listing_of};
+ghost use Rattle.run_list_text.specs.Listing.{listing_of};
 ghost use Rattle.run_list.specs.Command.{IsListRun};
 ghost use Rattle.run_list.specs.Given.{list_arguments_of};
 ghost use Rattle.run_list.specs.Listing.{FindsListing, Lists};
@@ -16,11 +16,11 @@ ghost use Rattle.run_list.specs.Listing.{FindsListing, Lists};
 use crate::crates::{CrateListing, listing_of};
 use diag_core::Files;
 use diag_print::LogContext;
-use run_command::{PolicyUse, crates_found, no_levels, uncarried_in};
-use run_found::{CrateReads, Error, licences_found};
-use run_listing::{ListError, ListedCrate, write_listing};
+use run_command::{PolicyUse, crates_found, no_levels, unsupported_in};
+use run_found::{CrateReads, Error, licenses_found};
+use run_list_text::{ListError, ListedCrate, write_listing};
 use run_request::KrateContext;
-use run_request::list::Args;
+use run_request::list::ListArgs;
 use spdx_core::{Catalog, Identifier};
 use std::alloc::Global;
 use tree_core::{Sink, Tree};
@@ -35,15 +35,15 @@ fn listing_found<T: Tree, S: Sink, C: Catalog, I: Identifier>(
     catalog: &C,
     identifier: &I,
     log_ctx: LogContext,
-    args: Args,
+    args: ListArgs,
     context: &KrateContext,
 ) -> Result<CrateListing, Error>
-    requires { uncarried_of log_ctx context.now ≡ None }
+    requires { unsupported_of log_ctx context.now ≡ None }
     ensures found { FindsListing
         (list_arguments_of (C.lists catalog.now) (I.match_of identifier.now) log_ctx args context.now)
         (seen_between T.content T.fault_count T.trace tree.old tree.new)
         (sink_between S.written S.fault_count err.old err.new) result }
-    ensures ordered { IfOk result (λ listing. All (λ listed. AreRising listed.licences) listing.crates) }
+    ensures ordered { IfOk result (λ listing. All (λ listed. AreRising listed.licenses) listing.crates) }
     ensures counts { IfErr result (λ error. ReadCounts
         (T.fault_count tree.old) (T.fault_count tree.old) (T.fault_count tree.new) (cause_of error)) }
     ensures later { S.fault_count err.old ≤ S.fault_count err.new }
@@ -58,7 +58,7 @@ fn listing_found<T: Tree, S: Sink, C: Catalog, I: Identifier>(
     let found = crates_found(
         alloc, context, log_ctx, &use_of, &mut files, tree, err, catalog,
     )?;
-    let summary = licences_found(
+    let summary = licenses_found(
         alloc,
         &found.policy,
         &found.krates,
@@ -77,9 +77,9 @@ fn write_crates<O: Sink>(
     alloc: Global,
     out: &mut O,
     crates: &[ListedCrate],
-    args: Args,
+    args: ListArgs,
 ) -> Result<(), Error>
-    requires { All (λ listed. AreRising listed.licences) crates.now }
+    requires { All (λ listed. AreRising listed.licenses) crates.now }
     ensures ok { OnOk result (Gained (O.written out.old) (O.written out.new)
         (listing_of args.format args.layout crates.now)) }
     ensures cut { IfErr result (λ error. IsCutBy (sink_between O.written O.fault_count out.old out.new)
@@ -106,10 +106,10 @@ pub fn list_since<T: Tree, O: Sink, S: Sink, C: Catalog, I: Identifier>(
     catalog: &C,
     identifier: &I,
     log_ctx: LogContext,
-    args: Args,
+    args: ListArgs,
     context: &KrateContext,
 ) -> Result<CrateReads, Error>
-    requires { uncarried_of log_ctx context.now ≡ None }
+    requires { unsupported_of log_ctx context.now ≡ None }
     ensures lists { Lists
         (list_arguments_of (C.lists catalog.now) (I.match_of identifier.now) log_ctx args context.now)
         (seen_between T.content T.fault_count T.trace tree.old tree.new)
@@ -137,7 +137,7 @@ pub fn cmd<T: Tree, O: Sink, S: Sink, C: Catalog, I: Identifier>(
     catalog: &C,
     identifier: &I,
     log_ctx: LogContext,
-    args: Args,
+    args: ListArgs,
     krate_ctx: KrateContext,
 ) -> Result<CrateReads, Error>
     ensures { IsListRun
@@ -146,7 +146,7 @@ pub fn cmd<T: Tree, O: Sink, S: Sink, C: Catalog, I: Identifier>(
         (sink_between S.written S.fault_count err.old err.new)
         (sink_between O.written O.fault_count out.old out.new) result }
 {
-    match uncarried_in(log_ctx, &krate_ctx) {
+    match unsupported_in(log_ctx, &krate_ctx) {
         Some(what) => Err(Error::NotCarried(what)),
         None => list_since(
             alloc, tree, out, err, catalog, identifier, log_ctx, args, &krate_ctx,

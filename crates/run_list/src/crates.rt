@@ -2,11 +2,11 @@
 ghost use Rattle.std.specs.Prelude.{◌≡◌, All, IfOk, map};
 ghost use Rattle.graph_core.specs.Metadata.{AreRising};
 ghost use Rattle.run_found.specs.Reads.{reads_gathered};
-ghost use Rattle.run_listing.specs.Listed.{listed_of};
+ghost use Rattle.run_list_text.specs.Listed.{listed_of};
 
 use gather_core::Summary;
 use run_found::{CrateReads, reads_of_licenses};
-use run_listing::{ListedCrates, listed_crates};
+use run_list_text::{ListedCrates, listed_crates};
 use std::alloc::{AllocError, Global};
 
 /// What is listed of crates, and their reads.
@@ -20,7 +20,7 @@ pub struct CrateListing {
 pub(crate) fn listing_of(alloc: Global, summary: Summary<'_>) -> Result<CrateListing, AllocError>
     ensures crates { IfOk result (λ listing. listing.crates ≡ map listed_of summary.entry.nfos) }
     ensures reads { IfOk result (λ listing. listing.reads ≡ reads_gathered summary.entry.nfos) }
-    ensures ordered { IfOk result (λ listing. All (λ listed. AreRising listed.licences) listing.crates) }
+    ensures ordered { IfOk result (λ listing. All (λ listed. AreRising listed.licenses) listing.crates) }
 {
     let crates = listed_crates(alloc, summary.nfos.items())?;
     let reads = reads_of_licenses(alloc, summary.nfos)?;

@@ -1,7 +1,7 @@
 -- Levels that words ask for, and what stands twice, worked out by hand.
 use Rattle.std.proofs.Common.{◌≡◌, List, [], ◌∷◌, codes, Some, None, refl}
 use Rattle.diag_core.specs.declared.code.DiagnosticCode.TheVariants.{License}
-use Rattle.diag_core.specs.declared.licenses.Code.TheVariants as licence
+use Rattle.diag_core.specs.declared.licenses.Code.TheVariants as license
 use Rattle.diag_core.specs.declared.severity.Severity.TheVariants.{Note, Warning, Error}
 use Rattle.run_request.specs.declared.level.CodeOrLevel.{CodeOrLevel}
 use Rattle.run_request.specs.declared.level.CodeOrLevel.TheVariants.{Code, Level}
@@ -11,10 +11,10 @@ use Rattle.run_overrides.specs.Items.{level_asked}
 use Rattle.run_overrides.specs.Twice.{first_twice}
 
 abbrev accepted : CodeOrLevel
-accepted = Code (License licence.Accepted)
+accepted = Code (License license.Accepted)
 
 abbrev rejected : CodeOrLevel
-rejected = Code (License licence.Rejected)
+rejected = Code (License license.Rejected)
 
 -- what is allowed, warned of and denied
 abbrev words : List CodeOrLevel → List CodeOrLevel → List CodeOrLevel → LintLevels

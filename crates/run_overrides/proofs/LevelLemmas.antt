@@ -1,6 +1,6 @@
 -- Findings at the levels that words ask for.
 use Rattle.std.proofs.Common.{◌≡◌, ◌∙◌, refl, ap, ap₂, ℕ, List, [], ◌∷◌, ◌++◌, map, Option, None, Some}
-use Rattle.diag_core.specs.Overrides.{level_by_code, overridden, pack_overridden}
+use Rattle.diag_core.specs.Overrides.{level_by_code, finding_at_level, pack_overridden}
 use Rattle.diag_core.specs.Pack.{PackOf}
 use Rattle.diag_core.specs.declared.overrides.DiagnosticOverrides.{DiagnosticOverrides}
 use Rattle.diag_core.specs.declared.pack.Diag.{Diag}
@@ -18,11 +18,11 @@ module _ (levels : LintLevels) (overrides : DiagnosticOverrides) (asked : AreAsk
   level_same None severity = refl
   level_same (Some code) severity = asked code severity
 
-  finding_same : (finding : Diag) → overridden overrides finding ≡ at_level levels finding
+  finding_same : (finding : Diag) → finding_at_level overrides finding ≡ at_level levels finding
   finding_same finding =
       ap (λ severity. let it : Diag = record finding { diag = record finding.diag { severity = severity } } in it) (level_same finding.diag.code finding.diag.severity)
 
-  findings_same : (findings : List Diag) → map (overridden overrides) findings ≡ map (at_level levels) findings
+  findings_same : (findings : List Diag) → map (finding_at_level overrides) findings ≡ map (at_level levels) findings
   findings_same [] = refl
   findings_same (finding ∷ findings) = ap₂ (λ first rest. first ∷ rest) (finding_same finding) (findings_same findings)
 

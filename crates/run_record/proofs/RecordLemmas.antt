@@ -9,12 +9,12 @@ use Rattle.spdx_core.specs.Reading.{ExpressionView}
 use Rattle.spdx_core.specs.declared.certificates.verdict.Verdict.{Verdict}
 use Rattle.spdx_core.specs.declared.certificates.verdict.Verdict.TheVariants.{Skipped, Unlicensed, Accepted, Rejected}
 use Rattle.diag_core.specs.File.{File}
-use Rattle.graph_core.specs.Krate.{Record, ids_in}
+use Rattle.graph_core.specs.Krate.{CrateRecord, ids_in}
 use Rattle.graph_core.specs.Metadata.{AreRising}
 use Rattle.policy_core.specs.valid.Policy.{Policy}
 use Rattle.policy_core.specs.valid.View.{policy_of}
 use Rattle.policy_core.specs.declared.valid.policy.ValidConfig.{ValidConfig}
-use Rattle.gather_core.specs.Calls.{CrateReads}
+use Rattle.gather_core.specs.Calls.{ReadsOfCrate}
 use Rattle.gather_core.specs.declared.summary.KrateLicense.{KrateLicense}
 use Rattle.gather_core.proofs.CrateTurns.{own_turns}
 use Rattle.check_core.specs.Verdicts.{IsVerdictShown, is_skipped}
@@ -47,7 +47,7 @@ use Rattle.run_record.proofs.EndLemmas.{write_counts}
 
 -- ---- verdicts that can be recorded
 
-shown_recordable : (policy : Policy) (krate : Record) (expression : Option ExpressionView) (verdict : Verdict) → IfSome expression (λ view. IsExpression view.text view.terms view.tree)
+shown_recordable : (policy : Policy) (krate : CrateRecord) (expression : Option ExpressionView) (verdict : Verdict) → IfSome expression (λ view. IsExpression view.text view.terms view.tree)
     → IsVerdictShown (is_skipped verdict) policy krate expression verdict → IsRecordable verdict
 shown_recordable policy krate expression Skipped facts shown = tt
 shown_recordable policy krate expression Unlicensed facts shown = tt
@@ -64,15 +64,15 @@ recordable report facts judged = shown_recordable judged.policy judged.krate rep
 -- ---- reports that can be recorded
 
 module _ (given : CommandArguments) (policy : ValidConfig) where
-  each_judged : (crates : List CrateReads) (reports : List CrateReport) → AllZip (IsReportOf given policy) crates reports → AllByRecursion IsJudgedReport reports
+  each_judged : (crates : List ReadsOfCrate) (reports : List CrateReport) → AllZip (IsReportOf given policy) crates reports → AllByRecursion IsJudgedReport reports
   each_judged [] [] each = tt
   each_judged [] (report ∷ reports) each = absurd each
   each_judged (one ∷ crates) [] each = absurd each
   each_judged (one ∷ crates) (report ∷ reports) each =
       (record { policy = policy_of policy; krate = one.krate; verdict = each.0.verdict }, each_judged crates reports each.1)
 
-  ids_reported : (crates : List CrateReads) (reports : List CrateReport) → AllZip (IsReportOf given policy) crates reports
-      → map (λ (report : CrateReport). report.id) reports ≡ ids_in (map (λ (one : CrateReads). one.krate) crates)
+  ids_reported : (crates : List ReadsOfCrate) (reports : List CrateReport) → AllZip (IsReportOf given policy) crates reports
+      → map (λ (report : CrateReport). report.id) reports ≡ ids_in (map (λ (one : ReadsOfCrate). one.krate) crates)
   ids_reported [] [] each = refl
   ids_reported [] (report ∷ reports) each = absurd each
   ids_reported (one ∷ crates) [] each = absurd each

@@ -13,8 +13,8 @@ use Rattle.gather_core.specs.declared.summary.KrateLicense.{KrateLicense}
 use Rattle.run_found.specs.declared.error.Error.{Error}
 use Rattle.run_found.specs.declared.error.Error.TheVariants.{Memory, RecordRead, RecordSyntax}
 use Rattle.run_found.specs.Error.{cause_of}
-use Rattle.run_found.specs.Hearing.{TreeSeen, seen}
-use Rattle.run_found.specs.Licences.{IsGatheredOn}
+use Rattle.run_found.specs.Hearing.{TreeSeen, tree_seen}
+use Rattle.run_found.specs.Licenses.{IsGatheredOn}
 use Rattle.run_found.specs.Written.{SinkSeen}
 use Rattle.run_command.specs.declared.crates.CratesFound.{CratesFound}
 use Rattle.run_command.specs.Crates.{HasCrates}
@@ -30,7 +30,7 @@ use Rattle.run_record.specs.Verified.{SettlesBy, Tells, VerifiesFirst}
 
 module _ (policy : ValidConfig) (licenses : List KrateLicense) (path : List ℕ) (first tells : Option Content) (before after : ℕ) (old new : List Call) (made : MadeSome first tells before after old new) where
   abbrev own : TreeSeen
-  own = seen first tells before after old new
+  own = tree_seen first tells before after old new
 
   -- something was heard of it
   pub heard_read : (begun : ℕ) (heard : Result (List ℕ) ReadFault) → begun ≡ before → IsTextRead begun after old new path heard → (result : Result VerifiedCrates Error)
@@ -51,9 +51,9 @@ module _ (policy : ValidConfig) (licenses : List KrateLicense) (path : List ℕ)
 -- the file was read, once the licences were settled
 module _ (given : CommandArguments) (path : List ℕ) (told middle tells : Option Content) (begun mid after : ℕ) (old between more : List Call) (err : SinkSeen)
     (policy : ValidConfig) (licenses : List KrateLicense) (last : List File)
-    (hears : HearsSo given (seen told middle begun mid old between) err (λ hearing. IsSettled given hearing policy licenses last)) where
-  settles_by : (result : Result VerifiedCrates Error) → IsRead policy licenses path (seen middle tells mid after between more) result
-      → SettlesBy given path (seen told tells begun after old more) err (Tells result)
+    (hears : HearsSo given (tree_seen told middle begun mid old between) err (λ hearing. IsSettled given hearing policy licenses last)) where
+  settles_by : (result : Result VerifiedCrates Error) → IsRead policy licenses path (tree_seen middle tells mid after between more) result
+      → SettlesBy given path (tree_seen told tells begun after old more) err (Tells result)
   settles_by result read = record {
     hearing = hears.hearing;
     policy = policy;
@@ -67,23 +67,23 @@ module _ (given : CommandArguments) (path : List ℕ) (told middle tells : Optio
     is_so = subst (λ n. Tells result policy licenses n read.answer) hears.heard.made.counts read.tells;
   }
 
-  by_result : (result : Result VerifiedCrates Error) → IsRead policy licenses path (seen middle tells mid after between more) result
-      → VerifiesFirst given path (seen told tells begun after old more) err result
+  by_result : (result : Result VerifiedCrates Error) → IsRead policy licenses path (tree_seen middle tells mid after between more) result
+      → VerifiesFirst given path (tree_seen told tells begun after old more) err result
   by_result (Ok crates) read = settles_by (Ok crates) read
   by_result (Err error) read = inr (settles_by (Err error) read)
 
 -- of the crates of a command
-module _ (given : CommandArguments) (carried : given.options.uncarried ≡ None) (path : List ℕ) (told middle later tells : Option Content) (begun mid settled after : ℕ) (old between more new : List Call)
-    (err : SinkSeen) (files : List File) (found : CratesFound) (has : HasCrates given (seen told middle begun mid old between) err files found)
+module _ (given : CommandArguments) (carried : given.options.unsupported ≡ None) (path : List ℕ) (told middle later tells : Option Content) (begun mid settled after : ℕ) (old between more new : List Call)
+    (err : SinkSeen) (files : List File) (found : CratesFound) (has : HasCrates given (tree_seen told middle begun mid old between) err files found)
     (last : List File) (licenses : List KrateLicense)
-    (gathered : IsGatheredOn (scanner_of_given given found.policy) found.policy (seen middle later mid settled between more) files last has.graph (choice_in given has.policy) licenses) where
-  hears : HearsSo given (seen told later begun settled old more) err (λ hearing. IsSettled given hearing found.policy licenses last)
+    (gathered : IsGatheredOn (scanner_of_given given found.policy) found.policy (tree_seen middle later mid settled between more) files last has.graph (choice_in given has.policy) licenses) where
+  hears : HearsSo given (tree_seen told later begun settled old more) err (λ hearing. IsSettled given hearing found.policy licenses last)
   hears =
       hears_so given told middle later begun mid settled old between more err files found has carried last licenses gathered (λ hearing. IsSettled given hearing found.policy licenses last)
       (is_settled given told middle later begun mid settled old between more err files found has carried last licenses gathered)
 
-  pub verified_by : (result : Result VerifiedCrates Error) → IsRead found.policy licenses path (seen later tells settled after more new) result
-      → VerifiesFirst given path (seen told tells begun after old new) err result
+  pub verified_by : (result : Result VerifiedCrates Error) → IsRead found.policy licenses path (tree_seen later tells settled after more new) result
+      → VerifiesFirst given path (tree_seen told tells begun after old new) err result
   verified_by result read = by_result given path told later tells begun settled after old more new err found.policy licenses last hears result read
 
 -- ---- what a refusal comes of

@@ -1,7 +1,7 @@
 -- Reports that can be recorded.
 use Rattle.std.specs.Prelude.{List, map}
 use Rattle.std.specs.List.{AllByRecursion}
-use Rattle.graph_core.specs.Krate.{Record}
+use Rattle.graph_core.specs.Krate.{CrateRecord}
 use Rattle.graph_core.specs.Metadata.{AreRising}
 use Rattle.policy_core.specs.valid.Policy.{Policy}
 use Rattle.check_core.specs.Verdicts.{IsVerdict}
@@ -10,7 +10,7 @@ use Rattle.check_core.specs.declared.report.CrateReport.{CrateReport}
 -- the verdict is that on a crate by a policy, and has what shows it
 pub record IsJudgedReport (report : CrateReport) : Type 0 where
   pub policy : Policy
-  pub krate : Record
+  pub krate : CrateRecord
   pub verdict : IsVerdict policy krate report.expression report.verdict
 
 -- so each is, and their ids rise

@@ -11,8 +11,8 @@ use Rattle.policy_core.specs.declared.valid.policy.ValidConfig.{ValidConfig}
 use Rattle.gather_core.specs.declared.summary.KrateLicense.{KrateLicense}
 use Rattle.check_record.specs.declared.items.RecordItem.{RecordItem}
 use Rattle.check_record.specs.Decoded.{Spells}
-use Rattle.check_verify.specs.declared.answer.Answer.{Answer}
-use Rattle.check_verify.specs.declared.answer.Answer.TheVariants.{Yes, No}
+use Rattle.check_verify.specs.declared.answer.VerifyAnswer.{VerifyAnswer}
+use Rattle.check_verify.specs.declared.answer.VerifyAnswer.TheVariants.{Yes, No}
 use Rattle.check_verify.specs.declared.answer.NoReason.{NoReason}
 use Rattle.check_verify.specs.declared.answer.NoReason.TheVariants.{Crates, Variant, NotAChoice, NotSatisfied, HasHit, NotBlocking}
 use Rattle.check_verify.specs.Verified.{IsVerified}
@@ -39,7 +39,7 @@ reason_words (NotSatisfied id) = codes "an entry does not satisfy"
 reason_words (HasHit id) = codes "a place has a hit"
 reason_words (NotBlocking id) = codes "the places do not block"
 
-abbrev pub answer_text : Answer → List ℕ
+abbrev pub answer_text : VerifyAnswer → List ℕ
 answer_text Yes = codes "verified\n"
 answer_text (No reason) = codes "not verified: " ++ reason_words reason ++ codes "\n"
 

@@ -8,7 +8,7 @@ ghost use Rattle.check_record.specs.Spelling.{spelled_of};
 ghost use Rattle.run_found.specs.Error.{cause_of};
 ghost use Rattle.run_found.specs.Hearing.{seen_between};
 ghost use Rattle.run_found.specs.Written.{IsSilent, sink_between};
-ghost use Rattle.run_command.specs.Carried.{plain_options, uncarried_of};
+ghost use Rattle.run_command.specs.Carried.{plain_options, unsupported_of};
 ghost use Rattle.run_command.specs.Given.{command_arguments_of};
 ghost use Rattle.run_record.specs.Judged.{AreJudged, IsJudgedReport};
 ghost use Rattle.run_record.specs.Recorded.{Records, RecordsOn, item_in};
@@ -98,7 +98,7 @@ pub fn record_since<T: Tree, O: Sink, S: Sink, C: Catalog, I: Identifier>(
     log_ctx: LogContext,
     context: &KrateContext,
 ) -> Result<CrateReads, Error>
-    requires { uncarried_of log_ctx context.now ≡ None }
+    requires { unsupported_of log_ctx context.now ≡ None }
     // The file is that of the report that a check of this request, without options, has by what was heard; each
     // refusal is that check's, by its cause, or that of the write.
     ensures records { Records

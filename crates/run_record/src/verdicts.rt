@@ -1,10 +1,10 @@
 //! What verifying comes to.
-pub use check_verify::{Answer, NoReason};
+pub use check_verify::{VerifyAnswer, NoReason};
 use run_found::CrateReads;
 
 /// Whether a record is right, and the reads by which the crates' licences were settled.
 #[derive(Drop)]
 pub struct VerifiedCrates {
-    pub answer: Answer,
+    pub answer: VerifyAnswer,
     pub reads: CrateReads,
 }

@@ -6,12 +6,12 @@ ghost use Rattle.check_verify.specs.Verified.{IsVerified};
 ghost use Rattle.run_found.specs.Error.{cause_of};
 ghost use Rattle.run_found.specs.Hearing.{seen_between};
 ghost use Rattle.run_found.specs.Written.{sink_between};
-ghost use Rattle.run_command.specs.Carried.{plain_options, uncarried_of};
+ghost use Rattle.run_command.specs.Carried.{plain_options, unsupported_of};
 ghost use Rattle.run_command.specs.Given.{command_arguments_of};
 ghost use Rattle.run_record.specs.Steps.{IsRead, TellsHeard};
 ghost use Rattle.run_record.specs.Verified.{Verifies, VerifiesFirst, answer_text};
 
-use crate::verdicts::{Answer, NoReason, VerifiedCrates};
+use crate::verdicts::{VerifyAnswer, NoReason, VerifiedCrates};
 use check_record::{Record, RecordError, decode};
 use check_verify::verify;
 use deny_text::Steps;
@@ -20,7 +20,7 @@ use diag_print::LogContext;
 use gather_core::Summary;
 use policy_core::valid::ValidConfig;
 use run_command::{PolicyUse, crates_found, no_levels, write_answer};
-use run_found::{Error, licences_found, reads_of_licenses};
+use run_found::{Error, licenses_found, reads_of_licenses};
 use run_request::KrateContext;
 use spdx_core::{Catalog, Identifier};
 use std::alloc::{AllocError, Global};
@@ -36,7 +36,7 @@ fn verify_by_ledger<L: Ledger>(
     verdicts: &Record,
     summary: &Summary<'_>,
     policy: &ValidConfig,
-) -> Result<Answer, AllocError>
+) -> Result<VerifyAnswer, AllocError>
     requires name { ledger.name ≡ L.name }
     requires parts { ledger.parts ≡ L.parts }
     requires some { 0 < ledger.parts }
@@ -99,7 +99,7 @@ fn verified_crates<T: Tree, S: Sink, C: Catalog, I: Identifier>(
     context: &KrateContext,
     path: &str,
 ) -> Result<VerifiedCrates, Error>
-    requires { uncarried_of log_ctx context.now ≡ None }
+    requires { unsupported_of log_ctx context.now ≡ None }
     ensures verifies { VerifiesFirst
         (command_arguments_of (C.lists catalog.now) (I.match_of identifier.now) log_ctx context.now
         (plain_options log_ctx context.now))
@@ -121,7 +121,7 @@ fn verified_crates<T: Tree, S: Sink, C: Catalog, I: Identifier>(
     let found = crates_found(
         alloc, context, log_ctx, &use_of, &mut files, tree, err, catalog,
     )?;
-    let summary = licences_found(
+    let summary = licenses_found(
         alloc,
         &found.policy,
         &found.krates,
@@ -134,17 +134,17 @@ fn verified_crates<T: Tree, S: Sink, C: Catalog, I: Identifier>(
 }
 
 /// The words of an answer, with its line end.
-fn answer_words(answer: &Answer) -> &'static str
+fn answer_words(answer: &VerifyAnswer) -> &'static str
     ensures { result.now ≡ answer_text answer.now }
 {
     match answer {
-        Answer::Yes => "verified\n",
-        Answer::No(NoReason::Crates) => "not verified: the crates differ\n",
-        Answer::No(NoReason::Variant(_)) => "not verified: the verdict differs\n",
-        Answer::No(NoReason::NotAChoice(_)) => "not verified: the places are no choice\n",
-        Answer::No(NoReason::NotSatisfied(_)) => "not verified: an entry does not satisfy\n",
-        Answer::No(NoReason::HasHit(_)) => "not verified: a place has a hit\n",
-        Answer::No(NoReason::NotBlocking(_)) => "not verified: the places do not block\n",
+        VerifyAnswer::Yes => "verified\n",
+        VerifyAnswer::No(NoReason::Crates) => "not verified: the crates differ\n",
+        VerifyAnswer::No(NoReason::Variant(_)) => "not verified: the verdict differs\n",
+        VerifyAnswer::No(NoReason::NotAChoice(_)) => "not verified: the places are no choice\n",
+        VerifyAnswer::No(NoReason::NotSatisfied(_)) => "not verified: an entry does not satisfy\n",
+        VerifyAnswer::No(NoReason::HasHit(_)) => "not verified: a place has a hit\n",
+        VerifyAnswer::No(NoReason::NotBlocking(_)) => "not verified: the places do not block\n",
     }
 }
 
@@ -163,7 +163,7 @@ pub fn verify_since<T: Tree, O: Sink, S: Sink, C: Catalog, I: Identifier>(
     context: &KrateContext,
     path: &str,
 ) -> Result<VerifiedCrates, Error>
-    requires { uncarried_of log_ctx context.now ≡ None }
+    requires { unsupported_of log_ctx context.now ≡ None }
     // The answer is told of the file, the policy and the licences that were heard; a refusal comes before the command
     // does its own, or it is that of the file, or of the write.
     ensures verifies { Verifies

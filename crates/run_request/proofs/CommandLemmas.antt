@@ -8,8 +8,8 @@ use Rattle.std.specs.Result.{result_ok}
 use Rattle.std.specs.Str.{bytes_eq}
 use Rattle.clap.specs.Words.{Text, Row, first_of, matches_of, subcommand_of}
 use Rattle.diag_print.specs.declared.context.LogContext.{LogContext}
-use Rattle.run_request.specs.declared.check.Args.{Args as CheckArgs}
-use Rattle.run_request.specs.declared.list.Args.{Args as ListArgs}
+use Rattle.run_request.specs.declared.check.CheckArgs.{CheckArgs}
+use Rattle.run_request.specs.declared.list.ListArgs.{ListArgs}
 use Rattle.run_request.specs.declared.error.ArgsError.{ArgsError}
 use Rattle.run_request.specs.declared.error.ArgsError.TheVariants.{BadValue}
 use Rattle.run_request.specs.declared.number.SampleSize.{SampleSize}

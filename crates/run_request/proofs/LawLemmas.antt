@@ -15,14 +15,14 @@ use Rattle.run_request.specs.Cli.{cli}
 use Rattle.run_request.specs.Reading.{and_then}
 use Rattle.run_request.specs.Request.{request_of_rows, gate_words, krate_context_of, log_context_of, path_at, subcommand_asked, verify_of}
 use Rattle.run_request.specs.Given.{IsGivenFor}
-use Rattle.run_request.specs.Laws.{SecondDenyChangesNothing, FolderShowsInPaths, command_hidden, hidden, without_folder}
+use Rattle.run_request.specs.Laws.{SecondDenyChangesNothing, FolderShowsInPaths, command_hidden, hidden_path, without_folder}
 
 pub second_deny : SecondDenyChangesNothing
 second_deny program words cwd given same =
     let P : List Text → Type 0 = λ kept. IsGivenFor (program ∷ kept) cwd given in
     (λ is. subst P (sym same) is, λ is. subst P same is)
 
-gone : (path : Option Text) (f g : Text → Text) → hidden (option_map f path) ≡ hidden (option_map g path)
+gone : (path : Option Text) (f g : Text → Text) → hidden_path (option_map f path) ≡ hidden_path (option_map g path)
 gone None f g = refl
 gone (Some path) f g = refl
 

@@ -5,8 +5,8 @@ use Rattle.run_request.specs.declared.error.ArgsError.{ArgsError}
 use Rattle.run_request.specs.declared.error.ArgsError.TheVariants.{DepthWithHide}
 use Rattle.run_request.specs.declared.level.LintLevels.{LintLevels}
 use Rattle.run_request.specs.declared.level.WhichCheck.{WhichCheck}
-use Rattle.run_request.specs.declared.check.Args.{Args as CheckArgs}
-use Rattle.run_request.specs.declared.list.Args.{Args as ListArgs}
+use Rattle.run_request.specs.declared.check.CheckArgs.{CheckArgs}
+use Rattle.run_request.specs.declared.list.ListArgs.{ListArgs}
 use Rattle.run_request.specs.declared.number.Threshold.{Threshold}
 use Rattle.run_request.specs.declared.output.OutputFormat.TheVariants.{Human}
 use Rattle.run_request.specs.declared.output.Layout.TheVariants.{License}

@@ -110,8 +110,8 @@ abbrev pub subcommand_shapes : List Shape
 subcommand_shapes = check_shape ∷ list_shape ∷ record_shape ∷ verify_shape ∷ sample_shape ∷ []
 
 -- a command without subcommands
-abbrev pub alone : Shape → App
-alone shape = record { top = shape; subs = [] }
+abbrev pub app_of_shape : Shape → App
+app_of_shape shape = record { top = shape; subs = [] }
 
 -- the command line but for its subcommands: it tells its version, and asks for a subcommand
 abbrev pub top_shape : Shape

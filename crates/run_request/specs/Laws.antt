@@ -15,8 +15,8 @@ SecondDenyChangesNothing = (program : Text) (words : List Text) (cwd : Text) (gi
     → IsGiven (program ∷ codes "deny" ∷ words) cwd given ↔ IsGiven (program ∷ words) cwd given
 
 -- a path of which it is only known that it is there
-abbrev pub hidden : Option Text → Option Text
-hidden path = option_map (λ _. []) path
+abbrev pub hidden_path : Option Text → Option Text
+hidden_path path = option_map (λ _. []) path
 
 -- a command without a path
 abbrev pub command_hidden : Subcommand → Subcommand
@@ -29,10 +29,10 @@ command_hidden (Sample size) = Sample size
 -- the request without the paths that stand behind the working folder
 abbrev pub without_folder : Request → Request
 without_folder request = record request {
-  manifest_path = hidden request.manifest_path;
-  catalog = hidden request.catalog;
-  store = hidden request.store;
-  krate_ctx = record request.krate_ctx { manifest_path = []; metadata_path = hidden request.krate_ctx.metadata_path; cwd = [] };
+  manifest_path = hidden_path request.manifest_path;
+  catalog = hidden_path request.catalog;
+  store = hidden_path request.store;
+  krate_ctx = record request.krate_ctx { manifest_path = []; metadata_path = hidden_path request.krate_ctx.metadata_path; cwd = [] };
   command = command_hidden request.command;
 }
 

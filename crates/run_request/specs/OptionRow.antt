@@ -26,9 +26,9 @@ abbrev pub rule_of_row : OptionRow → Rule
 rule_of_row row = record (rule_of_kind row.kind row.name.now) { short = row.letter; defaults = defaults_of row.default }
 
 -- a command with rules added in turn
-abbrev pub grown : List Rule → App → App
-grown [] app = app
-grown (rule ∷ rules) app = grown rules (with_rule app rule)
+abbrev pub app_with_rules : List Rule → App → App
+app_with_rules [] app = app
+app_with_rules (rule ∷ rules) app = app_with_rules rules (with_rule app rule)
 
 -- the subcommand of a row
 abbrev pub shape_of_row : SubcommandRow → Shape

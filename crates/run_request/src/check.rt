@@ -1,7 +1,7 @@
 //! The options of `check`.
 ghost use Rattle.std.specs.Prelude.{◌≡◌, IfOk};
 ghost use Rattle.clap.specs.Words.{app_of, found_of, rows_of};
-ghost use Rattle.run_request.specs.Cli.{alone, check_shape};
+ghost use Rattle.run_request.specs.Cli.{app_of_shape, check_shape};
 ghost use Rattle.run_request.specs.Reading.{AnswersArgs};
 ghost use Rattle.run_request.specs.Args.{check_args_of, lint_levels_of};
 
@@ -16,7 +16,7 @@ use std::alloc::{AllocError, Global};
 
 /// What `check` is asked for.
 #[derive(Drop)]
-pub struct Args {
+pub struct CheckArgs {
     /// A folder for graphs, as it was written.
     pub graph: Option<PathBuf>,
     pub hide_inclusion_graph: bool,
@@ -27,17 +27,17 @@ pub struct Args {
     pub which: WhichChecks,
 }
 
-impl Args {
+impl CheckArgs {
     /// The subcommand `check`.
     pub fn cmd<'a>(alloc: Global) -> Result<Command<'a>, AllocError>
-        ensures { IfOk result (λ command. app_of command ≡ alone check_shape) }
+        ensures { IfOk result (λ command. app_of command ≡ app_of_shape check_shape) }
     {
         command_of_row(alloc, check_row())
     }
 
     /// What the matches of `check` ask for. The first refusal is told, in the order of the options, and a
     /// depth beside hidden graphs behind all values.
-    pub fn parse(alloc: Global, matches: &ArgMatches<'_>) -> Result<Args, ArgsError>
+    pub fn parse(alloc: Global, matches: &ArgMatches<'_>) -> Result<CheckArgs, ArgsError>
         ensures { AnswersArgs (check_args_of (rows_of (found_of matches.now))) result }
     {
         let lint_levels = lint_levels(alloc, matches)?;
@@ -48,7 +48,7 @@ impl Args {
             return Err(ArgsError::DepthWithHide);
         }
         let graph = copied_path(alloc, matches, "graph")?;
-        Ok(Args {
+        Ok(CheckArgs {
             graph,
             hide_inclusion_graph,
             audit_compatible_output: is_set(matches, "audit-compatible-output"),

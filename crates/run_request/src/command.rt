@@ -1,8 +1,8 @@
 //! The command line as a value.
 ghost use Rattle.std.specs.Prelude.{◌≡◌, IfOk, false, true, map};
 ghost use Rattle.clap.specs.Words.{rule_of, new_rule, app_of, shape_of, with_subcommand};
-ghost use Rattle.run_request.specs.Cli.{cli, top_shape, alone};
-ghost use Rattle.run_request.specs.OptionRow.{rule_of_row, shape_of_row, defaults_of, grown, with_all};
+ghost use Rattle.run_request.specs.Cli.{cli, top_shape, app_of_shape};
+ghost use Rattle.run_request.specs.OptionRow.{rule_of_row, shape_of_row, defaults_of, app_with_rules, with_all};
 
 use crate::options::{OptionRow, OptionUse, SubcommandRow, main_rows, subcommand_rows};
 use clap::{Arg, ArgAction, Command};
@@ -42,7 +42,7 @@ pub fn command<'a>(alloc: Global) -> Result<Command<'a>, AllocError>
 
 /// The command line without its subcommands.
 fn top_command<'a>(alloc: Global) -> Result<Command<'a>, AllocError>
-    ensures { IfOk result (λ command. app_of command ≡ alone top_shape) }
+    ensures { IfOk result (λ command. app_of command ≡ app_of_shape top_shape) }
 {
     let command = Command::new(alloc, "cargo-deny")
         .version(VERSION)
@@ -100,7 +100,7 @@ pub(crate) fn command_of_row<'a>(
     alloc: Global,
     row: &'static SubcommandRow,
 ) -> Result<Command<'a>, AllocError>
-    ensures { IfOk result (λ command. app_of command ≡ alone (shape_of_row row.now)) }
+    ensures { IfOk result (λ command. app_of command ≡ app_of_shape (shape_of_row row.now)) }
 {
     let command = Command::new(alloc, row.name).about(row.about);
     with_rows(alloc, command, row.rows)
@@ -122,7 +122,7 @@ fn with_rows<'a>(
     command: Command<'a>,
     rows: &'static [OptionRow],
 ) -> Result<Command<'a>, AllocError>
-    ensures { IfOk result (λ r. app_of r ≡ grown (map rule_of_row rows.now) (app_of command.entry)) }
+    ensures { IfOk result (λ r. app_of r ≡ app_with_rules (map rule_of_row rows.now) (app_of command.entry)) }
 {
     let mut command = command;
     'rows: for row in rows {

@@ -1,7 +1,7 @@
 //! The options of `list`.
 ghost use Rattle.std.specs.Prelude.{◌≡◌, IfOk};
 ghost use Rattle.clap.specs.Words.{app_of, found_of, rows_of};
-ghost use Rattle.run_request.specs.Cli.{alone, list_shape};
+ghost use Rattle.run_request.specs.Cli.{app_of_shape, list_shape};
 ghost use Rattle.run_request.specs.Reading.{AnswersArgs};
 ghost use Rattle.run_request.specs.Args.{list_args_of, hundredths_in};
 
@@ -16,29 +16,29 @@ use std::alloc::{AllocError, Global};
 
 /// What `list` is asked for.
 #[derive(Clone, Copy, Debug, PartialEq, Eq)]
-pub struct Args {
+pub struct ListArgs {
     /// The least score at which a text is taken for a licence, in hundredths.
     pub threshold: i64,
     pub format: OutputFormat,
     pub layout: Layout,
 }
 
-impl Args {
+impl ListArgs {
     /// The subcommand `list`.
     pub fn cmd<'a>(alloc: Global) -> Result<Command<'a>, AllocError>
-        ensures { IfOk result (λ command. app_of command ≡ alone list_shape) }
+        ensures { IfOk result (λ command. app_of command ≡ app_of_shape list_shape) }
     {
         command_of_row(alloc, list_row())
     }
 
     /// What the matches of `list` ask for. The first refusal is told, in the order of the options.
-    pub fn parse(alloc: Global, matches: &ArgMatches<'_>) -> Result<Args, ArgsError>
+    pub fn parse(alloc: Global, matches: &ArgMatches<'_>) -> Result<ListArgs, ArgsError>
         ensures { AnswersArgs (list_args_of (rows_of (found_of matches.now))) result }
     {
         let threshold: Option<Threshold> = read_first(alloc, matches, "threshold")?;
         let format: Option<OutputFormat> = read_first(alloc, matches, "format")?;
         let layout: Option<Layout> = read_first(alloc, matches, "layout")?;
-        Ok(Args {
+        Ok(ListArgs {
             threshold: hundredths(threshold) as i64,
             format: format.unwrap_or(OutputFormat::Human),
             layout: layout.unwrap_or(Layout::License),

@@ -19,8 +19,8 @@ use std::alloc::Global;
 /// A subcommand, and what it is asked for.
 #[derive(Drop)]
 pub enum Subcommand {
-    Check(check::Args),
-    List(list::Args),
+    Check(check::CheckArgs),
+    List(list::ListArgs),
     /// A check of so many crates that are made up, from 1 to 20,000.
     Sample(u32),
     /// The verdicts are to be written.
@@ -84,10 +84,10 @@ fn subcommand_named(
     ensures { AnswersArgs (subcommand_named name.now (rows_of (found_of below.now)) cwd.now) result }
 {
     if name == "check" {
-        let args = check::Args::parse(alloc, below)?;
+        let args = check::CheckArgs::parse(alloc, below)?;
         Ok(Subcommand::Check(args))
     } else if name == "list" {
-        let args = list::Args::parse(alloc, below)?;
+        let args = list::ListArgs::parse(alloc, below)?;
         Ok(Subcommand::List(args))
     } else if name == "record" {
         Ok(Subcommand::Record)

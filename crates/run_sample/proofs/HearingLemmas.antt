@@ -19,7 +19,7 @@ use Rattle.tree_core.specs.declared.texts.fault.ReadFault.TheVariants.{NotUtf8}
 use Rattle.spdx_terms.specs.catalog.Table.{table_lists, single_names, families, gnu_families}
 use Rattle.spdx_terms.specs.declared.catalog.identifier.Match.{Match}
 use Rattle.graph_metadata.specs.Records.{graph_of}
-use Rattle.graph_core.specs.selection.Choice.{is_uncarried}
+use Rattle.graph_core.specs.selection.Choice.{is_unsupported}
 use Rattle.graph_core.specs.selection.Roots.{HasRoot}
 use Rattle.graph_workspace.specs.Krates.{sparse_dir}
 use Rattle.toml_subset.specs.Answer.{TomlReading}
@@ -85,7 +85,7 @@ policy_shape : root_of table_lists policy_value ≡ Ok policy_root
 unfolding single_names families gnu_families
 policy_shape = refl
 
-policy_carried : list_any is_uncarried policy_root.graph.exclude ≡ false
+policy_carried : list_any is_unsupported policy_root.graph.exclude ≡ false
 policy_carried = refl
 
 policy_valid : list_any is_error sample_found.findings ≡ false

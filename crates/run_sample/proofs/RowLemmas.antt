@@ -18,7 +18,7 @@ use Rattle.serde_json.specs.Data.{Data, string, Items}
 use Rattle.deny_text.specs.Path.{parent_of}
 use Rattle.graph_core.specs.declared.edge.Edge.{Edge}
 use Rattle.graph_core.specs.declared.edge.DepKind.TheVariants.{Normal}
-use Rattle.graph_core.specs.Krate.{Record}
+use Rattle.graph_core.specs.Krate.{CrateRecord}
 use Rattle.graph_core.specs.Metadata.{no_kinds}
 use Rattle.graph_metadata.specs.declared.fault.MetaReason.TheVariants.{RepeatedId}
 use Rattle.graph_metadata.specs.Floats.{float_in, float_in_items, unless_found}
@@ -26,7 +26,7 @@ use Rattle.graph_metadata.specs.Nodes.{Member, NodeTold, DepTold, member_row, ro
 use Rattle.graph_metadata.specs.Packages.{PackageKeys, PackageTexts, PackageLists, id_row, manifest_row, in_folder, version_row, version_from, source_row, named_row, described_row, listed_row, record_with, package_row, packages_in}
 use Rattle.graph_metadata.specs.Records.{MetadataRows, rows_in}
 use Rattle.graph_metadata.specs.Shape.{IdPlaces, optional_text_from, texts_or_empty_at, optional_texts_at, id_of_item, with_place, known_in, known_of, known_from, new_from}
-use Rattle.graph_metadata.specs.Told.{MetadataReading, ◌>>=◌, each, items_in, meta_fault, with_key}
+use Rattle.graph_metadata.specs.Told.{MetadataReading, ◌>>=◌, reading_of_each, items_in, meta_fault, with_key}
 use Rattle.run_sample.specs.Metadata.{numbers, sample_name}
 use Rattle.run_sample.proofs.SampleData.{data_items, dep_data, field_data, license_field, node_data, package_data, resolve_data, sample_data, sample_manifest, sample_version, targets}
 
@@ -36,21 +36,21 @@ bind : {A B : Type 0} (told : MetadataReading A) (value : A) (next : A → Metad
 bind told value next e = ap (λ one. one >>= next) e
 
 each_range : {A T : Type 0} (row : ℕ → A → MetadataReading T) (make : ℕ → A) (told : ℕ → T) (a k : ℕ) → ((i : ℕ) → i < a + k → row i (make i) ≡ Ok (told i))
-    → each row a (map make (range_with_len a k)) ≡ Ok (map told (range_with_len a k))
-unfolding each
+    → reading_of_each row a (map make (range_with_len a k)) ≡ Ok (map told (range_with_len a k))
+unfolding reading_of_each
 each_range row make told a zero tells = refl
 each_range row make told a (suc k) tells =
-    bind (row a (make a)) (told a) (λ first. each row (a + 1) (map make (range_with_len (a + 1) k)) >>= (λ others. Ok (first ∷ others))) (tells a (omega arith))
-    ∙ bind (each row (a + 1) (map make (range_with_len (a + 1) k))) (map told (range_with_len (a + 1) k)) (λ others. Ok (told a ∷ others))
+    bind (row a (make a)) (told a) (λ first. reading_of_each row (a + 1) (map make (range_with_len (a + 1) k)) >>= (λ others. Ok (first ∷ others))) (tells a (omega arith))
+    ∙ bind (reading_of_each row (a + 1) (map make (range_with_len (a + 1) k))) (map told (range_with_len (a + 1) k)) (λ others. Ok (told a ∷ others))
     (each_range row make told (a + 1) k (λ i less. tells i (omega (arith, less))))
 
 each_list : {A T : Type 0} (row : ℕ → A → MetadataReading T) (make : ℕ → A) (told : ℕ → T) (n a : ℕ) (xs : List ℕ) → AllByRecursion (λ x. x < n) xs → ((j x : ℕ) → x < n → row j (make x) ≡ Ok (told x))
-    → each row a (map make xs) ≡ Ok (map told xs)
-unfolding each
+    → reading_of_each row a (map make xs) ≡ Ok (map told xs)
+unfolding reading_of_each
 each_list row make told n a [] all tells = refl
 each_list row make told n a (x ∷ xs) all tells =
-    bind (row a (make x)) (told x) (λ first. each row (a + 1) (map make xs) >>= (λ others. Ok (first ∷ others))) (tells a x all.0)
-    ∙ bind (each row (a + 1) (map make xs)) (map told xs) (λ others. Ok (told x ∷ others)) (each_list row make told n (a + 1) xs all.1 tells)
+    bind (row a (make x)) (told x) (λ first. reading_of_each row (a + 1) (map make xs) >>= (λ others. Ok (first ∷ others))) (tells a x all.0)
+    ∙ bind (reading_of_each row (a + 1) (map make xs)) (map told xs) (λ others. Ok (told x ∷ others)) (each_list row make told n (a + 1) xs all.1 tells)
 
 items_map : (make : ℕ → Data) (xs : List ℕ) → items_in (data_items make xs) ≡ map make xs
 items_map make [] = refl
@@ -173,7 +173,7 @@ package_texts i = record { license = license_field (i % 4); license_file = None;
 abbrev no_lists : PackageLists
 no_lists = record { authors = []; features = finmap.empty; publish = None }
 
-abbrev pub package_record : ℕ → Record
+abbrev pub package_record : ℕ → CrateRecord
 package_record i = record_with (package_keys i) (package_texts i) no_lists
 
 module _ (sparse_dir : List ℕ) (known : IdPlaces) (i : ℕ) (small : i < 2 ^ 64) (place_known : finmap.get known (sample_name i) ≡ Some i) (in_one : (folder : List ℕ) × (parent_of (sample_manifest i) ≡ Some folder)) where
@@ -198,7 +198,7 @@ module _ (sparse_dir : List ℕ) (known : IdPlaces) (i : ℕ) (small : i < 2 ^ 6
   described_told = bind _ _ _ (field_told _ (license_field (i % 4)))
 
   listed_told : listed_row i (package_data i) ≡ Ok no_lists
-  unfolding listed_row texts_or_empty_at optional_texts_at each
+  unfolding listed_row texts_or_empty_at optional_texts_at reading_of_each
   listed_told = refl
 
   package_told : package_row sparse_dir known i (package_data i) ≡ Ok (package_record i)
@@ -240,7 +240,7 @@ module _ (n : ℕ) (known : IdPlaces) (all_known : (i : ℕ) → i < n → finma
   dep_row_told i j x less = bind _ _ _ (known_told _ _ x (all_known x less))
 
   deps_in_told : (i : ℕ) → deps_in known i (node_told n i) ≡ Ok (deps_told n i)
-  deps_in_told i = ap (each (dep_row known i) 0) (items_map dep_data (targets n i)) ∙ each_list (dep_row known i) dep_data dep_told n 0 (targets n i) (targets_within n i) (dep_row_told i)
+  deps_in_told i = ap (reading_of_each (dep_row known i) 0) (items_map dep_data (targets n i)) ∙ each_list (dep_row known i) dep_data dep_told n 0 (targets n i) (targets_within n i) (dep_row_told i)
 
   edges_in_told : (i : ℕ) → edges_in i (deps_told n i) ≡ Ok (edges_told n i)
   edges_in_told i = each_list (edge_row i) dep_told edge_told n 0 (targets n i) (targets_within n i) (λ j x less. edge_row_told i j x)
@@ -300,12 +300,12 @@ module _ (n : ℕ) (small : n ≤ 2 ^ 32) (some : 1 ≤ n) (sparse_dir : List �
   member_told = bind _ _ _ (known_told _ _ 0 root_known)
 
   root_told : root_row (sample_data n) ≡ Ok (sample_rows n).root
-  unfolding root_row each
+  unfolding root_row reading_of_each
   root_told = bind _ _ _ (bind _ _ _ member_told)
 
   packages_told : packages_in sparse_dir known (packages_of n) ≡ Ok (map package_record (numbers n))
   packages_told =
-      ap (each (package_row sparse_dir known) 0) (items_map package_data (numbers n))
+      ap (reading_of_each (package_row sparse_dir known) 0) (items_map package_data (numbers n))
       ∙ each_range (package_row sparse_dir known) package_data package_record 0 n
       (λ i less. package_told sparse_dir known i (omega (arith, small, less)) (all_known i (omega (arith, less))) (parents i (omega (arith, small, less))))
 
@@ -317,7 +317,7 @@ module _ (n : ℕ) (small : n ≤ 2 ^ 32) (some : 1 ≤ n) (sparse_dir : List �
   unfolding nodes_read
   nodes_told =
       bind _ _ _
-      (ap (each (node_row known (known_of (nodes_of n))) 0) (items_map (node_data n) (numbers n))
+      (ap (reading_of_each (node_row known (known_of (nodes_of n))) 0) (items_map (node_data n) (numbers n))
       ∙ each_range (node_row known (known_of (nodes_of n))) (node_data n) (node_told n) 0 n
       (λ i less. node_row_told n known all_known (known_of (nodes_of n)) i (omega (arith, less)) (nodes_known i (omega (arith, less)))))
 

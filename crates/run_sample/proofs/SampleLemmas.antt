@@ -6,7 +6,7 @@ use Rattle.std.specs.List.{AllByRecursion}
 use Rattle.spdx_terms.specs.catalog.Catalog.{CatalogLists}
 use Rattle.spdx_terms.specs.declared.catalog.identifier.Match.{Match}
 use Rattle.diag_print.specs.declared.context.LogContext.{LogContext}
-use Rattle.run_request.specs.declared.check.Args.{Args}
+use Rattle.run_request.specs.declared.check.CheckArgs.{CheckArgs}
 use Rattle.run_request.specs.declared.context.KrateContext.{KrateContext}
 use Rattle.tree_core.specs.Call.{Call}
 use Rattle.tree_core.specs.Content.{Content}
@@ -21,7 +21,7 @@ use Rattle.tree_core.specs.texts.Cause as causes
 use Rattle.run_found.specs.declared.error.Error.{Error}
 use Rattle.run_found.specs.declared.error.Error.TheVariants.{ConfigRead}
 use Rattle.run_found.specs.Error.{EndsLawful, MayEndLawful, cause_of}
-use Rattle.run_found.specs.Hearing.{TreeSeen, seen}
+use Rattle.run_found.specs.Hearing.{TreeSeen, tree_seen}
 use Rattle.run_found.specs.Written.{SinkSeen, TextWritten, sink_seen}
 use Rattle.tree_core.specs.declared.texts.fault.ReadFault.TheVariants as read
 use Rattle.run_check.specs.declared.report.Report.{Report}
@@ -99,7 +99,7 @@ module _ (n : ℕ) (given : CommandArguments) (tree : TreeSeen) (err : SinkSeen)
   sampled_by (Err error) headline own rises policy findings unneeded certificates = tt
 
 -- what is asked for by these is asked for by the sample's request
-pub given_by : (lists : CatalogLists) (match_of : List ℕ → Match) (log : LogContext) (args : Args) (context : KrateContext) → log ≡ sample_log → args ≡ sample_args → context ≡ sample_context
+pub given_by : (lists : CatalogLists) (match_of : List ℕ → Match) (log : LogContext) (args : CheckArgs) (context : KrateContext) → log ≡ sample_log → args ≡ sample_args → context ≡ sample_context
     → check_arguments_of lists match_of log args context ≡ sample_request lists match_of
 given_by lists match_of log args context logs asks looks =
     ap (λ own. check_arguments_of lists match_of own args context) logs
@@ -107,9 +107,9 @@ given_by lists match_of log args context logs asks looks =
     ∙ ap (check_arguments_of lists match_of sample_log sample_args) looks
 
 -- all of it is carried
-pub carried_by : (lists : CatalogLists) (match_of : List ℕ → Match) (log : LogContext) (args : Args) (context : KrateContext) → log ≡ sample_log → args ≡ sample_args → context ≡ sample_context
-    → (check_arguments_of lists match_of log args context).options.uncarried ≡ None
-carried_by lists match_of log args context logs asks looks = ap (λ (own : CommandArguments). own.options.uncarried) (given_by lists match_of log args context logs asks looks)
+pub carried_by : (lists : CatalogLists) (match_of : List ℕ → Match) (log : LogContext) (args : CheckArgs) (context : KrateContext) → log ≡ sample_log → args ≡ sample_args → context ≡ sample_context
+    → (check_arguments_of lists match_of log args context).options.unsupported ≡ None
+carried_by lists match_of log args context logs asks looks = ap (λ (own : CommandArguments). own.options.unsupported) (given_by lists match_of log args context logs asks looks)
 
 -- a sink that keeps nothing and refuses nothing
 abbrev pub nowhere : SinkSeen
@@ -117,7 +117,7 @@ nowhere = sink_seen None None 0 0
 
 -- the tree that a sample is checked on
 pub sample_seen : (n : ℕ) (state made : TreeState) (tells : Option Content) (calls : List Call) → state ≡ made → made.content ≡ sample_content n → made.calls ≡ []
-    → IsSampleTree n (seen (Some state.content) tells 0 0 state.calls calls)
+    → IsSampleTree n (tree_seen (Some state.content) tells 0 0 state.calls calls)
 sample_seen n state made tells calls same content unasked = record {
   told = ap (λ (one : TreeState). Some one.content) same ∙ ap Some content;
   unasked = ap (λ (one : TreeState). one.calls) same ∙ unasked;

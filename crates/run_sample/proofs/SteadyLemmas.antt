@@ -2,7 +2,7 @@
 use Rattle.std.proofs.Common.{◌≡◌, ◌∙◌, sym, ap, ◌-◌, ◌==◌, map, cond, Result}
 use Rattle.std.specs.List.{list_any}
 use Rattle.tree_core.specs.Call.{Call}
-use Rattle.tree_core.specs.Faults.{count_after, counted}
+use Rattle.tree_core.specs.Faults.{count_after, next_count}
 use Rattle.tree_core.specs.TreeState.{TreeState, after_call}
 use Rattle.tree_core.specs.declared.tree.TreeError.{TreeError}
 use Rattle.run_sample.specs.Steady.{IsSteady}
@@ -11,7 +11,7 @@ module _ (old new : TreeState) (call : Call) (steady : IsSteady old) (after : ne
   no_more_faults : new.faults ≡ 0
   no_more_faults =
       ap (λ (state : TreeState). state.faults) after
-      ∙ ap (λ failing. cond (list_any (λ n. n == 1) failing) (counted old.faults) old.faults) steady.no_failing
+      ∙ ap (λ failing. cond (list_any (λ n. n == 1) failing) (next_count old.faults) old.faults) steady.no_failing
       ∙ steady.no_faults
 
   -- it is as steady behind the call

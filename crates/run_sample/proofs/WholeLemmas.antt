@@ -22,7 +22,7 @@ use Rattle.run_command.specs.Found.{IsHeard, calls_of, choice_in}
 use Rattle.run_command.specs.Given.{CommandArguments}
 use Rattle.run_command.specs.Stops.{IsRefusal, IsRefusedBy, Refuses, RefusesSelection}
 use Rattle.run_command.proofs.HeardAlike.{finds_alike}
-use Rattle.run_found.specs.Found.{FoundInput}
+use Rattle.run_found.specs.Found.{PolicyAndGraph}
 use Rattle.run_found.specs.Written.{SinkSeen}
 use Rattle.graph_metadata.specs.Records.{graph_of}
 use Rattle.graph_core.specs.selection.Roots.{HasRoot}
@@ -69,7 +69,7 @@ told_step content asked path one other X Y both = (answered both.0.0 both.1.0, (
 -- ---- no refusal
 
 -- where a root is left
-selection_apart : (given : CommandArguments) (found : FoundInput) → HasRoot found.graph (choice_in given found.policy) → (error : Error) → RefusesSelection given found error → ⊥
+selection_apart : (given : CommandArguments) (found : PolicyAndGraph) → HasRoot found.graph (choice_in given found.policy) → (error : Error) → RefusesSelection given found error → ⊥
 selection_apart given found root Memory refuses = refuses
 selection_apart given found root (NotCarried what) refuses = refuses
 selection_apart given found root (ManifestPath path) refuses = refuses

@@ -6,7 +6,7 @@ use Rattle.diag_core.specs.declared.severity.LevelFilter.TheVariants.{Off}
 use Rattle.diag_print.specs.declared.context.Format.TheVariants.{Human}
 use Rattle.diag_print.specs.declared.context.Color.TheVariants.{Auto}
 use Rattle.diag_print.specs.declared.context.LogContext.{LogContext}
-use Rattle.run_request.specs.declared.check.Args.{Args as CheckArgs}
+use Rattle.run_request.specs.declared.check.CheckArgs.{CheckArgs}
 use Rattle.run_request.specs.declared.context.KrateContext.{KrateContext}
 use Rattle.run_request.specs.declared.level.WhichCheck.TheVariants.{Licenses}
 use Rattle.run_command.specs.Given.{CommandArguments}

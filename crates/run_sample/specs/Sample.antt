@@ -14,7 +14,7 @@ use Rattle.check_core.specs.declared.report.CrateReport.{CrateReport}
 use Rattle.run_check.specs.declared.report.Report.{Report}
 use Rattle.run_command.specs.Complete.{IsHeardOf}
 use Rattle.run_command.specs.Given.{CommandArguments}
-use Rattle.run_command.specs.Stops.{Asks, RequestInput}
+use Rattle.run_command.specs.Stops.{Asks, PolicyAndCrates}
 use Rattle.run_check.specs.Headline.{HasVerdictsIn}
 use Rattle.run_check.specs.Named.{ReportsCertificates, ReportsFindings, ReportsOwnReads, ReportsPolicy, ReportsUnneeded, reads_in}
 use Rattle.run_sample.specs.Files.{sample_content}
@@ -104,7 +104,7 @@ EndsSampled (Err error) = MayEndSample (cause_of error)
 -- where what is heard of the sample's files asks for a check, there is no other refusal
 abbrev pub IsSampleComplete : ℕ → CatalogLists → (List ℕ → Match) → Result Report Error → Type 0
 IsSampleComplete n lists match_of answer =
-    (hearing : RequestHearing) (asked : RequestInput) → IsHeardOf (sample_request lists match_of) (sample_content n) 0 hearing → Asks (sample_request lists match_of) hearing asked
+    (hearing : RequestHearing) (asked : PolicyAndCrates) → IsHeardOf (sample_request lists match_of) (sample_content n) 0 hearing → Asks (sample_request lists match_of) hearing asked
     → EndsSampled answer
 
 -- With the built-in catalogue there is no other refusal at all, however many crates the sample has.

@@ -47,12 +47,12 @@ pub(crate) fn sample_context(alloc: Global) -> Result<KrateContext, AllocError>
 }
 
 /// The check of licences.
-pub(crate) fn sample_args(alloc: Global) -> Result<check::Args, AllocError>
+pub(crate) fn sample_args(alloc: Global) -> Result<check::CheckArgs, AllocError>
     ensures { IfOk result (λ args. args ≡ sample_args) }
 {
     let mut which = WhichChecks::new(alloc);
     which.push(WhichCheck::Licenses)?;
-    Ok(check::Args {
+    Ok(check::CheckArgs {
         graph: None,
         hide_inclusion_graph: false,
         audit_compatible_output: false,

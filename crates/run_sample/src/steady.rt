@@ -4,7 +4,7 @@ ghost use Rattle.std.specs.Prelude.{◌≡◌, [], None, Some};
 use deny_text::Bytes;
 use std::alloc::Global;
 use std::marker::Model;
-use tree_core::{Entries, MemTree, Sink, SinkFailed, Tree, TreeError};
+use tree_core::{FolderEntries, MemTree, Sink, SinkFailed, Tree, TreeError};
 
 /// A tree in memory of which no call fails, since none is named to.
 #[derive(Drop)]
@@ -48,7 +48,7 @@ impl Tree for SteadyTree {
         self.tree.read(alloc, path)
     }
 
-    fn list(&mut self, alloc: Global, path: &str) -> Result<Entries, TreeError> {
+    fn list(&mut self, alloc: Global, path: &str) -> Result<FolderEntries, TreeError> {
         self.tree.list(alloc, path)
     }
 

@@ -15,7 +15,7 @@ use Rattle.spdx_core.specs.declared.node.ExprNode.TheVariants.{Or as or_node}
 use Rattle.spdx_core.specs.Grammar.{ExpressionTree, Rule, ReadsAs, Spells, AllowedForms, simple, simple_with, grouped, one_part, and, one_conjunction, or}
 use Rattle.spdx_core.specs.Reading.{postfix, tree_of, nothing_read, after_items}
 use Rattle.spdx_core.specs.ExpressionCode.{tree_of_postfix}
-use Rattle.spdx_core.specs.Machine.{Machine, no_machine, run, written}
+use Rattle.spdx_core.specs.Machine.{Machine, no_machine, run, nodes_with}
 use Rattle.spdx_core.specs.Expressions.{IsExpression, AreNodesKept, IsExpressionRead}
 use Rattle.spdx_core.proofs.HasTree.{has_tree}
 use Rattle.spdx_core.proofs.ReadingLemmas.{ReadWhole, complete}
@@ -44,7 +44,7 @@ pub record Made (mode : ParseMode) (lists : CatalogLists) (text : List ℕ) (nod
   pub fine : first_fault mode lists text ≡ None
 
 made_by : (mode : ParseMode) (lists : CatalogLists) (text : List ℕ) (m : Machine) (tree : ExpressionTree) (terms : List ExpressionReq) → first_fault mode lists text ≡ None → m ≡ run no_machine (items_of mode lists text)
-    → Spells mode lists text tree terms → Made mode lists text (written m.level.or or_node m.nodes) m.terms
+    → Spells mode lists text tree terms → Made mode lists text (nodes_with m.level.or or_node m.nodes) m.terms
 made_by mode lists text m tree terms none ran spells =
     let items = items_of mode lists text in
     let whole : ReadWhole [] [] items [] tree terms = complete spells [] None None [] [] refl in
@@ -56,12 +56,12 @@ made_by mode lists text m tree terms none ran spells =
     record {
       tree = tree;
       spells = subst (λ all. Spells mode lists text tree all) (sym same_terms) spells;
-      postfix_is = ap (λ (k : Machine). written k.level.or or_node k.nodes) machine ∙ sum_nodes [] whole.sum whole.last ∙ ap postfix whole.whole;
+      postfix_is = ap (λ (k : Machine). nodes_with k.level.or or_node k.nodes) machine ∙ sum_nodes [] whole.sum whole.last ∙ ap postfix whole.whole;
       fine = none;
     }
 
 made : (mode : ParseMode) (lists : CatalogLists) (text : List ℕ) (m : Machine) → first_fault mode lists text ≡ None → m ≡ run no_machine (items_of mode lists text)
-    → Made mode lists text (written m.level.or or_node m.nodes) m.terms
+    → Made mode lists text (nodes_with m.level.or or_node m.nodes) m.terms
 made mode lists text m none ran =
     let tree = has_tree mode lists text none in
     made_by mode lists text m tree.0 tree.1 none ran tree.2
@@ -83,7 +83,7 @@ read_is mode lists text own nodes terms same m =
 
 -- what the reader leaves once it is finished
 pub finished : (mode : ParseMode) (lists : CatalogLists) (text : List ℕ) (m : Machine) (nodes : List ExprNode) (terms : List ExpressionReq) → first_fault mode lists text ≡ None → m ≡ run no_machine (items_of mode lists text)
-    → nodes ≡ written m.level.or or_node m.nodes → terms ≡ m.terms → Made mode lists text nodes terms
+    → nodes ≡ nodes_with m.level.or or_node m.nodes → terms ≡ m.terms → Made mode lists text nodes terms
 finished mode lists text m nodes terms fine ran is_nodes is_terms =
-    let done : Made mode lists text (written m.level.or or_node m.nodes) m.terms = made mode lists text m fine ran in
-    subst (λ all. Made mode lists text all terms) (sym is_nodes) (subst (λ all. Made mode lists text (written m.level.or or_node m.nodes) all) (sym is_terms) done)
+    let done : Made mode lists text (nodes_with m.level.or or_node m.nodes) m.terms = made mode lists text m fine ran in
+    subst (λ all. Made mode lists text all terms) (sym is_nodes) (subst (λ all. Made mode lists text (nodes_with m.level.or or_node m.nodes) all) (sym is_terms) done)

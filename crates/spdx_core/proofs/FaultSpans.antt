@@ -21,7 +21,7 @@ use Rattle.spdx_terms.specs.declared.item.Item.{Item}
 use Rattle.spdx_terms.specs.declared.item.Simple.{Simple}
 use Rattle.spdx_terms.specs.Spans.{Rise}
 use Rattle.spdx_terms.specs.Items.{item_at, term_of, plus_behind, items_of, wanted_after}
-use Rattle.spdx_terms.specs.Faults.{unless, fault_over, takes_term, takes_exception, takes_operator, takes_with, word_reason, mark_fault, first_of, item_fault, opened_after, has_open, last_open, end_fault, fault_from, fault_of, first_fault, is_alone, lone_fault, licensee_mode, licensee_fault, licensee_fault_from, licensee_fault_of}
+use Rattle.spdx_terms.specs.Faults.{fault_unless, fault_over, takes_term, takes_exception, takes_operator, takes_with, word_reason, mark_fault, first_of, item_fault, opened_after, has_open, last_open, end_fault, fault_from, fault_of, first_fault, is_alone, lone_fault, licensee_mode, licensee_fault, licensee_fault_from, licensee_fault_of}
 use Rattle.spdx_terms.proofs.ItemSpans.{items_rise}
 use Rattle.spdx_core.proofs.ItemKinds.{is_other, Kinds, Each, each_item}
 
@@ -76,7 +76,7 @@ named_other Other place text len is = tt
 named_kinds : (lists : CatalogLists) → Kinds lists NamedItem
 unfolding Named
 named_kinds lists = record {
-  licence = λ name entry place text len is. named_term (plus_behind text len) _ entry.later entry.deprecated entry.gnu place len text (λ h. plus_at text len h);
+  license = λ name entry place text len is. named_term (plus_behind text len) _ entry.later entry.deprecated entry.gnu place len text (λ h. plus_at text len h);
   reference = λ item place text len is. named_term false item false false false place len text (λ h. absurd (false≢true h));
   exception = λ name place text len is. tt;
   other = λ what place text len is. named_other what place text len is;
@@ -143,7 +143,7 @@ Told : List ℕ → Option ParseError → Type 0
 Told text None = Unit {0}
 Told text (Some fault) = LiesBetween text fault.span
 
-told_unless : (text : List ℕ) (fine : Bool) (reason : ParseReason) (span : Span) → LiesBetween text span → Told text (unless fine reason span)
+told_unless : (text : List ℕ) (fine : Bool) (reason : ParseReason) (span : Span) → LiesBetween text span → Told text (fault_unless fine reason span)
 unfolding Told
 told_unless text true reason span lies = tt
 told_unless text false reason span lies = lies
@@ -179,7 +179,7 @@ told_marks text mode named span lies name =
 
 told_at : (text : List ℕ) (mode : ParseMode) (wanted : WantedItem) (opened : Bool) (what : ItemKind) (span : Span) → LiesBetween text span → Lies text what span → Told text (item_fault mode wanted opened what span)
 unfolding Lies
-told_at text mode wanted opened (Term named) span lies name = told_first text (unless (takes_term wanted) Unexpected span) (mark_fault mode named span) (told_unless text (takes_term wanted) Unexpected span lies) (told_marks text mode named span lies name)
+told_at text mode wanted opened (Term named) span lies name = told_first text (fault_unless (takes_term wanted) Unexpected span) (mark_fault mode named span) (told_unless text (takes_term wanted) Unexpected span lies) (told_marks text mode named span lies name)
 told_at text mode wanted opened (Exception name) span lies there = told_unless text (takes_exception wanted) Unexpected span lies
 told_at text mode wanted opened And span lies there = told_unless text (takes_operator wanted) Unexpected span lies
 told_at text mode wanted opened Or span lies there = told_unless text (takes_operator wanted) Unexpected span lies
@@ -244,7 +244,7 @@ told_of text mode (it ∷ items) utf8 rise names = told_from text mode wants_ter
 -- the same of licensees
 told_lone : (text : List ℕ) (mode : ParseMode) (wanted : WantedItem) (what : ItemKind) (span : Span) → LiesBetween text span → Lies text what span → Told text (lone_fault mode wanted what span)
 told_lone text mode wanted what span lies name =
-    told_first text (unless (is_alone what) Unexpected span) (item_fault mode wanted false what span) (told_unless text (is_alone what) Unexpected span lies) (told_at text mode wanted false what span lies name)
+    told_first text (fault_unless (is_alone what) Unexpected span) (item_fault mode wanted false what span) (told_unless text (is_alone what) Unexpected span lies) (told_at text mode wanted false what span lies name)
 
 told_alone : (text : List ℕ) (mode : ParseMode) (wanted : WantedItem) (place : ℕ) (items : List Item) → Rise text place (map (λ item. item.span) items) (length text) → NamesLie text items → Told text (licensee_fault_from mode (length text) wanted items)
 unfolding AllIn

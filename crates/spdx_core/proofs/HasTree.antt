@@ -14,7 +14,7 @@ use Rattle.spdx_terms.specs.declared.item.ItemKind.TheVariants.{Term, Exception,
 use Rattle.spdx_terms.specs.declared.item.Item.{Item}
 use Rattle.spdx_terms.specs.declared.item.Simple.{Simple}
 use Rattle.spdx_terms.specs.Items.{items_of}
-use Rattle.spdx_terms.specs.Faults.{fault_from, fault_of, first_fault, first_of, mark_fault, end_fault, last_open, unless, fault_over, takes_operator, has_open}
+use Rattle.spdx_terms.specs.Faults.{fault_from, fault_of, first_fault, first_of, mark_fault, end_fault, last_open, fault_unless, fault_over, takes_operator, has_open}
 use Rattle.spdx_terms.proofs.FaultLemmas.{no, first_of-left, first_of-right, marks_taken}
 use Rattle.spdx_core.specs.Grammar.{ExpressionTree, leaf, both, either, Rule, expression, conjunction, part, ReadsAs, Spells, AllowedForms, allowed_in, takes, simple, simple_with, grouped, one_part, and, one_conjunction, or, item}
 
@@ -165,7 +165,7 @@ nothing : {allowed : AllowedForms} → Pending allowed
 nothing = record { sum = None; product = None }
 
 no_close : {X : Type 0} (opened : List Span) (wanted : WantedItem) (span : Span) (x : Option ParseError) → takes_operator wanted ≡ false
-    → first_of (cond (has_open opened) (unless (takes_operator wanted) Unexpected span) (fault_over UnopenedParens span)) x ≡ None → X
+    → first_of (cond (has_open opened) (fault_unless (takes_operator wanted) Unexpected span) (fault_over UnopenedParens span)) x ≡ None → X
 no_close [] wanted span x e h = no h
 no_close (o ∷ os) wants_term span x e h = no h
 no_close (o ∷ os) wants_exception span x e h = no h

@@ -14,7 +14,7 @@ use Rattle.spdx_terms.specs.declared.item.ItemKind.{ItemKind}
 use Rattle.spdx_terms.specs.declared.item.ItemKind.TheVariants.{Term, Exception, And, Or, With, Open, Close, Plus, Word, Other}
 use Rattle.spdx_terms.specs.declared.item.Item.{Item}
 use Rattle.spdx_terms.specs.Tokens.{is_white, says_and, says_or, says_with, one_of, token_of, rest_len, reference_of}
-use Rattle.spdx_terms.specs.Items.{item_at, term_of, licence_of, licence_at, reference_at, plus_behind, has_reading, longest, imprecise_at, imprecise_if, plain_item, word_item, token_item, first_item, operator_of, items_from, item_here, with_item, wanted_behind, used_behind, wanted_after}
+use Rattle.spdx_terms.specs.Items.{item_at, term_of, license_of, license_at, reference_at, plus_behind, has_reading, longest_match, imprecise_at, imprecise_if, plain_item, word_item, token_item, first_item, operator_of, items_from, item_here, with_item, wanted_behind, used_behind, wanted_after}
 
 -- an operator, a mark, a word or a character
 abbrev pub is_other : ItemKind → Bool
@@ -31,7 +31,7 @@ is_other Other = true
 
 -- this holds of the item at a place, by the text from there on
 pub record Kinds (lists : CatalogLists) (Holds : ℕ → List ℕ → Item → Type 0) : Type 0 where
-  pub licence : (name : List ℕ) (entry : LicenseEntry) (place : ℕ) (text : List ℕ) (len : ℕ) → entry_of lists.licences name ≡ Some entry → Holds place text (licence_of name entry (plus_behind text len) place len)
+  pub license : (name : List ℕ) (entry : LicenseEntry) (place : ℕ) (text : List ℕ) (len : ℕ) → entry_of lists.licenses name ≡ Some entry → Holds place text (license_of name entry (plus_behind text len) place len)
   pub reference : (item : LicenseItem) (place : ℕ) (text : List ℕ) (len : ℕ) → reference_of (take len text) ≡ Some item
       → Holds place text (term_of item (record { later = false; deprecated = false; gnu = false; plus = false }) place len)
   pub exception : (name : List ℕ) (place : ℕ) (text : List ℕ) (len : ℕ) → one_of lists.exceptions name ≡ true → Holds place text (item_at (Exception name) place len)
@@ -41,10 +41,10 @@ abbrev HoldsIf : (ℕ → List ℕ → Item → Type 0) → ℕ → List ℕ →
 HoldsIf Holds place text None = Unit {0}
 HoldsIf Holds place text (Some it) = Holds place text it
 
-of_licence : {lists : CatalogLists} {Holds : ℕ → List ℕ → Item → Type 0} → Kinds lists Holds → (name : List ℕ) (place : ℕ) (text : List ℕ) (len : ℕ) (found : Option LicenseEntry) → entry_of lists.licences name ≡ found
-    → HoldsIf Holds place text (option_map (λ entry. licence_of name entry (plus_behind text len) place len) found)
-of_licence kinds name place text len None is = tt
-of_licence kinds name place text len (Some entry) is = kinds.licence name entry place text len is
+of_license : {lists : CatalogLists} {Holds : ℕ → List ℕ → Item → Type 0} → Kinds lists Holds → (name : List ℕ) (place : ℕ) (text : List ℕ) (len : ℕ) (found : Option LicenseEntry) → entry_of lists.licenses name ≡ found
+    → HoldsIf Holds place text (option_map (λ entry. license_of name entry (plus_behind text len) place len) found)
+of_license kinds name place text len None is = tt
+of_license kinds name place text len (Some entry) is = kinds.license name entry place text len is
 
 of_reference : {lists : CatalogLists} {Holds : ℕ → List ℕ → Item → Type 0} → Kinds lists Holds → (place : ℕ) (text : List ℕ) (len : ℕ) (found : Option LicenseItem) → reference_of (take len text) ≡ found
     → HoldsIf Holds place text (option_map (λ item. term_of item (record { later = false; deprecated = false; gnu = false; plus = false }) place len) found)
@@ -68,8 +68,8 @@ of_tests kinds false false false place text len = kinds.other Word place text le
 of_word : {lists : CatalogLists} {Holds : ℕ → List ℕ → Item → Type 0} → Kinds lists Holds → (word : List ℕ) (place : ℕ) (text : List ℕ) (len : ℕ) → Holds place text (item_at (operator_of word) place len)
 of_word kinds word place text len = of_tests kinds (says_and word) (says_or word) (says_with word) place text len
 
-of_meant : {lists : CatalogLists} {Holds : ℕ → List ℕ → Item → Type 0} → Kinds lists Holds → (taken : Bool) (place : ℕ) (text : List ℕ) (found : ℕ × List ℕ) → HoldsIf Holds place text (cond taken (licence_at lists found.1 place text found.0) None)
-of_meant {lists} kinds true place text found = of_licence kinds found.1 place text found.0 (entry_of lists.licences found.1) refl
+of_meant : {lists : CatalogLists} {Holds : ℕ → List ℕ → Item → Type 0} → Kinds lists Holds → (taken : Bool) (place : ℕ) (text : List ℕ) (found : ℕ × List ℕ) → HoldsIf Holds place text (cond taken (license_at lists found.1 place text found.0) None)
+of_meant {lists} kinds true place text found = of_license kinds found.1 place text found.0 (entry_of lists.licenses found.1) refl
 of_meant kinds false place text found = tt
 
 of_imprecise : {lists : CatalogLists} {Holds : ℕ → List ℕ → Item → Type 0} → Kinds lists Holds → (place : ℕ) (text : List ℕ) (len : ℕ) (found : Option (ℕ × List ℕ)) → HoldsIf Holds place text (imprecise_at lists place text len found)
@@ -77,15 +77,15 @@ of_imprecise kinds place text len None = tt
 of_imprecise {lists} kinds place text len (Some found) = of_meant kinds (nat_lt len found.0 || not (has_reading lists (take len text))) place text found
 
 of_imprecise_if : {lists : CatalogLists} {Holds : ℕ → List ℕ → Item → Type 0} → Kinds lists Holds → (on : Bool) (place : ℕ) (text : List ℕ) (len : ℕ) → HoldsIf Holds place text (imprecise_if on lists place text len)
-of_imprecise_if {lists} kinds true place text len = of_imprecise kinds place text len (longest lists.imprecise text)
+of_imprecise_if {lists} kinds true place text len = of_imprecise kinds place text len (longest_match lists.imprecise text)
 of_imprecise_if kinds false place text len = tt
 
 of_plain : {lists : CatalogLists} {Holds : ℕ → List ℕ → Item → Type 0} → Kinds lists Holds → (place : ℕ) (text : List ℕ) (len : ℕ) → Holds place text (plain_item lists place text len)
 of_plain {lists} {Holds} kinds place text len =
-    or_else_of Holds place text (option_or (reference_at (take len text) place len) (licence_at lists (take len text) place text len)) (item_at (operator_of (take len text)) place len)
-    (either_of Holds place text (reference_at (take len text) place len) (licence_at lists (take len text) place text len)
+    or_else_of Holds place text (option_or (reference_at (take len text) place len) (license_at lists (take len text) place text len)) (item_at (operator_of (take len text)) place len)
+    (either_of Holds place text (reference_at (take len text) place len) (license_at lists (take len text) place text len)
     (of_reference kinds place text len (reference_of (take len text)) refl)
-    (of_licence kinds (take len text) place text len (entry_of lists.licences (take len text)) refl))
+    (of_license kinds (take len text) place text len (entry_of lists.licenses (take len text)) refl))
     (of_word kinds (take len text) place text len)
 
 of_exception : {lists : CatalogLists} {Holds : ℕ → List ℕ → Item → Type 0} → Kinds lists Holds → (known : Bool) (word : List ℕ) (place : ℕ) (text : List ℕ) (len : ℕ) → one_of lists.exceptions word ≡ known

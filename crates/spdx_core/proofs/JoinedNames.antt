@@ -42,7 +42,7 @@ unmarked true = refl
 unmarked false = refl
 
 -- a name that others may follow
-one_name : (lists : CatalogLists) (place : ℕ) (name : List ℕ) (names : List (List ℕ)) (entry : LicenseEntry) → IsCatalog lists → entry_of lists.licences name ≡ Some entry
+one_name : (lists : CatalogLists) (place : ℕ) (name : List ℕ) (names : List (List ℕ)) (entry : LicenseEntry) → IsCatalog lists → entry_of lists.licenses name ≡ Some entry
     → items_from named_mode lists wants_term place place (name ++ next_names names)
     ≡ item (Term (named_at name entry place)) place (place + length name) ∷ items_from named_mode lists AfterTerm (place + length name) (place + length name) (next_names names)
 unfolding named_at

@@ -11,14 +11,14 @@ use Rattle.spdx_terms.specs.declared.item.ItemKind.TheVariants.{Term, Exception,
 use Rattle.spdx_terms.specs.declared.item.Item.{Item}
 use Rattle.spdx_terms.specs.declared.term.ExpressionReq.{ExpressionReq}
 use Rattle.spdx_terms.specs.Items.{wanted_after}
-use Rattle.spdx_terms.specs.Faults.{fault_from, item_fault, unless, fault_over, takes_operator, takes_with, takes_exception, has_open, opened_after}
+use Rattle.spdx_terms.specs.Faults.{fault_from, item_fault, fault_unless, fault_over, takes_operator, takes_with, takes_exception, has_open, opened_after}
 use Rattle.spdx_terms.proofs.FaultLemmas.{no, first_of-left, first_of-right}
 use Rattle.spdx_core.specs.declared.node.ExprNode.{ExprNode}
 use Rattle.spdx_core.specs.declared.node.ExprNode.TheVariants.{And as and_node, Or as or_node}
 use Rattle.spdx_core.specs.declared.reader.OpenOperators.{OpenOperators}
 use Rattle.spdx_core.specs.Grammar.{ExpressionTree, leaf, term}
-use Rattle.spdx_core.specs.Reading.{postfix, closed, joined, summed, ParenthesisLevel, ReaderState, after_item, after_items}
-use Rattle.spdx_core.specs.Machine.{Machine, written, advanced, run}
+use Rattle.spdx_core.specs.Reading.{postfix, state_after_close, product_with, sum_with, ParenthesisLevel, ReaderState, after_item, after_items}
+use Rattle.spdx_core.specs.Machine.{Machine, nodes_with, machine_after, run}
 
 abbrev nodes_if : Option ExpressionTree → List ExprNode
 nodes_if None = []
@@ -43,7 +43,7 @@ shown read = machine (map waits_of read.outer) (waits_of read.level) (outer_node
 
 -- a part behind a conjunction
 part_nodes : (before : List ExprNode) (sum product : Option ExpressionTree) (tree : ExpressionTree)
-    → written (is_some product) and_node ((before ++ (nodes_if sum ++ nodes_if product)) ++ postfix tree) ≡ before ++ (nodes_if sum ++ postfix (joined product tree))
+    → nodes_with (is_some product) and_node ((before ++ (nodes_if sum ++ nodes_if product)) ++ postfix tree) ≡ before ++ (nodes_if sum ++ postfix (product_with product tree))
 part_nodes before sum None tree =
     ap (λ all. (before ++ all) ++ postfix tree) (append-nil (nodes_if sum)) ∙ append_assoc before (nodes_if sum) (postfix tree)
 part_nodes before sum (Some left) tree =
@@ -52,7 +52,7 @@ part_nodes before sum (Some left) tree =
     ∙ ap (λ all. before ++ all) (append_assoc (nodes_if sum) (postfix left) (postfix tree ++ and_node ∷ []) ∙ ap (λ all. nodes_if sum ++ all) (sym (append_assoc (postfix left) (postfix tree) (and_node ∷ []))))
 
 -- an `OR` ends a conjunction
-pub sum_nodes : (before : List ExprNode) (sum : Option ExpressionTree) (tree : ExpressionTree) → written (is_some sum) or_node (before ++ (nodes_if sum ++ postfix tree)) ≡ before ++ postfix (summed sum tree)
+pub sum_nodes : (before : List ExprNode) (sum : Option ExpressionTree) (tree : ExpressionTree) → nodes_with (is_some sum) or_node (before ++ (nodes_if sum ++ postfix tree)) ≡ before ++ postfix (sum_with sum tree)
 sum_nodes before None tree = refl
 sum_nodes before (Some left) tree = append_assoc before (postfix left ++ postfix tree) (or_node ∷ [])
 
@@ -69,23 +69,23 @@ needs_part Word = false
 needs_part Other = false
 
 or_step : (outer : List ParenthesisLevel) (sum product : Option ExpressionTree) (terms : List ExpressionReq) (span : Span) → is_some product ≡ true
-    → advanced (shown (record { outer = outer; level = record { sum = sum; product = product }; terms = terms })) Or span ≡ shown (after_item (record { outer = outer; level = record { sum = sum; product = product }; terms = terms }) Or span)
+    → machine_after (shown (record { outer = outer; level = record { sum = sum; product = product }; terms = terms })) Or span ≡ shown (after_item (record { outer = outer; level = record { sum = sum; product = product }; terms = terms }) Or span)
 or_step outer sum None terms span h = absurd (false≢true h)
 or_step outer sum (Some tree) terms span h =
     ap (λ nodes. machine (map waits_of outer) (record { or = true; and = false }) nodes terms)
-    (sum_nodes (outer_nodes outer) sum tree ∙ ap (λ all. outer_nodes outer ++ all) (sym (append-nil (postfix (summed sum tree)))))
+    (sum_nodes (outer_nodes outer) sum tree ∙ ap (λ all. outer_nodes outer ++ all) (sym (append-nil (postfix (sum_with sum tree)))))
 
 close_step : (outer : List ParenthesisLevel) (sum product : Option ExpressionTree) (terms : List ExpressionReq) (span : Span) → is_some product ≡ true
-    → advanced (shown (record { outer = outer; level = record { sum = sum; product = product }; terms = terms })) Close span ≡ shown (after_item (record { outer = outer; level = record { sum = sum; product = product }; terms = terms }) Close span)
+    → machine_after (shown (record { outer = outer; level = record { sum = sum; product = product }; terms = terms })) Close span ≡ shown (after_item (record { outer = outer; level = record { sum = sum; product = product }; terms = terms }) Close span)
 close_step outer sum None terms span h = absurd (false≢true h)
 close_step [] sum (Some tree) terms span h = refl
 close_step (last ∷ outer) sum (Some tree) terms span h =
     ap (λ nodes. machine (map waits_of outer) (record { or = is_some last.sum; and = true }) nodes terms)
-    (ap (written (is_some last.product) and_node) (sum_nodes (outer_nodes outer ++ level_nodes last) sum tree)
-    ∙ part_nodes (outer_nodes outer) last.sum last.product (summed sum tree))
+    (ap (nodes_with (is_some last.product) and_node) (sum_nodes (outer_nodes outer ++ level_nodes last) sum tree)
+    ∙ part_nodes (outer_nodes outer) last.sum last.product (sum_with sum tree))
 
 -- a step of the reader is one of the plain reader
-step_same : (read : ReaderState) (what : ItemKind) (span : Span) → (needs_part what ≡ true → is_some read.level.product ≡ true) → advanced (shown read) what span ≡ shown (after_item read what span)
+step_same : (read : ReaderState) (what : ItemKind) (span : Span) → (needs_part what ≡ true → is_some read.level.product ≡ true) → machine_after (shown read) what span ≡ shown (after_item read what span)
 step_same read (Term named) span h =
     ap (λ nodes. machine (map waits_of read.outer) (record { or = is_some read.level.sum; and = true }) nodes (read.terms ++ term named.item None span.start span.end ∷ [])) (part_nodes (outer_nodes read.outer) read.level.sum read.level.product (leaf (length read.terms)))
 step_same read (Exception name) span h = refl
@@ -106,13 +106,13 @@ HasPart wants_exception read = is_some read.level.product ≡ true
 HasPart AfterTerm read = is_some read.level.product ≡ true
 HasPart AfterPart read = is_some read.level.product ≡ true
 
-operator_part : (wanted : WantedItem) (read : ReaderState) (span : Span) → unless (takes_operator wanted) Unexpected span ≡ None → HasPart wanted read → is_some read.level.product ≡ true
+operator_part : (wanted : WantedItem) (read : ReaderState) (span : Span) → fault_unless (takes_operator wanted) Unexpected span ≡ None → HasPart wanted read → is_some read.level.product ≡ true
 operator_part wants_term read span h has = no h
 operator_part wants_exception read span h has = no h
 operator_part AfterTerm read span h has = has
 operator_part AfterPart read span h has = has
 
-close_part : (wanted : WantedItem) (opened : List Span) (read : ReaderState) (span : Span) → cond (has_open opened) (unless (takes_operator wanted) Unexpected span) (fault_over UnopenedParens span) ≡ None → HasPart wanted read → is_some read.level.product ≡ true
+close_part : (wanted : WantedItem) (opened : List Span) (read : ReaderState) (span : Span) → cond (has_open opened) (fault_unless (takes_operator wanted) Unexpected span) (fault_over UnopenedParens span) ≡ None → HasPart wanted read → is_some read.level.product ≡ true
 close_part wanted [] read span h has = no h
 close_part wanted (o ∷ opened) read span h has = operator_part wanted read span h has
 
@@ -129,21 +129,21 @@ finds_part mode wanted opened read Plus span h has needs = absurd (false≢true 
 finds_part mode wanted opened read Word span h has needs = absurd (false≢true needs)
 finds_part mode wanted opened read Other span h has needs = absurd (false≢true needs)
 
-joined_some : (product : Option ExpressionTree) (tree : ExpressionTree) → is_some (Some (joined product tree)) ≡ true
+joined_some : (product : Option ExpressionTree) (tree : ExpressionTree) → is_some (Some (product_with product tree)) ≡ true
 joined_some product tree = refl
 
-closed_part : (outer : List ParenthesisLevel) (sum product : Option ExpressionTree) (terms : List ExpressionReq) → is_some product ≡ true → is_some (closed outer (record { sum = sum; product = product }) terms).level.product ≡ true
+closed_part : (outer : List ParenthesisLevel) (sum product : Option ExpressionTree) (terms : List ExpressionReq) → is_some product ≡ true → is_some (state_after_close outer (record { sum = sum; product = product }) terms).level.product ≡ true
 closed_part outer sum None terms h = absurd (false≢true h)
 closed_part [] sum (Some tree) terms h = refl
 closed_part (last ∷ outer) sum (Some tree) terms h = refl
 
-with_part_there : (mode : ParseMode) (wanted : WantedItem) (read : ReaderState) (span : Span) → unless (takes_with wanted) Unexpected span ≡ None → HasPart wanted read → is_some read.level.product ≡ true
+with_part_there : (mode : ParseMode) (wanted : WantedItem) (read : ReaderState) (span : Span) → fault_unless (takes_with wanted) Unexpected span ≡ None → HasPart wanted read → is_some read.level.product ≡ true
 with_part_there mode wants_term read span h has = no h
 with_part_there mode wants_exception read span h has = no h
 with_part_there mode AfterTerm read span h has = has
 with_part_there mode AfterPart read span h has = no h
 
-exception_there : (wanted : WantedItem) (read : ReaderState) (span : Span) → unless (takes_exception wanted) Unexpected span ≡ None → HasPart wanted read → is_some read.level.product ≡ true
+exception_there : (wanted : WantedItem) (read : ReaderState) (span : Span) → fault_unless (takes_exception wanted) Unexpected span ≡ None → HasPart wanted read → is_some read.level.product ≡ true
 exception_there wants_term read span h has = no h
 exception_there wants_exception read span h has = has
 exception_there AfterTerm read span h has = no h

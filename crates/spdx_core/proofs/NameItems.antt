@@ -17,8 +17,8 @@ use Rattle.spdx_terms.specs.declared.item.WantedItem.{WantedItem}
 use Rattle.spdx_terms.specs.declared.item.WantedItem.TheVariants.{Term as wants_term, AfterTerm}
 use Rattle.spdx_terms.specs.declared.item.Item.{Item}
 use Rattle.spdx_terms.specs.declared.term.LicenseItem.{LicenseItem}
-use Rattle.spdx_terms.specs.Tokens.{in_word, is_white, token_of, rest_len, after_prefix, own_licence, in_document, or_else, reference_of}
-use Rattle.spdx_terms.specs.Items.{item_at, term_of, licence_of, licence_at, plus_behind, imprecise_if, plain_item, word_item, token_item, first_item, operator_of, items_of, items_from, item_here, with_item, wanted_behind, used_behind, wanted_after}
+use Rattle.spdx_terms.specs.Tokens.{in_word, is_white, token_of, rest_len, after_prefix, own_license, in_document, or_else, reference_of}
+use Rattle.spdx_terms.specs.Items.{item_at, term_of, license_of, license_at, plus_behind, imprecise_if, plain_item, word_item, token_item, first_item, operator_of, items_of, items_from, item_here, with_item, wanted_behind, used_behind, wanted_after}
 use Rattle.spdx_terms.proofs.ImpreciseLemmas.{both_true, and_true}
 use Rattle.spdx_terms.proofs.ItemLemmas.{items_at, passed}
 
@@ -106,7 +106,7 @@ no_reference word h =
     let parts = both_false (starts_with nat_eq word (codes "LicenseRef-")) (starts_with nat_eq word (codes "DocumentRef-")) h in
     let own : after_prefix (codes "LicenseRef-") word ≡ None = ap (λ t. cond t (Some (drop 11 word)) None) parts.0 in
     let document : after_prefix (codes "DocumentRef-") word ≡ None = ap (λ t. cond t (Some (drop 12 word)) None) parts.1 in
-    ap (λ found. or_else (own_licence None found) (in_document (after_prefix (codes "DocumentRef-") word))) own ∙ ap in_document document
+    ap (λ found. or_else (own_license None found) (in_document (after_prefix (codes "DocumentRef-") word))) own ∙ ap in_document document
 
 -- what the catalogue says stands beside a name
 pub record IsNamed (name : List ℕ) : Type 0 where
@@ -120,7 +120,7 @@ name_parts name h =
     let second = both_true (is_word name) (not (is_operator name)) first.0 in
     record { run = word_is_run name second.0; no_operator = not_true (is_operator name) second.1; no_reference = not_true (is_reference name) first.1 }
 
-listed_name : (licences : List (List ℕ × LicenseEntry)) (name : List ℕ) (entry : LicenseEntry) → list_all is_name (names_of licences) ≡ true → entry_of licences name ≡ Some entry → is_name name ≡ true
+listed_name : (licenses : List (List ℕ × LicenseEntry)) (name : List ℕ) (entry : LicenseEntry) → list_all is_name (names_of licenses) ≡ true → entry_of licenses name ≡ Some entry → is_name name ≡ true
 listed_name [] name entry all h = cc
 listed_name (one ∷ rest) name entry all h =
     let parts = both_true (is_name one.0) (list_all is_name (names_of rest)) all in
@@ -130,24 +130,24 @@ listed_name (one ∷ rest) name entry all h =
     ]
     refl h
 
-pub entry_named : (lists : CatalogLists) (name : List ℕ) (entry : LicenseEntry) → IsCatalog lists → entry_of lists.licences name ≡ Some entry → IsNamed name
-entry_named lists name entry laws h = name_parts name (listed_name lists.licences name entry laws.licence_names h)
+pub entry_named : (lists : CatalogLists) (name : List ℕ) (entry : LicenseEntry) → IsCatalog lists → entry_of lists.licenses name ≡ Some entry → IsNamed name
+entry_named lists name entry laws h = name_parts name (listed_name lists.licenses name entry laws.license_names h)
 
 -- a reference as an item
 referred : ℕ → ℕ → LicenseItem → Item
 referred place len item = term_of item (record { later = false; deprecated = false; gnu = false; plus = false }) place len
 
 -- a name is its licence, with the `+` directly behind it
-pub named_item : (mode : ParseMode) (lists : CatalogLists) (place : ℕ) (name rest : List ℕ) (entry : LicenseEntry) → mode.allow_imprecise_license_names ≡ false → is_reference name ≡ false → entry_of lists.licences name ≡ Some entry
-    → word_item mode lists wants_term place (name ++ rest) (length name) ≡ licence_of name entry (plus_behind (name ++ rest) (length name)) place (length name)
+pub named_item : (mode : ParseMode) (lists : CatalogLists) (place : ℕ) (name rest : List ℕ) (entry : LicenseEntry) → mode.allow_imprecise_license_names ≡ false → is_reference name ≡ false → entry_of lists.licenses name ≡ Some entry
+    → word_item mode lists wants_term place (name ++ rest) (length name) ≡ license_of name entry (plus_behind (name ++ rest) (length name)) place (length name)
 unfolding referred
 named_item mode lists place name rest entry off own known =
     let text : List ℕ = name ++ rest in
     let len : ℕ = length name in
-    let plain : plain_item lists place (name ++ rest) (length name) ≡ licence_of name entry (plus_behind text len) place len =
-    ap (λ (word : List ℕ). unwrap_or (option_or (option_map (referred place len) (reference_of word)) (licence_at lists word place text len)) (item_at (operator_of word) place len)) (take-append_seam name rest)
-    ∙ ap (λ found. unwrap_or (option_or (option_map (referred place len) found) (licence_at lists name place text len)) (item_at (operator_of name) place len)) (no_reference name own)
-    ∙ ap (λ found. unwrap_or (option_map (λ entry. licence_of name entry (plus_behind text len) place len) found) (item_at (operator_of name) place len)) known in
+    let plain : plain_item lists place (name ++ rest) (length name) ≡ license_of name entry (plus_behind text len) place len =
+    ap (λ (word : List ℕ). unwrap_or (option_or (option_map (referred place len) (reference_of word)) (license_at lists word place text len)) (item_at (operator_of word) place len)) (take-append_seam name rest)
+    ∙ ap (λ found. unwrap_or (option_or (option_map (referred place len) found) (license_at lists name place text len)) (item_at (operator_of name) place len)) (no_reference name own)
+    ∙ ap (λ found. unwrap_or (option_map (λ entry. license_of name entry (plus_behind text len) place len) found) (item_at (operator_of name) place len)) known in
     ap (λ t. unwrap_or (imprecise_if t lists place text len) (plain_item lists place text len)) off ∙ plain
 
 -- what stands behind a name
@@ -160,21 +160,21 @@ some_bytes [] h = absurd (false≢true h)
 some_bytes (b ∷ rest) h = omega arith
 
 -- a name and its item, with the `+` directly behind it
-pub name_step : (mode : ParseMode) (lists : CatalogLists) (place : ℕ) (name rest : List ℕ) (entry : LicenseEntry) (plus : Bool) → IsCatalog lists → mode.allow_imprecise_license_names ≡ false → entry_of lists.licences name ≡ Some entry
-    → ends_word rest ≡ true → plus_behind rest 0 ≡ plus → (len : ℕ) → (licence_of name entry plus place (length name)).span.end ≡ place + len → length name ≤ len → len ≤ length (name ++ rest)
-    → items_from mode lists wants_term place place (name ++ rest) ≡ licence_of name entry plus place (length name) ∷ items_from mode lists AfterTerm (place + len) (place + len) (drop len (name ++ rest))
+pub name_step : (mode : ParseMode) (lists : CatalogLists) (place : ℕ) (name rest : List ℕ) (entry : LicenseEntry) (plus : Bool) → IsCatalog lists → mode.allow_imprecise_license_names ≡ false → entry_of lists.licenses name ≡ Some entry
+    → ends_word rest ≡ true → plus_behind rest 0 ≡ plus → (len : ℕ) → (license_of name entry plus place (length name)).span.end ≡ place + len → length name ≤ len → len ≤ length (name ++ rest)
+    → items_from mode lists wants_term place place (name ++ rest) ≡ license_of name entry plus place (length name) ∷ items_from mode lists AfterTerm (place + len) (place + len) (drop len (name ++ rest))
 name_step mode lists place name rest entry plus laws off known ends is_plus len end from to =
     let named : IsNamed name = entry_named lists name entry laws known in
     let some : 0 < length name = some_bytes name named.run in
-    let is : word_item mode lists wants_term place (name ++ rest) (length name) ≡ licence_of name entry plus place (length name) =
-    named_item mode lists place name rest entry off named.no_reference known ∙ ap (λ one. licence_of name entry one place (length name)) (behind_name name rest ∙ is_plus) in
-    word_step mode lists wants_term place name rest (licence_of name entry plus place (length name)) len named.run ends is end (omega arith) to
+    let is : word_item mode lists wants_term place (name ++ rest) (length name) ≡ license_of name entry plus place (length name) =
+    named_item mode lists place name rest entry off named.no_reference known ∙ ap (λ one. license_of name entry one place (length name)) (behind_name name rest ∙ is_plus) in
+    word_step mode lists wants_term place name rest (license_of name entry plus place (length name)) len named.run ends is end (omega arith) to
 
 -- a name alone is one item
-pub lone_name : (mode : ParseMode) (lists : CatalogLists) (name : List ℕ) (entry : LicenseEntry) → IsCatalog lists → mode.allow_imprecise_license_names ≡ false → entry_of lists.licences name ≡ Some entry
-    → items_of mode lists name ≡ licence_of name entry false 0 (length name) ∷ []
+pub lone_name : (mode : ParseMode) (lists : CatalogLists) (name : List ℕ) (entry : LicenseEntry) → IsCatalog lists → mode.allow_imprecise_license_names ≡ false → entry_of lists.licenses name ≡ Some entry
+    → items_of mode lists name ≡ license_of name entry false 0 (length name) ∷ []
 lone_name mode lists name entry laws off known =
-    let it : Item = licence_of name entry false 0 (length name) in
+    let it : Item = license_of name entry false 0 (length name) in
     let whole : length (name ++ []) ≡ length name = ap length (append-nil name) in
     ap (λ (text : List ℕ). items_from mode lists wants_term 0 0 text) (sym (append-nil name))
     ∙ name_step mode lists 0 name [] entry false laws off known refl refl (length name) refl (omega arith) (omega arith)

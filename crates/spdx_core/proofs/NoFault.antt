@@ -12,7 +12,7 @@ use Rattle.spdx_terms.specs.declared.item.ItemKind.TheVariants.{And, Or, Close}
 use Rattle.spdx_terms.specs.declared.item.Item.{Item}
 use Rattle.spdx_terms.specs.catalog.Catalog.{CatalogLists}
 use Rattle.spdx_terms.specs.Items.{items_of}
-use Rattle.spdx_terms.specs.Faults.{fault_from, fault_of, first_fault, first_of, unless, takes_operator, end_fault}
+use Rattle.spdx_terms.specs.Faults.{fault_from, fault_of, first_fault, first_of, fault_unless, takes_operator, end_fault}
 use Rattle.spdx_terms.proofs.FaultLemmas.{marks_untold}
 use Rattle.spdx_core.specs.Grammar.{ExpressionTree, Rule, expression, ReadsAs, Spells, allowed_in, simple, simple_with, grouped, one_part, and, one_conjunction, or, item}
 
@@ -22,8 +22,8 @@ pub record Clean (mode : ParseMode) (len : ℕ) (opened : List Span) (rest items
   pub operator : takes_operator wanted ≡ true
   pub same : fault_from mode len wants_term opened (items ++ rest) ≡ fault_from mode len wanted opened rest
 
-fine : (b : Bool) (span : Span) (later : Option ParseError) → b ≡ true → first_of (unless b Unexpected span) later ≡ later
-fine b span later is = ap (λ t. first_of (unless t Unexpected span) later) is
+fine : (b : Bool) (span : Span) (later : Option ParseError) → b ≡ true → first_of (fault_unless b Unexpected span) later ≡ later
+fine b span later is = ap (λ t. first_of (fault_unless t Unexpected span) later) is
 
 pub clean : (mode : ParseMode) {rule : Rule} {n : ℕ} {items : List Item} {tree : ExpressionTree} {terms : List ExpressionReq} → ReadsAs (allowed_in mode) rule n items tree terms → (len : ℕ) (opened : List Span) (rest : List Item) → Clean mode len opened rest items
 clean mode (simple n named start end ok) len opened rest = record {

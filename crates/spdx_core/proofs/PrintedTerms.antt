@@ -20,13 +20,13 @@ use Rattle.spdx_terms.specs.declared.item.Simple.{Simple}
 use Rattle.spdx_terms.specs.declared.item.Item.{Item}
 use Rattle.spdx_terms.specs.declared.item.ItemKind.TheVariants.{Term, Exception, With}
 use Rattle.spdx_terms.specs.declared.item.WantedItem.TheVariants.{Term as wants_term, Exception as wants_exception, AfterTerm, AfterPart}
-use Rattle.spdx_terms.specs.Tokens.{in_word, is_colon, after_prefix, own_licence, in_document, or_else, reference_of, one_of}
-use Rattle.spdx_terms.specs.Items.{item_at, term_of, licence_at, plus_behind, operator_of, word_item, items_from}
+use Rattle.spdx_terms.specs.Tokens.{in_word, is_colon, after_prefix, own_license, in_document, or_else, reference_of, one_of}
+use Rattle.spdx_terms.specs.Items.{item_at, term_of, license_at, plus_behind, operator_of, word_item, items_from}
 use Rattle.spdx_terms.specs.Terms.{reference_text, item_text, exception_text}
 use Rattle.spdx_terms.proofs.ImpreciseLemmas.{both_true, and_true}
 use Rattle.spdx_terms.proofs.ItemBorders.{step_white}
 use Rattle.spdx_core.specs.Grammar.{leaf, ReadsAs, expression, part, Spells, allowed_in, simple, simple_with, one_part, one_conjunction, item, term}
-use Rattle.spdx_core.specs.Printing.{IsLicenceOf, IsWordIf, IsItemOf, IsExceptionOf, printed_mode, PrintedReadsBack}
+use Rattle.spdx_core.specs.Printing.{IsLicenseOf, IsWordIf, IsItemOf, IsExceptionOf, printed_mode, PrintedReadsBack}
 use Rattle.spdx_core.proofs.NameItems.{run_all, is_run, letters_in_word, IsNamed, name_parts, some_bytes, word_step, name_step}
 
 -- ---- references
@@ -57,9 +57,9 @@ reference_reads : (doc : Option (List ℕ)) (id : List ℕ) → IsWordIf doc →
 reference_reads None id own ok = ap (λ t. or_else (cond t (Some (Reference None id)) None) (in_document (after_prefix (codes "DocumentRef-") (codes "LicenseRef-" ++ id)))) ok
 reference_reads (Some doc) id own ok =
     let rest : List ℕ = codes "LicenseRef-" ++ id in
-    ap (λ (found : List ℕ). cond (is_word found) (own_licence (Some found) (after_prefix (codes "LicenseRef-") (after_first is_colon (doc ++ 58 ∷ rest)))) None) (before_colon doc rest own)
-    ∙ ap (λ t. cond t (own_licence (Some doc) (after_prefix (codes "LicenseRef-") (after_first is_colon (doc ++ 58 ∷ rest)))) None) own
-    ∙ ap (λ (found : List ℕ). own_licence (Some doc) (after_prefix (codes "LicenseRef-") found)) (behind_colon doc rest own)
+    ap (λ (found : List ℕ). cond (is_word found) (own_license (Some found) (after_prefix (codes "LicenseRef-") (after_first is_colon (doc ++ 58 ∷ rest)))) None) (before_colon doc rest own)
+    ∙ ap (λ t. cond t (own_license (Some doc) (after_prefix (codes "LicenseRef-") (after_first is_colon (doc ++ 58 ∷ rest)))) None) own
+    ∙ ap (λ (found : List ℕ). own_license (Some doc) (after_prefix (codes "LicenseRef-") found)) (behind_colon doc rest own)
     ∙ ap (λ t. cond t (Some (Reference (Some doc) id)) None) ok
 
 reference_run : (doc : Option (List ℕ)) (id : List ℕ) → IsWordIf doc → is_word id ≡ true → is_run (reference_text doc id) ≡ true
@@ -86,17 +86,17 @@ named_as name entry plus = record {
   name_end = 0 + length name;
 }
 
-same_item : (lists : CatalogLists) (name : List ℕ) (family rank : ℕ) (later plus : Bool) (is : IsLicenceOf lists name family rank later plus) → (named_as name is.entry plus).item ≡ Spdx name family rank later plus
+same_item : (lists : CatalogLists) (name : List ℕ) (family rank : ℕ) (later plus : Bool) (is : IsLicenseOf lists name family rank later plus) → (named_as name is.entry plus).item ≡ Spdx name family rank later plus
 unfolding named_as
 same_item lists name family rank later plus is =
     let one : is.entry.family ≡ family = sym is.is_family in
     let two : is.entry.rank ≡ rank = sym is.is_rank in
     ap (λ n. Spdx name n is.entry.rank (plus || is.entry.later) plus) one ∙ ap (λ n. Spdx name family n (plus || is.entry.later) plus) two ∙ ap (λ t. Spdx name family rank t plus) (sym is.is_later)
 
-printed_licence : (lists : CatalogLists) → IsCatalog lists → (name : List ℕ) (family rank : ℕ) (later plus : Bool) → IsLicenceOf lists name family rank later plus → (rest : List ℕ) → ends_word rest ≡ true → plus_behind rest 0 ≡ false
+printed_license : (lists : CatalogLists) → IsCatalog lists → (name : List ℕ) (family rank : ℕ) (later plus : Bool) → IsLicenseOf lists name family rank later plus → (rest : List ℕ) → ends_word rest ≡ true → plus_behind rest 0 ≡ false
     → Printed lists (Spdx name family rank later plus) rest
 unfolding named_as
-printed_licence lists laws name family rank later true is rest stops bare =
+printed_license lists laws name family rank later true is rest stops bare =
     let it = item (Term (named_as name is.entry true)) 0 (0 + (length name + 1)) in
     let whole : length (name ++ 43 ∷ rest) ≡ length name + length (43 ∷ rest) = length-append name (43 ∷ rest) in
     let long : length (name ++ 43 ∷ []) ≡ length name + 1 = length-append name (43 ∷ []) in
@@ -110,7 +110,7 @@ printed_licence lists laws name family rank later true is rest stops bare =
           ∙ name_step printed_mode lists 0 name (43 ∷ rest) is.entry true laws refl is.known refl refl (length name + 1) refl (omega arith) (omega arith)
           ∙ ap (λ left. it ∷ items_from printed_mode lists AfterTerm (0 + (length name + 1)) (0 + (length name + 1)) left) (drop-append-add name (43 ∷ rest) 1);
     }
-printed_licence lists laws name family rank later false is rest stops bare =
+printed_license lists laws name family rank later false is rest stops bare =
     let it = item (Term (named_as name is.entry false)) 0 (0 + length name) in
     let whole : length (name ++ rest) ≡ length name + length rest = length-append name rest in
     let long : length (name ++ []) ≡ length name = ap length (append-nil name) in
@@ -140,8 +140,8 @@ printed_reference lists doc id own ok rest stops =
     let it : Item = referred 0 len (Reference doc id) in
     let whole : length (reference_text doc id ++ rest) ≡ length (reference_text doc id) + length rest = length-append (reference_text doc id) rest in
     let is : word_item printed_mode lists wants_term 0 (word ++ rest) (length word) ≡ it =
-    ap (λ (front : List ℕ). unwrap_or (option_or (option_map (referred 0 len) (reference_of front)) (licence_at lists front 0 text len)) (item_at (operator_of front) 0 len)) (take-append_seam word rest)
-    ∙ ap (λ found. unwrap_or (option_or (option_map (referred 0 len) found) (licence_at lists word 0 text len)) (item_at (operator_of word) 0 len)) (reference_reads doc id own ok) in
+    ap (λ (front : List ℕ). unwrap_or (option_or (option_map (referred 0 len) (reference_of front)) (license_at lists front 0 text len)) (item_at (operator_of front) 0 len)) (take-append_seam word rest)
+    ∙ ap (λ found. unwrap_or (option_or (option_map (referred 0 len) found) (license_at lists word 0 text len)) (item_at (operator_of word) 0 len)) (reference_reads doc id own ok) in
     record {
       named = record { item = Reference doc id; marks = record { later = false; deprecated = false; gnu = false; plus = false }; name_end = 0 + length word };
       is = refl;
@@ -153,7 +153,7 @@ printed_reference lists doc id own ok rest stops =
     }
 
 printed_item : (lists : CatalogLists) → IsCatalog lists → (it : LicenseItem) → IsItemOf lists it → (rest : List ℕ) → ends_word rest ≡ true → plus_behind rest 0 ≡ false → Printed lists it rest
-printed_item lists laws (Spdx name family rank later plus) is rest stops bare = printed_licence lists laws name family rank later plus is rest stops bare
+printed_item lists laws (Spdx name family rank later plus) is rest stops bare = printed_license lists laws name family rank later plus is rest stops bare
 printed_item lists laws (Reference doc id) is rest stops bare = printed_reference lists doc id is.0 is.1 rest stops
 
 -- ---- exceptions

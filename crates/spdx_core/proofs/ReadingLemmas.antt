@@ -7,7 +7,7 @@ use Rattle.spdx_terms.specs.declared.term.ExpressionReq.{ExpressionReq}
 use Rattle.spdx_terms.specs.declared.item.ItemKind.TheVariants.{And, Or, Close}
 use Rattle.spdx_terms.specs.declared.item.Item.{Item}
 use Rattle.spdx_core.specs.Grammar.{ExpressionTree, leaf, both, Rule, expression, conjunction, part, ReadsAs, AllowedForms, simple, simple_with, grouped, one_part, and, one_conjunction, or, item, term}
-use Rattle.spdx_core.specs.Reading.{ParenthesisLevel, ReaderState, nothing_read, joined, summed, level_tree, with_exception, after_items, numbered_from}
+use Rattle.spdx_core.specs.Reading.{ParenthesisLevel, ReaderState, nothing_read, product_with, sum_with, level_tree, with_exception, after_items, numbered_from}
 
 -- the last term gets its exception
 last_excepted : (terms : List ExpressionReq) (last : ExpressionReq) (name : List ℕ) (end : ℕ) → with_exception (terms ++ last ∷ []) name end ≡ terms ++ term last.req.item (Some name) last.span.start end ∷ []
@@ -22,11 +22,11 @@ state outer sum product terms = record { outer = outer; level = record { sum = s
 pub record ReadWhole (outer : List ParenthesisLevel) (terms : List ExpressionReq) (items rest : List Item) (tree : ExpressionTree) (more : List ExpressionReq) : Type 0 where
   pub sum : Option ExpressionTree
   pub last : ExpressionTree
-  pub whole : summed sum last ≡ tree
+  pub whole : sum_with sum last ≡ tree
   pub read : after_items (state outer None None terms) (items ++ rest) ≡ after_items (state outer sum (Some last) (terms ++ more)) rest
 
 abbrev pub Says : Rule → List ParenthesisLevel → Option ExpressionTree → Option ExpressionTree → List ExpressionReq → List Item → List Item → ExpressionTree → List ExpressionReq → Type 0
-Says part outer sum product terms items rest tree more = after_items (state outer sum product terms) (items ++ rest) ≡ after_items (state outer sum (Some (joined product tree)) (terms ++ more)) rest
+Says part outer sum product terms items rest tree more = after_items (state outer sum product terms) (items ++ rest) ≡ after_items (state outer sum (Some (product_with product tree)) (terms ++ more)) rest
 Says conjunction outer sum product terms items rest tree more = after_items (state outer sum None terms) (items ++ rest) ≡ after_items (state outer sum (Some tree) (terms ++ more)) rest
 Says expression outer sum product terms items rest tree more = ReadWhole outer terms items rest tree more
 
@@ -36,15 +36,15 @@ more_terms terms some n e = length-append terms some ∙ ap (λ k. k + length so
 pub complete : {allowed : AllowedForms} {rule : Rule} {n : ℕ} {items : List Item} {tree : ExpressionTree} {more : List ExpressionReq} → ReadsAs allowed rule n items tree more
     → (outer : List ParenthesisLevel) (sum product : Option ExpressionTree) (terms : List ExpressionReq) (rest : List Item) → length terms ≡ n → Says rule outer sum product terms items rest tree more
 complete (simple n named start end ok) outer sum product terms rest e =
-    ap (λ k. after_items (state outer sum (Some (joined product (leaf k))) (terms ++ term named.item None start end ∷ [])) rest) e
+    ap (λ k. after_items (state outer sum (Some (product_with product (leaf k))) (terms ++ term named.item None start end ∷ [])) rest) e
 complete (simple_with n named name start mid from to last end ok) outer sum product terms rest e =
-    ap (λ all. after_items (state outer sum (Some (joined product (leaf (length terms)))) all) rest) (last_excepted terms (term named.item None start mid) name end)
-    ∙ ap (λ k. after_items (state outer sum (Some (joined product (leaf k))) (terms ++ term named.item (Some name) start end ∷ [])) rest) e
+    ap (λ all. after_items (state outer sum (Some (product_with product (leaf (length terms)))) all) rest) (last_excepted terms (term named.item None start mid) name end)
+    ∙ ap (λ k. after_items (state outer sum (Some (product_with product (leaf k))) (terms ++ term named.item (Some name) start end ∷ [])) rest) e
 complete (grouped n from to last end inner tree more reads) outer sum product terms rest e =
     let r = complete reads (record { sum = sum; product = product } ∷ outer) None None terms (item Close last end ∷ rest) e in
     ap (λ all. after_items (state (record { sum = sum; product = product } ∷ outer) None None terms) all) (append_assoc inner (item Close last end ∷ []) rest)
     ∙ r.read
-    ∙ ap (λ t. after_items (state outer sum (Some (joined product t)) (terms ++ more)) rest) r.whole
+    ∙ ap (λ t. after_items (state outer sum (Some (product_with product t)) (terms ++ more)) rest) r.whole
 complete (one_part n items tree more reads) outer sum product terms rest e = complete reads outer sum None terms rest e
 complete (and n from to before behind left right some more reads_left reads_right) outer sum product terms rest e =
     ap (λ all. after_items (state outer sum None terms) all) (append_assoc before (item And from to ∷ behind) rest)

@@ -16,7 +16,7 @@ use Rattle.spdx_terms.specs.declared.item.Item.{Item}
 use Rattle.spdx_terms.specs.declared.item.ItemKind.{ItemKind}
 use Rattle.spdx_terms.specs.declared.item.ItemKind.TheVariants.{Term, Exception, And, Or, With, Open, Close, Plus, Word, Other}
 use Rattle.spdx_terms.specs.declared.item.WantedItem.TheVariants.{Term as wants_term}
-use Rattle.spdx_terms.specs.Tokens.{is_colon, after_prefix, own_licence, in_document, or_else, reference_of, one_of}
+use Rattle.spdx_terms.specs.Tokens.{is_colon, after_prefix, own_license, in_document, or_else, reference_of, one_of}
 use Rattle.spdx_terms.specs.Items.{items_of}
 use Rattle.spdx_terms.specs.Faults.{licensee_mode}
 use Rattle.spdx_terms.specs.Licensee.{IsLicensee, IsOnePart, alone, with_exception, without_plus}
@@ -34,7 +34,7 @@ record IsReference (it : LicenseItem) : Type 0 where
   doc_word : IsWordIf doc
   id_word : is_word id ≡ true
 
-own_reference : (doc found : Option (List ℕ)) (it : LicenseItem) → IsWordIf doc → own_licence doc found ≡ Some it → IsReference it
+own_reference : (doc found : Option (List ℕ)) (it : LicenseItem) → IsWordIf doc → own_license doc found ≡ Some it → IsReference it
 own_reference doc None it own h = absurd (cc)
 own_reference doc (Some id) it own h =
     elim (is_word id) as (λ (t : Bool). is_word id ≡ t → cond t (Some (Reference doc id)) None ≡ Some it → IsReference it) [
@@ -48,7 +48,7 @@ document_reference None it h = absurd (cc)
 document_reference (Some text) it h =
     let doc : List ℕ = before_first is_colon text in
     let id : Option (List ℕ) = after_prefix (codes "LicenseRef-") (after_first is_colon text) in
-    elim (is_word doc) as (λ (t : Bool). is_word doc ≡ t → cond t (own_licence (Some doc) id) None ≡ Some it → IsReference it) [
+    elim (is_word doc) as (λ (t : Bool). is_word doc ≡ t → cond t (own_license (Some doc) id) None ≡ Some it → IsReference it) [
       | true ↦ λ is e. own_reference (Some doc) id it is e
       | false ↦ λ is e. absurd (cc)
     ]
@@ -56,7 +56,7 @@ document_reference (Some text) it h =
 
 is_reference_of : (word : List ℕ) (it : LicenseItem) → reference_of word ≡ Some it → IsReference it
 is_reference_of word it h =
-    let own : Option LicenseItem = own_licence None (after_prefix (codes "LicenseRef-") word) in
+    let own : Option LicenseItem = own_license None (after_prefix (codes "LicenseRef-") word) in
     let document : Option LicenseItem = in_document (after_prefix (codes "DocumentRef-") word) in
     elim own as (λ (found : Option LicenseItem). own ≡ found → or_else found document ≡ Some it → IsReference it) [
       | None ↦ λ is e. document_reference (after_prefix (codes "DocumentRef-") word) it e
@@ -98,7 +98,7 @@ said_reference lists it marks ref = subst (λ one. IsItemOf lists one × IsItemO
 said_kinds : (lists : CatalogLists) → Kinds lists (λ place text it. Said lists it.what)
 unfolding Said
 said_kinds lists = record {
-  licence = λ name entry place text len known. (
+  license = λ name entry place text len known. (
     record { entry = entry; known = known; is_family = refl; is_rank = refl; is_later = refl },
     record { entry = entry; known = known; is_family = refl; is_rank = refl; is_later = refl },
   );

@@ -9,14 +9,14 @@ use Rattle.spdx_terms.specs.Items.{wanted_after, items_of}
 use Rattle.spdx_terms.specs.Faults.{item_fault, first_fault, has_open, opened_after}
 use Rattle.spdx_core.specs.declared.reader.Reader.{Reader}
 use Rattle.spdx_core.specs.declared.read.Progress.{Progress}
-use Rattle.spdx_core.specs.Machine.{machine_of, no_machine, advanced, run}
+use Rattle.spdx_core.specs.Machine.{machine_of, no_machine, machine_after, run}
 
 -- an item without a fault is taken
 pub record TakesItem (mode : ParseMode) (old : Progress) (item : Item) (new : Progress) : Type 0 where
   pub fine : item_fault mode old.wanted (has_open old.opened) item.what item.span ≡ None
   pub wanted : new.wanted ≡ wanted_after old.wanted item.what
   pub opened : new.opened ≡ opened_after old.opened item.what item.span
-  pub machine : machine_of new.reader ≡ advanced (machine_of old.reader) item.what item.span
+  pub machine : machine_of new.reader ≡ machine_after (machine_of old.reader) item.what item.span
 
 abbrev pub StepAnswers : ParseMode → Progress → Item → Progress → Result (Unit {0}) ExprError → Type 0
 StepAnswers mode old item new (Ok done) = TakesItem mode old item new

@@ -39,7 +39,7 @@ abbrev pub item : ItemKind → ℕ → ℕ → Item
 item what start end = record { what = what; span = record { start = start; end = end } }
 
 abbrev pub term : LicenseItem → Option (List ℕ) → ℕ → ℕ → ExpressionReq
-term licence exception start end = record { req = record { item = licence; exception = exception }; span = record { start = start; end = end } }
+term license exception start end = record { req = record { item = license; exception = exception }; span = record { start = start; end = end } }
 
 -- By a rule, items spell a tree and its terms, whose places are counted from a number on.
 pub data ReadsAs (allowed : AllowedForms) : Rule → ℕ → List Item → ExpressionTree → List ExpressionReq → Type 0 where

@@ -28,36 +28,36 @@ abbrev pub no_machine : Machine
 no_machine = record { outer = []; level = nothing_waits; nodes = []; terms = [] }
 
 -- an operator that waits is written
-abbrev pub written : Bool → ExprNode → List ExprNode → List ExprNode
-written true node nodes = nodes ++ node ∷ []
-written false node nodes = nodes
+abbrev pub nodes_with : Bool → ExprNode → List ExprNode → List ExprNode
+nodes_with true node nodes = nodes ++ node ∷ []
+nodes_with false node nodes = nodes
 
 abbrev pub after_part : Machine → Machine
-after_part m = record { outer = m.outer; level = record { or = m.level.or; and = true }; nodes = written m.level.and and_node m.nodes; terms = m.terms }
+after_part m = record { outer = m.outer; level = record { or = m.level.or; and = true }; nodes = nodes_with m.level.and and_node m.nodes; terms = m.terms }
 
 abbrev pub after_or : Machine → Machine
-after_or m = record { outer = m.outer; level = record { or = true; and = false }; nodes = written m.level.or or_node m.nodes; terms = m.terms }
+after_or m = record { outer = m.outer; level = record { or = true; and = false }; nodes = nodes_with m.level.or or_node m.nodes; terms = m.terms }
 
 abbrev pub after_open : Machine → Machine
 after_open m = record { outer = m.level ∷ m.outer; level = nothing_waits; nodes = m.nodes; terms = m.terms }
 
 abbrev pub after_close : List OpenOperators → Machine → Machine
 after_close [] m = m
-after_close (last ∷ outer) m = after_part (record { outer = outer; level = last; nodes = written m.level.or or_node m.nodes; terms = m.terms })
+after_close (last ∷ outer) m = after_part (record { outer = outer; level = last; nodes = nodes_with m.level.or or_node m.nodes; terms = m.terms })
 
-abbrev pub advanced : Machine → ItemKind → Span → Machine
-advanced m (Term named) span =
+abbrev pub machine_after : Machine → ItemKind → Span → Machine
+machine_after m (Term named) span =
     after_part (record { outer = m.outer; level = m.level; nodes = m.nodes ++ term_node (length m.terms) ∷ []; terms = m.terms ++ term named.item None span.start span.end ∷ [] })
-advanced m (Exception name) span = record { outer = m.outer; level = m.level; nodes = m.nodes; terms = with_exception m.terms name span.end }
-advanced m And span = m
-advanced m Or span = after_or m
-advanced m With span = m
-advanced m Open span = after_open m
-advanced m Close span = after_close m.outer m
-advanced m Plus span = m
-advanced m Word span = m
-advanced m Other span = m
+machine_after m (Exception name) span = record { outer = m.outer; level = m.level; nodes = m.nodes; terms = with_exception m.terms name span.end }
+machine_after m And span = m
+machine_after m Or span = after_or m
+machine_after m With span = m
+machine_after m Open span = after_open m
+machine_after m Close span = after_close m.outer m
+machine_after m Plus span = m
+machine_after m Word span = m
+machine_after m Other span = m
 
 abbrev pub run : Machine → List Item → Machine
 run m [] = m
-run m (item ∷ items) = run (advanced m item.what item.span) items
+run m (item ∷ items) = run (machine_after m item.what item.span) items

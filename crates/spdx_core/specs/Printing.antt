@@ -17,9 +17,9 @@ use Rattle.spdx_core.specs.Grammar.{ExpressionTree, leaf, both, Spells}
 -- ---- printed terms
 
 -- what the catalogue says of a licence; a `+` means later versions too
-pub record IsLicenceOf (lists : CatalogLists) (name : List ℕ) (family rank : ℕ) (later plus : Bool) : Type 0 where
+pub record IsLicenseOf (lists : CatalogLists) (name : List ℕ) (family rank : ℕ) (later plus : Bool) : Type 0 where
   pub entry : LicenseEntry
-  pub known : entry_of lists.licences name ≡ Some entry
+  pub known : entry_of lists.licenses name ≡ Some entry
   pub is_family : family ≡ entry.family
   pub is_rank : rank ≡ entry.rank
   pub is_later : later ≡ (plus || entry.later)
@@ -30,7 +30,7 @@ IsWordIf (Some word) = IsTrue (is_word word)
 
 -- a licence of the catalogue, or a reference that is made of words
 abbrev pub IsItemOf : CatalogLists → LicenseItem → Type 0
-IsItemOf lists (Spdx name family rank later plus) = IsLicenceOf lists name family rank later plus
+IsItemOf lists (Spdx name family rank later plus) = IsLicenseOf lists name family rank later plus
 IsItemOf lists (Reference doc id) = IsWordIf doc × IsTrue (is_word id)
 
 abbrev pub IsExceptionOf : CatalogLists → Option (List ℕ) → Type 0
@@ -89,12 +89,12 @@ with_names tree n [] = tree
 with_names tree n (name ∷ names) = with_names (both tree (leaf n)) (n + 1) names
 
 abbrev pub IsKnown : CatalogLists → List ℕ → Type 0
-IsKnown lists name = (entry : LicenseEntry) × (entry_of lists.licences name ≡ Some entry)
+IsKnown lists name = (entry : LicenseEntry) × (entry_of lists.licenses name ≡ Some entry)
 
 -- the term of a licence's name alone
 pub record IsNameOf (lists : CatalogLists) (name : List ℕ) (term : ExpressionReq) : Type 0 where
   pub entry : LicenseEntry
-  pub known : entry_of lists.licences name ≡ Some entry
+  pub known : entry_of lists.licenses name ≡ Some entry
   pub is : term.req ≡ record { item = Spdx name entry.family entry.rank entry.later false; exception = None }
 
 -- joined names have a tree: their terms are these names, from left to right

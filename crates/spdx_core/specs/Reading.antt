@@ -58,25 +58,25 @@ pub record ParenthesisLevel : Type 0 where
   pub sum : Option ExpressionTree
   pub product : Option ExpressionTree
 
-abbrev pub nothing : ParenthesisLevel
-nothing = record { sum = None; product = None }
+abbrev pub empty_level : ParenthesisLevel
+empty_level = record { sum = None; product = None }
 
-abbrev pub joined : Option ExpressionTree → ExpressionTree → ExpressionTree
-joined None tree = tree
-joined (Some left) tree = both left tree
+abbrev pub product_with : Option ExpressionTree → ExpressionTree → ExpressionTree
+product_with None tree = tree
+product_with (Some left) tree = both left tree
 
-abbrev pub summed : Option ExpressionTree → ExpressionTree → ExpressionTree
-summed None tree = tree
-summed (Some left) tree = either left tree
+abbrev pub sum_with : Option ExpressionTree → ExpressionTree → ExpressionTree
+sum_with None tree = tree
+sum_with (Some left) tree = either left tree
 
 -- what a level is as a whole
 abbrev pub level_tree : ParenthesisLevel → Option ExpressionTree
-level_tree level = option_map (summed level.sum) level.product
+level_tree level = option_map (sum_with level.sum) level.product
 
 -- a part goes to the conjunction
 abbrev pub with_part : ParenthesisLevel → Option ExpressionTree → ParenthesisLevel
 with_part level None = level
-with_part level (Some tree) = record { sum = level.sum; product = Some (joined level.product tree) }
+with_part level (Some tree) = record { sum = level.sum; product = Some (product_with level.product tree) }
 
 -- an `OR` ends the conjunction
 abbrev pub or_behind : ParenthesisLevel → Option ExpressionTree → ParenthesisLevel
@@ -84,12 +84,12 @@ or_behind level None = level
 or_behind level (Some tree) = record { sum = Some tree; product = None }
 
 -- the last term gets an exception, and ends where that ends
-abbrev pub excepted : ExpressionReq → List ℕ → ℕ → ExpressionReq
-excepted last name end = term last.req.item (Some name) last.span.start end
+abbrev pub term_with_exception : ExpressionReq → List ℕ → ℕ → ExpressionReq
+term_with_exception last name end = term last.req.item (Some name) last.span.start end
 
 abbrev pub with_exception : List ExpressionReq → List ℕ → ℕ → List ExpressionReq
 with_exception [] name end = []
-with_exception (last ∷ []) name end = excepted last name end ∷ []
+with_exception (last ∷ []) name end = term_with_exception last name end ∷ []
 with_exception (first ∷ next ∷ rest) name end = first ∷ with_exception (next ∷ rest) name end
 
 -- what was read so far: the levels of the open parentheses, the last one first, the one at hand, and the terms
@@ -99,12 +99,12 @@ pub record ReaderState : Type 0 where
   pub terms : List ExpressionReq
 
 abbrev pub nothing_read : ReaderState
-nothing_read = record { outer = []; level = nothing; terms = [] }
+nothing_read = record { outer = []; level = empty_level; terms = [] }
 
 -- a `)` makes a part of its level
-abbrev pub closed : List ParenthesisLevel → ParenthesisLevel → List ExpressionReq → ReaderState
-closed [] level terms = record { outer = []; level = level; terms = terms }
-closed (last ∷ outer) level terms = record { outer = outer; level = with_part last (level_tree level); terms = terms }
+abbrev pub state_after_close : List ParenthesisLevel → ParenthesisLevel → List ExpressionReq → ReaderState
+state_after_close [] level terms = record { outer = []; level = level; terms = terms }
+state_after_close (last ∷ outer) level terms = record { outer = outer; level = with_part last (level_tree level); terms = terms }
 
 abbrev pub after_item : ReaderState → ItemKind → Span → ReaderState
 after_item read (Term simple) span = record {
@@ -116,8 +116,8 @@ after_item read (Exception name) span = record { outer = read.outer; level = rea
 after_item read And span = read
 after_item read Or span = record { outer = read.outer; level = or_behind read.level (level_tree read.level); terms = read.terms }
 after_item read With span = read
-after_item read Open span = record { outer = read.level ∷ read.outer; level = nothing; terms = read.terms }
-after_item read Close span = closed read.outer read.level read.terms
+after_item read Open span = record { outer = read.level ∷ read.outer; level = empty_level; terms = read.terms }
+after_item read Close span = state_after_close read.outer read.level read.terms
 after_item read Plus span = read
 after_item read Word span = read
 after_item read Other span = read

@@ -1,10 +1,10 @@
 //! The reader of licence expressions: one pass over the items, with a level for each open parenthesis.
 ghost use Rattle.std.specs.Prelude.{◌≡◌, OnOk, OnErr, IsOk, Some, None};
 ghost use Rattle.deny_text.specs.Fronts.{StandsInFront};
-ghost use Rattle.spdx_core.specs.Machine.{machine_of, advanced, after_part as part_after};
+ghost use Rattle.spdx_core.specs.Machine.{machine_of, machine_after, after_part as part_after};
 ghost use Rattle.spdx_core.specs.Machine.{after_or as or_after, after_close as close_after};
-ghost use Rattle.spdx_core.specs.Machine.{after_open as open_after, no_machine, written};
-ghost use Rattle.spdx_core.specs.Reading.{with_exception, excepted as with_name};
+ghost use Rattle.spdx_core.specs.Machine.{after_open as open_after, no_machine, nodes_with};
+ghost use Rattle.spdx_core.specs.Reading.{with_exception, term_with_exception as with_name};
 
 use crate::node::ExprNode;
 use crate::stack::Stack;
@@ -131,7 +131,7 @@ impl Reader {
     }
 
     fn term(&mut self, named: Simple, span: Span) -> Result<(), AllocError>
-        ensures ok { OnOk result (machine_of self.new ≡ advanced (machine_of self.old) (ItemKind.Term named) span) }
+        ensures ok { OnOk result (machine_of self.new ≡ machine_after (machine_of self.old) (ItemKind.Term named) span) }
         ensures nodes { StandsInFront self.old.nodes.items self.new.nodes.items }
         ensures terms { StandsInFront self.old.terms.items self.new.terms.items }
     {
@@ -158,7 +158,7 @@ impl Reader {
     /// Takes an item that has no fault. Where memory is wanted the nodes and terms so far stay, in front of what
     /// was added; a `)` may have left its level.
     pub fn take(&mut self, what: ItemKind, span: Span) -> Result<(), AllocError>
-        ensures ok { OnOk result (machine_of self.new ≡ advanced (machine_of self.old) what span) }
+        ensures ok { OnOk result (machine_of self.new ≡ machine_after (machine_of self.old) what span) }
         ensures nodes { OnErr result (StandsInFront self.old.nodes.items self.new.nodes.items) }
         ensures terms { OnErr result (StandsInFront self.old.terms.items self.new.terms.items) }
     {
@@ -176,7 +176,7 @@ impl Reader {
     /// The nodes are whole: an `OR` that waits has its right side. Where memory is wanted nothing changes.
     pub fn finish(&mut self) -> Result<(), AllocError>
         ensures nodes { OnOk result (self.new.nodes.items
-            ≡ written self.old.level.or ExprNode.Or self.old.nodes.items) }
+            ≡ nodes_with self.old.level.or ExprNode.Or self.old.nodes.items) }
         ensures terms { OnOk result (self.new.terms ≡ self.old.terms) }
         ensures err { OnErr result ((self.new.nodes.items ≡ self.old.nodes.items) × (self.new.terms ≡ self.old.terms)) }
     {

@@ -12,7 +12,7 @@ use Rattle.std.specs.Str.{bytes_eq, str_eq_ignore_ascii_case, str_to_ascii_lower
 use Rattle.spdx_terms.specs.declared.catalog.catalog.Imprecise.{Imprecise}
 use Rattle.spdx_terms.specs.catalog.Catalog.{CatalogLists, IsCatalog, IsLongestImprecise, BeginsNone, BeginsText, names_of, all_distinct}
 use Rattle.spdx_terms.specs.catalog.Words.{ends_word}
-use Rattle.spdx_terms.specs.Items.{begins, longest, longer, imprecise_of}
+use Rattle.spdx_terms.specs.Items.{begins, longest_match, longer_match, imprecise_of}
 
 abbrev pub Pairs : Type 0
 Pairs = List (List ℕ × List ℕ)
@@ -64,7 +64,7 @@ sound_here first rest text found begun is =
     record { one = first; is_listed = (0, omega arith, refl); begun = begun; len = ap (λ f. f.0) is; name = ap (λ f. f.1) is }
 
 sound_longer : (first : List ℕ × List ℕ) (rest : Pairs) (text : List ℕ) (found : ℕ × List ℕ) (other : Option (ℕ × List ℕ)) → begins first.0 text ≡ true
-    → ((best : ℕ × List ℕ) → other ≡ Some best → Sound rest text best) → longer (length first.0, first.1) other ≡ Some found → Sound (first ∷ rest) text found
+    → ((best : ℕ × List ℕ) → other ≡ Some best → Sound rest text best) → longer_match (length first.0, first.1) other ≡ Some found → Sound (first ∷ rest) text found
 sound_longer first rest text found None begun sound h = sound_here first rest text found begun (some_same _ _ h)
 sound_longer first rest text found (Some best) begun sound h =
     elim (nat_le (length first.0) best.0) as (λ (t : Bool). cond t (Some best) (Some (length first.0, first.1)) ≡ Some found → Sound (first ∷ rest) text found) [
@@ -73,16 +73,16 @@ sound_longer first rest text found (Some best) begun sound h =
     ]
     h
 
-pub longest_sound : (listed : Pairs) (text : List ℕ) (found : ℕ × List ℕ) → longest listed text ≡ Some found → Sound listed text found
+pub longest_sound : (listed : Pairs) (text : List ℕ) (found : ℕ × List ℕ) → longest_match listed text ≡ Some found → Sound listed text found
 longest_sound [] text found h = cc
 longest_sound (first ∷ rest) text found h =
-    elim (begins first.0 text) as (λ (t : Bool). begins first.0 text ≡ t → cond t (longer (length first.0, first.1) (longest rest text)) (longest rest text) ≡ Some found → Sound (first ∷ rest) text found) [
-      | true ↦ λ is e. sound_longer first rest text found (longest rest text) is (λ best b. longest_sound rest text best b) e
+    elim (begins first.0 text) as (λ (t : Bool). begins first.0 text ≡ t → cond t (longer_match (length first.0, first.1) (longest_match rest text)) (longest_match rest text) ≡ Some found → Sound (first ∷ rest) text found) [
+      | true ↦ λ is e. sound_longer first rest text found (longest_match rest text) is (λ best b. longest_sound rest text best b) e
       | false ↦ λ is e. sound_later first rest text found (longest_sound rest text found e)
     ]
     refl h
 
-none_longest : (listed : Pairs) (text : List ℕ) (found : Option (ℕ × List ℕ)) → longest listed text ≡ found → BeginsNone listed text → found ≡ None
+none_longest : (listed : Pairs) (text : List ℕ) (found : Option (ℕ × List ℕ)) → longest_match listed text ≡ found → BeginsNone listed text → found ≡ None
 none_longest listed text None h none = refl
 none_longest listed text (Some found) h none =
     let s = longest_sound listed text found h in
@@ -102,9 +102,9 @@ not_true false h e = false≢true e
 abbrev LongestLen : Pairs → List ℕ → ℕ → Type 0
 LongestLen listed text len = (other : List ℕ × List ℕ) → Contains listed other → begins other.0 text ≡ true → length other.0 ≤ len
 
-wins : (first : List ℕ × List ℕ) (rest : Pairs) (text : List ℕ) (other : Option (ℕ × List ℕ)) → longest rest text ≡ other → begins first.0 text ≡ true
+wins : (first : List ℕ × List ℕ) (rest : Pairs) (text : List ℕ) (other : Option (ℕ × List ℕ)) → longest_match rest text ≡ other → begins first.0 text ≡ true
     → not (list_any (str_eq_ignore_ascii_case first.0) (names_of rest)) ≡ true → LongestLen rest text (length first.0)
-    → longer (length first.0, first.1) other ≡ Some (length first.0, first.1)
+    → longer_match (length first.0, first.1) other ≡ Some (length first.0, first.1)
 wins first rest text None is begun apart least = refl
 wins first rest text (Some best) is begun apart least =
     let s = longest_sound rest text best is in
@@ -119,21 +119,21 @@ wins first rest text (Some best) is begun apart least =
     refl
 
 longest_is_there : (listed : Pairs) (text : List ℕ) (one : List ℕ × List ℕ) → Contains listed one → begins one.0 text ≡ true → all_distinct str_eq_ignore_ascii_case (names_of listed) ≡ true
-    → LongestLen listed text (length one.0) → longest listed text ≡ Some (length one.0, one.1)
+    → LongestLen listed text (length one.0) → longest_match listed text ≡ Some (length one.0, one.1)
 longest_is_there [] text one (k, inside, is) begun apart least = absurd (omega arith)
 longest_is_there (first ∷ rest) text one (zero, inside, is) begun apart least =
     let here : begins first.0 text ≡ true = ap (λ p. begins p.0 text) is ∙ begun in
     let least_first : LongestLen rest text (length first.0) = λ other listed b. subst (λ p. length other.0 ≤ length p.0) (sym is) (least other (later first rest other listed) b) in
-    ap (λ t. cond t (longer (length first.0, first.1) (longest rest text)) (longest rest text)) here
-    ∙ wins first rest text (longest rest text) refl here (both_true _ _ apart).0 least_first
+    ap (λ t. cond t (longer_match (length first.0, first.1) (longest_match rest text)) (longest_match rest text)) here
+    ∙ wins first rest text (longest_match rest text) refl here (both_true _ _ apart).0 least_first
     ∙ ap (λ p. Some (length p.0, p.1)) is
 longest_is_there (first ∷ rest) text one (suc k, inside, is) begun apart least =
-    let found : longest rest text ≡ Some (length one.0, one.1) = longest_is_there rest text one (k, omega arith, is) begun (both_true _ _ apart).1 (λ other listed b. least other (later first rest other listed) b) in
-    elim (begins first.0 text) as (λ (t : Bool). begins first.0 text ≡ t → cond t (longer (length first.0, first.1) (longest rest text)) (longest rest text) ≡ Some (length one.0, one.1)) [
+    let found : longest_match rest text ≡ Some (length one.0, one.1) = longest_is_there rest text one (k, omega arith, is) begun (both_true _ _ apart).1 (λ other listed b. least other (later first rest other listed) b) in
+    elim (begins first.0 text) as (λ (t : Bool). begins first.0 text ≡ t → cond t (longer_match (length first.0, first.1) (longest_match rest text)) (longest_match rest text) ≡ Some (length one.0, one.1)) [
       | true ↦ λ b.
           let shorter : length first.0 ≤ length one.0 = least first (0, omega arith, refl) b in
           let test : nat_le (length first.0) (length one.0) ≡ true = grind (arith, nat_tests) in
-          ap (longer (length first.0, first.1)) found ∙ ap (λ t. cond t (Some (length one.0, one.1)) (Some (length first.0, first.1))) test
+          ap (longer_match (length first.0, first.1)) found ∙ ap (λ t. cond t (Some (length one.0, one.1)) (Some (length first.0, first.1))) test
       | false ↦ λ b. found
     ]
     refl
@@ -141,8 +141,8 @@ longest_is_there (first ∷ rest) text one (suc k, inside, is) begun apart least
 -- what a catalogue answers is the longest text that begins the text
 pub longest_is : (lists : CatalogLists) → IsCatalog lists → (text : List ℕ) (found : Option Imprecise)
     → IfSome found (λ f. IsLongestImprecise lists.imprecise text f.len f.name.now) → IfNone found (BeginsNone lists.imprecise text)
-    → option_map imprecise_of found ≡ longest lists.imprecise text
-longest_is lists laws text None some none = sym (none_longest lists.imprecise text (longest lists.imprecise text) refl none)
+    → option_map imprecise_of found ≡ longest_match lists.imprecise text
+longest_is lists laws text None some none = sym (none_longest lists.imprecise text (longest_match lists.imprecise text) refl none)
 longest_is lists laws text (Some found) some none =
     ap (λ n. Some (n, found.name.now)) (sym some.is_len)
     ∙ sym (longest_is_there lists.imprecise text (some.imprecise, found.name.now) some.is_listed (begins_from some.imprecise text some.begins) laws.imprecise_once

@@ -24,8 +24,8 @@ use Rattle.spdx_terms.specs.declared.item.ItemKind.{ItemKind}
 use Rattle.spdx_terms.specs.declared.item.Item.{Item}
 use Rattle.spdx_terms.specs.declared.term.LicenseItem.{LicenseItem}
 use Rattle.deny_text.specs.Character.{goes_on}
-use Rattle.spdx_terms.specs.Tokens.{in_word, is_white, token_of, rest_len, spanned, reference_of}
-use Rattle.spdx_terms.specs.Items.{item_at, term_of, licence_of, licence_at, reference_at, plus_behind, begins, longest, imprecise_at, imprecise_if, plain_item, word_item, token_item, first_item, has_reading, operator_of, items_from, item_here, with_item, wanted_behind, used_behind, wanted_after}
+use Rattle.spdx_terms.specs.Tokens.{in_word, is_white, token_of, rest_len, goes_on_over, reference_of}
+use Rattle.spdx_terms.specs.Items.{item_at, term_of, license_of, license_at, reference_at, plus_behind, begins, longest_match, imprecise_at, imprecise_if, plain_item, word_item, token_item, first_item, has_reading, operator_of, items_from, item_here, with_item, wanted_behind, used_behind, wanted_after}
 use Rattle.spdx_terms.proofs.ImpreciseLemmas.{both_true, same_letters, to_begins, same_length, Pairs, longest_sound}
 use Rattle.spdx_terms.proofs.ItemLemmas.{items_at, passed, unused}
 
@@ -62,10 +62,10 @@ got (b ∷ rest) (suc k) h = let more = got rest k h in (omega arith, more.1)
 plus_border : (text : List ℕ) (len : ℕ) → IsUtf8 text → plus_behind text len ≡ true → IsCharBoundary text (len + 1)
 plus_border text len utf8 h = let at = got text len h in IsCharBoundary-after_ascii text len utf8 at.0 (omega (arith, at.1))
 
-fits_licence : (lists : CatalogLists) (name : List ℕ) (place : ℕ) (text : List ℕ) (len : ℕ) (entry : Option LicenseEntry) → IsUtf8 text → 0 < len → IsCharBoundary text len
-    → FitsIf place text (option_map (λ entry. licence_of name entry (plus_behind text len) place len) entry)
-fits_licence lists name place text len None utf8 some border = tt
-fits_licence lists name place text len (Some entry) utf8 some border =
+fits_license : (lists : CatalogLists) (name : List ℕ) (place : ℕ) (text : List ℕ) (len : ℕ) (entry : Option LicenseEntry) → IsUtf8 text → 0 < len → IsCharBoundary text len
+    → FitsIf place text (option_map (λ entry. license_of name entry (plus_behind text len) place len) entry)
+fits_license lists name place text len None utf8 some border = tt
+fits_license lists name place text len (Some entry) utf8 some border =
     fits_term_by (plus_behind text len) _ entry.later entry.deprecated entry.gnu place len text some border (λ h. plus_border text len utf8 h)
 
 fits_reference : (place : ℕ) (text : List ℕ) (len : ℕ) (found : Option LicenseItem) → 0 < len → IsCharBoundary text len
@@ -161,7 +161,7 @@ all_imprecise (first ∷ rest) one h (zero, inside, is) = ap (λ p. is_imprecise
 all_imprecise (first ∷ rest) one h (suc k, inside, is) =
     all_imprecise rest one (both_true (is_imprecise first.0) (list_all is_imprecise (names_of rest)) h).1 (k, omega arith, is)
 
-longest_border : (lists : CatalogLists) → IsCatalog lists → (text : List ℕ) (found : ℕ × List ℕ) → IsUtf8 text → longest lists.imprecise text ≡ Some found → (0 < found.0) × IsCharBoundary text found.0
+longest_border : (lists : CatalogLists) → IsCatalog lists → (text : List ℕ) (found : ℕ × List ℕ) → IsUtf8 text → longest_match lists.imprecise text ≡ Some found → (0 < found.0) × IsCharBoundary text found.0
 longest_border lists laws text found utf8 h =
     let s = longest_sound lists.imprecise text found h in
     let at = one_border s.one.0 text (all_imprecise lists.imprecise s.one laws.imprecise_texts s.is_listed) s.begun utf8 in
@@ -171,24 +171,24 @@ fits_cond : (t : Bool) (place : ℕ) (text : List ℕ) (a : Option Item) → Fit
 fits_cond true place text a h = h
 fits_cond false place text a h = tt
 
-fits_imprecise : (lists : CatalogLists) → IsCatalog lists → (place : ℕ) (text : List ℕ) (len : ℕ) (found : Option (ℕ × List ℕ)) → IsUtf8 text → longest lists.imprecise text ≡ found
+fits_imprecise : (lists : CatalogLists) → IsCatalog lists → (place : ℕ) (text : List ℕ) (len : ℕ) (found : Option (ℕ × List ℕ)) → IsUtf8 text → longest_match lists.imprecise text ≡ found
     → FitsIf place text (imprecise_at lists place text len found)
 fits_imprecise lists laws place text len None utf8 h = tt
 fits_imprecise lists laws place text len (Some found) utf8 h =
     let at = longest_border lists laws text found utf8 h in
-    fits_cond (nat_lt len found.0 || not (has_reading lists (take len text))) place text (licence_at lists found.1 place text found.0)
-    (fits_licence lists found.1 place text found.0 (entry_of lists.licences found.1) utf8 at.0 at.1)
+    fits_cond (nat_lt len found.0 || not (has_reading lists (take len text))) place text (license_at lists found.1 place text found.0)
+    (fits_license lists found.1 place text found.0 (entry_of lists.licenses found.1) utf8 at.0 at.1)
 
 fits_imprecise_if : (allowed : Bool) (lists : CatalogLists) → IsCatalog lists → (place : ℕ) (text : List ℕ) (len : ℕ) → IsUtf8 text → FitsIf place text (imprecise_if allowed lists place text len)
-fits_imprecise_if true lists laws place text len utf8 = fits_imprecise lists laws place text len (longest lists.imprecise text) utf8 refl
+fits_imprecise_if true lists laws place text len utf8 = fits_imprecise lists laws place text len (longest_match lists.imprecise text) utf8 refl
 fits_imprecise_if false lists laws place text len utf8 = tt
 
 fits_plain : (lists : CatalogLists) (place : ℕ) (text : List ℕ) (len : ℕ) → IsUtf8 text → 0 < len → IsCharBoundary text len → FitsAt place text (plain_item lists place text len)
 fits_plain lists place text len utf8 some border =
-    fits_unwrap place text (option_or (reference_at (take len text) place len) (licence_at lists (take len text) place text len)) (item_at (operator_of (take len text)) place len)
-    (fits_or place text (reference_at (take len text) place len) (licence_at lists (take len text) place text len)
+    fits_unwrap place text (option_or (reference_at (take len text) place len) (license_at lists (take len text) place text len)) (item_at (operator_of (take len text)) place len)
+    (fits_or place text (reference_at (take len text) place len) (license_at lists (take len text) place text len)
     (fits_reference place text len (reference_of (take len text)) some border)
-    (fits_licence lists (take len text) place text len (entry_of lists.licences (take len text)) utf8 some border))
+    (fits_license lists (take len text) place text len (entry_of lists.licenses (take len text)) utf8 some border))
     (fits_item (operator_of (take len text)) place len text some border)
 
 fits_word : (mode : ParseMode) (lists : CatalogLists) → IsCatalog lists → (wanted : WantedItem) (place : ℕ) (text : List ℕ) (len : ℕ) → IsUtf8 text → 0 < len → IsCharBoundary text len
@@ -262,11 +262,11 @@ token_first slash b =
 
 -- a token ends at a border
 pub token_border : (token : Token) (b : ℕ) (rest : List ℕ) → IsUtf8 (b ∷ rest) → First token b → IsCharBoundary (b ∷ rest) (1 + rest_len token rest)
-token_border a_word b rest utf8 first = run_border (spanned a_word) (λ c h. word_byte_ascii c h) b rest utf8 (word_byte_ascii b first)
-token_border a_plus b rest utf8 first = run_border (spanned a_plus) (λ c h. absurd (false≢true h)) b rest utf8 first
-token_border an_open b rest utf8 first = run_border (spanned an_open) (λ c h. absurd (false≢true h)) b rest utf8 first
-token_border a_close b rest utf8 first = run_border (spanned a_close) (λ c h. absurd (false≢true h)) b rest utf8 first
-token_border a_slash b rest utf8 first = run_border (spanned a_slash) (λ c h. absurd (false≢true h)) b rest utf8 first
+token_border a_word b rest utf8 first = run_border (goes_on_over a_word) (λ c h. word_byte_ascii c h) b rest utf8 (word_byte_ascii b first)
+token_border a_plus b rest utf8 first = run_border (goes_on_over a_plus) (λ c h. absurd (false≢true h)) b rest utf8 first
+token_border an_open b rest utf8 first = run_border (goes_on_over an_open) (λ c h. absurd (false≢true h)) b rest utf8 first
+token_border a_close b rest utf8 first = run_border (goes_on_over a_close) (λ c h. absurd (false≢true h)) b rest utf8 first
+token_border a_slash b rest utf8 first = run_border (goes_on_over a_slash) (λ c h. absurd (false≢true h)) b rest utf8 first
 token_border another b rest utf8 first = char_border b rest
 
 pub first_border : (slash : Bool) (b : ℕ) (rest : List ℕ) → IsUtf8 (b ∷ rest) → IsCharBoundary (b ∷ rest) (1 + rest_len (token_of slash b) rest)

@@ -21,8 +21,8 @@ fault reason start end = Some (record { reason = reason; span = record { start =
 abbrev pub fault_over : ParseReason → Span → Option ParseError
 fault_over reason span = Some (record { reason = reason; span = span })
 
-abbrev pub unless : Bool → ParseReason → Span → Option ParseError
-unless fine reason span = if fine then None else fault_over reason span
+abbrev pub fault_unless : Bool → ParseReason → Span → Option ParseError
+fault_unless fine reason span = if fine then None else fault_over reason span
 
 abbrev pub takes_term : WantedItem → Bool
 takes_term wants_term = true
@@ -63,7 +63,7 @@ marks_allowed mode marks = (mode.allow_deprecated || not marks.deprecated) && (m
 abbrev pub mark_fault : ParseMode → Simple → Span → Option ParseError
 mark_fault mode simple span =
     if simple.marks.deprecated && not mode.allow_deprecated then fault DeprecatedId span.start simple.name_end
-    else unless (not (simple.marks.gnu && simple.marks.plus) || mode.allow_postfix_plus_on_gpl) GplNoPlus span
+    else fault_unless (not (simple.marks.gnu && simple.marks.plus) || mode.allow_postfix_plus_on_gpl) GplNoPlus span
 
 -- the first of two faults
 abbrev pub first_of : Option ParseError → Option ParseError → Option ParseError
@@ -77,13 +77,13 @@ has_open (last ∷ rest) = true
 
 -- what is wrong with an item, by what is wanted and by whether a parenthesis is open
 abbrev pub item_fault : ParseMode → WantedItem → Bool → ItemKind → Span → Option ParseError
-item_fault mode wanted opened (Term simple) span = first_of (unless (takes_term wanted) Unexpected span) (mark_fault mode simple span)
-item_fault mode wanted opened (Exception name) span = unless (takes_exception wanted) Unexpected span
-item_fault mode wanted opened And span = unless (takes_operator wanted) Unexpected span
-item_fault mode wanted opened Or span = unless (takes_operator wanted) Unexpected span
-item_fault mode wanted opened With span = unless (takes_with wanted) Unexpected span
-item_fault mode wanted opened Open span = unless (takes_term wanted) Unexpected span
-item_fault mode wanted opened Close span = if opened then unless (takes_operator wanted) Unexpected span else fault_over UnopenedParens span
+item_fault mode wanted opened (Term simple) span = first_of (fault_unless (takes_term wanted) Unexpected span) (mark_fault mode simple span)
+item_fault mode wanted opened (Exception name) span = fault_unless (takes_exception wanted) Unexpected span
+item_fault mode wanted opened And span = fault_unless (takes_operator wanted) Unexpected span
+item_fault mode wanted opened Or span = fault_unless (takes_operator wanted) Unexpected span
+item_fault mode wanted opened With span = fault_unless (takes_with wanted) Unexpected span
+item_fault mode wanted opened Open span = fault_unless (takes_term wanted) Unexpected span
+item_fault mode wanted opened Close span = if opened then fault_unless (takes_operator wanted) Unexpected span else fault_over UnopenedParens span
 item_fault mode wanted opened Plus span = fault_over SeparatedPlus span
 item_fault mode wanted opened Word span = fault_over (word_reason wanted) span
 item_fault mode wanted opened Other span = fault_over InvalidCharacters span
@@ -142,7 +142,7 @@ is_alone Word = true
 is_alone Other = true
 
 abbrev pub lone_fault : ParseMode → WantedItem → ItemKind → Span → Option ParseError
-lone_fault mode wanted what span = first_of (unless (is_alone what) Unexpected span) (item_fault mode wanted false what span)
+lone_fault mode wanted what span = first_of (fault_unless (is_alone what) Unexpected span) (item_fault mode wanted false what span)
 
 abbrev pub licensee_fault_from : ParseMode → ℕ → WantedItem → List Item → Option ParseError
 licensee_fault_from mode len wanted [] = end_fault len wanted None

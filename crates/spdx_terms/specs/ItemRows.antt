@@ -15,9 +15,9 @@ entry family rank later deprecated gnu = record { family = family; rank = rank; 
 
 -- Five licences and two exceptions, of which one has a licence's name. An imprecise text holds an operator, one means
 -- a licence that is deprecated, one begins as a reference does, and one is the name of a licence but for case.
-abbrev pub odd : CatalogLists
-odd = record {
-  licences =
+abbrev pub odd_catalog : CatalogLists
+odd_catalog = record {
+  licenses =
       (codes "MIT", entry 0 10 false false false)
       ∷ (codes "ISC", entry 1 10 false false false)
       ∷ (codes "Old-1.0", entry 2 10 false true false)
@@ -61,8 +61,8 @@ what_text Plus = codes "plus"
 what_text Word = codes "word"
 what_text Other = codes "other"
 
-abbrev pub told : Item → List ℕ × ℕ × ℕ
-told item = (what_text item.what, item.span.start, item.span.end)
+abbrev pub item_row : Item → List ℕ × ℕ × ℕ
+item_row item = (what_text item.what, item.span.start, item.span.end)
 
 -- a text, and its items with their places
 abbrev pub ItemRow : Type 0
@@ -70,7 +70,7 @@ ItemRow = List ℕ × List (List ℕ × ℕ × ℕ)
 
 -- each text has the items of its row
 abbrev pub RowsHold : ParseMode → List ItemRow → Type 0
-RowsHold mode rows = map (λ row. map told (items_of mode odd row.0)) rows ≡ map (λ row. row.1) rows
+RowsHold mode rows = map (λ row. map item_row (items_of mode odd_catalog row.0)) rows ≡ map (λ row. row.1) rows
 
 -- without imprecise texts and without the slash
 abbrev pub plain_rows : List ItemRow

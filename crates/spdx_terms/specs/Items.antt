@@ -56,15 +56,15 @@ abbrev pub term_of : LicenseItem → LicenseMarks → ℕ → ℕ → Item
 term_of item marks place len =
     item_at (Term (record { item = item; marks = marks; name_end = place + len })) place (if marks.plus then len + 1 else len)
 
-abbrev pub licence_of : List ℕ → LicenseEntry → Bool → ℕ → ℕ → Item
-licence_of name entry plus place len =
+abbrev pub license_of : List ℕ → LicenseEntry → Bool → ℕ → ℕ → Item
+license_of name entry plus place len =
     term_of (Spdx name entry.family entry.rank (plus || entry.later) plus)
     (record { later = entry.later; deprecated = entry.deprecated; gnu = entry.gnu; plus = plus }) place len
 
 -- the licence of a name that takes so many bytes of a text
-abbrev pub licence_at : CatalogLists → List ℕ → ℕ → List ℕ → ℕ → Option Item
-licence_at lists name place text len =
-    option_map (λ entry. licence_of name entry (plus_behind text len) place len) (entry_of lists.licences name)
+abbrev pub license_at : CatalogLists → List ℕ → ℕ → List ℕ → ℕ → Option Item
+license_at lists name place text len =
+    option_map (λ entry. license_of name entry (plus_behind text len) place len) (entry_of lists.licenses name)
 
 abbrev pub reference_at : List ℕ → ℕ → ℕ → Option Item
 reference_at word place len =
@@ -75,14 +75,14 @@ abbrev pub begins : List ℕ → List ℕ → Bool
 begins imprecise text = str_eq_ignore_ascii_case imprecise (take (length imprecise) text) && ends_word (drop (length imprecise) text)
 
 -- the longer of two, and of equally long ones the second
-abbrev pub longer : ℕ × List ℕ → Option (ℕ × List ℕ) → Option (ℕ × List ℕ)
-longer found None = Some found
-longer found (Some best) = if nat_le found.0 best.0 then Some best else Some found
+abbrev pub longer_match : ℕ × List ℕ → Option (ℕ × List ℕ) → Option (ℕ × List ℕ)
+longer_match found None = Some found
+longer_match found (Some best) = if nat_le found.0 best.0 then Some best else Some found
 
 -- the longest listed text that begins a text: its length and the licence that it means
-abbrev pub longest : List (List ℕ × List ℕ) → List ℕ → Option (ℕ × List ℕ)
-longest [] text = None
-longest (one ∷ rest) text = if begins one.0 text then longer (length one.0, one.1) (longest rest text) else longest rest text
+abbrev pub longest_match : List (List ℕ × List ℕ) → List ℕ → Option (ℕ × List ℕ)
+longest_match [] text = None
+longest_match (one ∷ rest) text = if begins one.0 text then longer_match (length one.0, one.1) (longest_match rest text) else longest_match rest text
 
 -- what a catalogue found at the start of a text: its length and the licence that is meant
 abbrev pub imprecise_of : Imprecise → ℕ × List ℕ
@@ -90,22 +90,22 @@ imprecise_of found = (found.len, found.name.now)
 
 -- a word has a reading of its own: it is an operator, a reference or a licence name
 abbrev pub has_reading : CatalogLists → List ℕ → Bool
-has_reading lists word = is_operator_text word || is_some (reference_of word) || is_some (entry_of lists.licences word)
+has_reading lists word = is_operator_text word || is_some (reference_of word) || is_some (entry_of lists.licenses word)
 
 -- an imprecise text is taken where it is longer than the word, or the word has no reading of its own
 abbrev pub imprecise_at : CatalogLists → ℕ → List ℕ → ℕ → Option (ℕ × List ℕ) → Option Item
 imprecise_at lists place text len None = None
 imprecise_at lists place text len (Some found) =
-    if nat_lt len found.0 || not (has_reading lists (take len text)) then licence_at lists found.1 place text found.0 else None
+    if nat_lt len found.0 || not (has_reading lists (take len text)) then license_at lists found.1 place text found.0 else None
 
 abbrev pub imprecise_if : Bool → CatalogLists → ℕ → List ℕ → ℕ → Option Item
-imprecise_if true lists place text len = imprecise_at lists place text len (longest lists.imprecise text)
+imprecise_if true lists place text len = imprecise_at lists place text len (longest_match lists.imprecise text)
 imprecise_if false lists place text len = None
 
 -- a word of a text where a term is wanted, without imprecise texts: a reference, a licence name, or what it is everywhere
 abbrev pub plain_item : CatalogLists → ℕ → List ℕ → ℕ → Item
 plain_item lists place text len =
-    unwrap_or (option_or (reference_at (take len text) place len) (licence_at lists (take len text) place text len))
+    unwrap_or (option_or (reference_at (take len text) place len) (license_at lists (take len text) place text len))
     (item_at (operator_of (take len text)) place len)
 
 -- the same with them; the text is what stands from the place on

@@ -4,7 +4,7 @@ use Rattle.spdx_terms.specs.declared.term.LicenseItem.{LicenseItem}
 use Rattle.spdx_terms.specs.declared.term.LicenseItem.TheVariants.{Spdx, Reference}
 use Rattle.spdx_terms.specs.declared.term.LicenseReq.{LicenseReq}
 use Rattle.spdx_terms.specs.declared.term.Family.{Family}
-use Rattle.spdx_terms.specs.declared.term.Family.TheVariants.{Spdx as of_licences, Reference as of_references}
+use Rattle.spdx_terms.specs.declared.term.Family.TheVariants.{Spdx as of_licenses, Reference as of_references}
 
 abbrev pub reference_text : Option (List ℕ) → List ℕ → List ℕ
 reference_text None id = codes "LicenseRef-" ++ id
@@ -24,7 +24,7 @@ abbrev pub req_text : LicenseReq → List ℕ
 req_text req = item_text req.item ++ exception_text req.exception
 
 abbrev pub item_family : LicenseItem → Family
-item_family (Spdx name family rank later plus) = of_licences family
+item_family (Spdx name family rank later plus) = of_licenses family
 item_family (Reference doc id) = of_references
 
 -- the family of a term

@@ -28,17 +28,17 @@ token_of slash b =
     else Other))))
 
 -- a token goes on over a byte: a word is the longest run, a character is whole, and the others are one byte
-abbrev pub spanned : Token → ℕ → Bool
-spanned Word b = in_word b
-spanned Plus b = false
-spanned Open b = false
-spanned Close b = false
-spanned Slash b = false
-spanned Other b = goes_on b
+abbrev pub goes_on_over : Token → ℕ → Bool
+goes_on_over Word b = in_word b
+goes_on_over Plus b = false
+goes_on_over Open b = false
+goes_on_over Close b = false
+goes_on_over Slash b = false
+goes_on_over Other b = goes_on b
 
 -- how many bytes it takes behind its first one
 abbrev pub rest_len : Token → List ℕ → ℕ
-rest_len token rest = prefix_len (spanned token) rest
+rest_len token rest = prefix_len (goes_on_over token) rest
 
 abbrev pub one_of : List (List ℕ) → List ℕ → Bool
 one_of words text = list_any (bytes_eq text) words
@@ -61,15 +61,15 @@ abbrev pub is_colon : ℕ → Bool
 is_colon b = b == byte ":"
 
 -- a licence of one's own: its id is one word without a colon
-abbrev pub own_licence : Option (List ℕ) → Option (List ℕ) → Option LicenseItem
-own_licence doc None = None
-own_licence doc (Some id) = if is_word id then Some (Reference doc id) else None
+abbrev pub own_license : Option (List ℕ) → Option (List ℕ) → Option LicenseItem
+own_license doc None = None
+own_license doc (Some id) = if is_word id then Some (Reference doc id) else None
 
 -- one that stands in a document of one's own
 abbrev pub in_document : Option (List ℕ) → Option LicenseItem
 in_document None = None
 in_document (Some text) =
-    if is_word (before_first is_colon text) then own_licence (Some (before_first is_colon text)) (after_prefix (codes "LicenseRef-") (after_first is_colon text))
+    if is_word (before_first is_colon text) then own_license (Some (before_first is_colon text)) (after_prefix (codes "LicenseRef-") (after_first is_colon text))
     else None
 
 abbrev pub or_else : Option LicenseItem → Option LicenseItem → Option LicenseItem
@@ -79,4 +79,4 @@ or_else (Some item) other = Some item
 -- the reference that a word is: `LicenseRef-` and an id, or `DocumentRef-`, a document, `:LicenseRef-` and an id
 abbrev pub reference_of : List ℕ → Option LicenseItem
 reference_of word =
-    or_else (own_licence None (after_prefix (codes "LicenseRef-") word)) (in_document (after_prefix (codes "DocumentRef-") word))
+    or_else (own_license None (after_prefix (codes "LicenseRef-") word)) (in_document (after_prefix (codes "DocumentRef-") word))

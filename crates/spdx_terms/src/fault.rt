@@ -1,7 +1,7 @@
 //! What is wrong with an item where it stands.
 ghost use Rattle.std.specs.Prelude.{◌≡◌, Some};
 ghost use Rattle.spdx_terms.specs.Faults.{takes_term, takes_exception, takes_operator, takes_with};
-ghost use Rattle.spdx_terms.specs.Faults.{word_reason, fault as fault_between, unless as unless_fine};
+ghost use Rattle.spdx_terms.specs.Faults.{word_reason, fault as fault_between, fault_unless as unless_fine};
 ghost use Rattle.spdx_terms.specs.Faults.{mark_fault as mark_fault_of, item_fault, end_fault as end_fault_at};
 
 use crate::error::{ParseError, ParseReason};

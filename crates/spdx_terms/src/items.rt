@@ -4,8 +4,8 @@ ghost use Rattle.std.specs.Option.{option_copied, option_map};
 ghost use Rattle.std.specs.Str.{IsCharBoundary};
 ghost use Rattle.spdx_terms.specs.Tokens.{one_of};
 ghost use Rattle.spdx_terms.specs.Items.{wanted_after, operator_of, is_operator_text, plus_behind};
-ghost use Rattle.spdx_terms.specs.Items.{term_of as term_at, item_at, licence_of, licence_at, reference_at};
-ghost use Rattle.spdx_terms.specs.Items.{has_reading as word_has_reading, imprecise_if, longest, imprecise_of};
+ghost use Rattle.spdx_terms.specs.Items.{term_of as term_at, item_at, license_of, license_at, reference_at};
+ghost use Rattle.spdx_terms.specs.Items.{has_reading as word_has_reading, imprecise_if, longest_match, imprecise_of};
 ghost use Rattle.spdx_terms.specs.Items.{term_item as term_item_at, plain_item as plain_item_at};
 ghost use Rattle.spdx_terms.specs.Items.{exception_item as exception_item_at, word_item as word_item_at};
 ghost use Rattle.spdx_terms.specs.Items.{first_item as first_item_of, items_of};
@@ -92,9 +92,9 @@ fn term(item: LicenseItem, marks: LicenseMarks, place: usize, len: usize) -> Ite
 }
 
 /// A licence of the catalogue.
-fn licence(name: Text, entry: LicenseEntry, plus: bool, place: usize, len: usize) -> Item
+fn license_item(name: Text, entry: LicenseEntry, plus: bool, place: usize, len: usize) -> Item
     requires { place + len + 1 < 2 ^ 64 }
-    ensures { result ≡ licence_of name entry plus place len }
+    ensures { result ≡ license_of name entry plus place len }
 {
     let item = LicenseItem::Spdx {
         name,
@@ -113,7 +113,7 @@ fn licence(name: Text, entry: LicenseEntry, plus: bool, place: usize, len: usize
 }
 
 /// The licence of a name that takes so many bytes of the text, where the catalogue knows it.
-fn find_licence<C: Catalog>(
+fn find_license<C: Catalog>(
     alloc: Global,
     name: &str,
     place: usize,
@@ -122,13 +122,13 @@ fn find_licence<C: Catalog>(
     catalog: &C,
 ) -> Result<Option<Item>, AllocError>
     requires { place + len + 1 < 2 ^ 64 }
-    ensures { IfOk result (λ found. found ≡ licence_at (C.lists catalog.now) name.now place text.now len) }
+    ensures { IfOk result (λ found. found ≡ license_at (C.lists catalog.now) name.now place text.now len) }
 {
     match catalog.license(name) {
         None => Ok(None),
         Some(entry) => {
             let name = Text::copy(alloc, name)?;
-            Ok(Some(licence(name, entry, has_plus(text, len), place, len)))
+            Ok(Some(license_item(name, entry, has_plus(text, len), place, len)))
         }
     }
 }
@@ -172,7 +172,7 @@ fn has_reading<C: Catalog>(word: &str, catalog: &C) -> bool
 
 /// The longest imprecise text that begins a text.
 fn longest_imprecise<'c, C: Catalog>(text: &str, catalog: &'c C) -> Option<Imprecise<'c>>
-    ensures found { option_map imprecise_of result ≡ longest (C.lists catalog.now).imprecise text.now }
+    ensures found { option_map imprecise_of result ≡ longest_match (C.lists catalog.now).imprecise text.now }
     ensures within { IfSome result (λ found. found.len ≤ length text.now) }
 {
     catalog.imprecise(text)
@@ -202,7 +202,7 @@ fn find_imprecise<C: Catalog>(
         None => Ok(None),
         Some(found) => {
             if len < found.len || !has_reading(text.split_at(len).0, catalog) {
-                find_licence(alloc, found.name, place, text, found.len, catalog)
+                find_license(alloc, found.name, place, text, found.len, catalog)
             } else {
                 Ok(None)
             }
@@ -248,7 +248,7 @@ fn plain_item<C: Catalog>(
     if let Some(item) = find_reference(alloc, word, place, len)? {
         return Ok(item);
     }
-    if let Some(item) = find_licence(alloc, word, place, text, len, catalog)? {
+    if let Some(item) = find_license(alloc, word, place, text, len, catalog)? {
         return Ok(item);
     }
     Ok(item(operator(word), place, len))

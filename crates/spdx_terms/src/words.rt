@@ -6,8 +6,8 @@ ghost use Rattle.spdx_terms.specs.catalog.Words.{is_word_byte as word_byte, is_w
 ghost use Rattle.spdx_terms.specs.Tokens.{is_white as white, in_word as inside_word};
 ghost use Rattle.spdx_terms.specs.Tokens.{token_of as token_with, rest_len, says_and as and_text};
 ghost use Rattle.spdx_terms.specs.Tokens.{says_or as or_text, says_with as with_text};
-ghost use Rattle.spdx_terms.specs.Tokens.{after_prefix as behind_prefix, own_licence as own};
-ghost use Rattle.spdx_terms.specs.Tokens.{in_document as within_document, spanned, reference_of};
+ghost use Rattle.spdx_terms.specs.Tokens.{after_prefix as behind_prefix, own_license as own};
+ghost use Rattle.spdx_terms.specs.Tokens.{in_document as within_document, goes_on_over, reference_of};
 ghost use Rattle.spdx_terms.specs.References.{parts_item};
 
 use crate::item::Token;
@@ -54,7 +54,7 @@ pub fn token_of(byte: u8, slash: bool) -> Token
 impl Token {
     /// Whether it goes on over a byte.
     fn spans(self, byte: u8) -> bool
-        ensures { result ≡ spanned self byte }
+        ensures { result ≡ goes_on_over self byte }
     {
         match self {
             Token::Word => in_word(byte),
@@ -126,7 +126,7 @@ pub struct ReferenceParts<'t> {
 }
 
 /// A licence of one's own, in a document or in none.
-fn own_licence<'t>(doc: Option<&'t str>, id: Option<&'t str>) -> Option<ReferenceParts<'t>>
+fn own_license<'t>(doc: Option<&'t str>, id: Option<&'t str>) -> Option<ReferenceParts<'t>>
     ensures { option_map parts_item result ≡ own (option_copied doc.entry) (option_copied id.entry) }
 {
     match id {
@@ -141,7 +141,7 @@ fn in_document(text: &str) -> Option<ReferenceParts<'_>>
 {
     let (doc, rest) = text.split_once(':')?;
     if is_word(doc) {
-        own_licence(Some(doc), after_prefix(rest, "LicenseRef-"))
+        own_license(Some(doc), after_prefix(rest, "LicenseRef-"))
     } else {
         None
     }
@@ -151,7 +151,7 @@ fn in_document(text: &str) -> Option<ReferenceParts<'_>>
 pub fn reference_parts(word: &str) -> Option<ReferenceParts<'_>>
     ensures { option_map parts_item result ≡ reference_of word.now }
 {
-    let own = own_licence(None, after_prefix(word, "LicenseRef-"));
+    let own = own_license(None, after_prefix(word, "LicenseRef-"));
     match own {
         Some(parts) => Some(parts),
         None => in_document(after_prefix(word, "DocumentRef-")?),

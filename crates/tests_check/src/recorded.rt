@@ -2,7 +2,7 @@
 ghost use Rattle.std.specs.Prelude.{◌≡◌, ◌<◌};
 
 use check_record::{Record, RecordError, decode, encode};
-use check_verify::{Answer, NoReason, verify};
+use check_verify::{VerifyAnswer, NoReason, verify};
 use deny_text::{Steps, Texts};
 use diag_core::Notes;
 use gather_core::{
@@ -83,15 +83,15 @@ fn summary_of<'k>(alloc: Global, krate: &'k Krate, lic_info: LicenseInfo) -> Opt
     Some(Summary { nfos })
 }
 
-fn put_answer(out: &mut AnswerText, answer: &Answer) {
+fn put_answer(out: &mut AnswerText, answer: &VerifyAnswer) {
     out.put(match answer {
-        Answer::Yes => "verified",
-        Answer::No(NoReason::Crates) => "the crates differ",
-        Answer::No(NoReason::Variant(_)) => "the verdict differs",
-        Answer::No(NoReason::NotAChoice(_)) => "the places are no choice",
-        Answer::No(NoReason::NotSatisfied(_)) => "an entry does not satisfy",
-        Answer::No(NoReason::HasHit(_)) => "a place has a hit",
-        Answer::No(NoReason::NotBlocking(_)) => "the places do not block",
+        VerifyAnswer::Yes => "verified",
+        VerifyAnswer::No(NoReason::Crates) => "the crates differ",
+        VerifyAnswer::No(NoReason::Variant(_)) => "the verdict differs",
+        VerifyAnswer::No(NoReason::NotAChoice(_)) => "the places are no choice",
+        VerifyAnswer::No(NoReason::NotSatisfied(_)) => "an entry does not satisfy",
+        VerifyAnswer::No(NoReason::HasHit(_)) => "a place has a hit",
+        VerifyAnswer::No(NoReason::NotBlocking(_)) => "the places do not block",
     });
 }
 

@@ -7,7 +7,7 @@ mod files;
 #[cfg(test)]
 mod keys;
 #[cfg(test)]
-mod licences;
+mod licenses;
 #[cfg(test)]
 mod listing;
 #[cfg(test)]

@@ -17,9 +17,9 @@ struct NamedEntry {
 /// A catalogue of licences that were listed when it was made.
 #[derive(Drop)]
 struct Listing {
-    licences: ListOf<NamedEntry>,
+    licenses: ListOf<NamedEntry>,
     ghost is_catalog: { IsCatalog (record {
-      licences = map (λ listed. (listed.name, listed.entry)) licences;
+      licenses = map (λ listed. (listed.name, listed.entry)) licenses;
       exceptions = [];
       imprecise = [];
     }) },
@@ -37,16 +37,16 @@ impl Listing {
     /// The catalogue of one licence.
     fn of_own(alloc: Global) -> Result<Listing, AllocError> {
         let name = Text::copy(alloc, "Own-1.0")?;
-        let mut licences = ListOf::new(alloc);
-        licences.push(NamedEntry { name, entry: OWN })?;
-        Ok(Listing { licences })
+        let mut licenses = ListOf::new(alloc);
+        licenses.push(NamedEntry { name, entry: OWN })?;
+        Ok(Listing { licenses })
     }
 }
 
-fn entry_among(licences: &[NamedEntry], name: &str) -> Option<LicenseEntry>
-    ensures { result ≡ entry_of (map (λ listed. (listed.name, listed.entry)) licences.now) name.now }
+fn entry_among(licenses: &[NamedEntry], name: &str) -> Option<LicenseEntry>
+    ensures { result ≡ entry_of (map (λ listed. (listed.name, listed.entry)) licenses.now) name.now }
 {
-    let (first, rest) = licences.split_first()?;
+    let (first, rest) = licenses.split_first()?;
     if name == first.name.as_str() {
         return Some(first.entry);
     }
@@ -55,7 +55,7 @@ fn entry_among(licences: &[NamedEntry], name: &str) -> Option<LicenseEntry>
 
 impl Catalog for Listing {
     ghost lists = { λ c. record {
-      licences = map (λ listed. (listed.name, listed.entry)) c.licences;
+      licenses = map (λ listed. (listed.name, listed.entry)) c.licenses;
       exceptions = [];
       imprecise = [];
     } };
@@ -63,7 +63,7 @@ impl Catalog for Listing {
     ghost lawful = { λ c. c.is_catalog };
 
     fn license(&self, name: &str) -> Option<LicenseEntry> {
-        entry_among(self.licences.items(), name)
+        entry_among(self.licenses.items(), name)
     }
 
     fn exception(&self, _name: &str) -> bool {

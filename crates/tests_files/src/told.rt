@@ -1,7 +1,7 @@
 //! What a program tells of a file: how many rows or cases it has, and what differs in them.
 ghost use Rattle.std.specs.Prelude.{◌≡◌, ◌↔◌, ◌+◌, ◌-◌, ◌^◌, min, IsTrue, IfOk, IfNone, OnOk, IsOkAnd, bytes_eq, if◌then◌else◌};
 ghost use Rattle.std.specs.Process.{exit_status};
-ghost use Rattle.tree_core.specs.Faults.{counted};
+ghost use Rattle.tree_core.specs.Faults.{next_count};
 
 use std::alloc::{AllocError, Global};
 use std::process::ExitCode;
@@ -51,7 +51,7 @@ impl Tally {
 
     /// Tells something of a line, which is counted from 1.
     pub fn tell(&mut self, file: &str, line: u64, what: &str) -> Result<(), AllocError>
-        ensures { self.new.times ≡ counted self.old.times }
+        ensures { self.new.times ≡ next_count self.old.times }
     {
         self.times = self.times.saturating_add(1);
         write!(self.differences, "{file}:{line}: {what}\n")
@@ -59,7 +59,7 @@ impl Tally {
 
     /// Tells that a line can't be read.
     pub fn tell_unread(&mut self, file: &str, line: u64, why: UnreadLine) -> Result<(), AllocError>
-        ensures { OnOk result (self.new.times ≡ counted self.old.times) }
+        ensures { OnOk result (self.new.times ≡ next_count self.old.times) }
     {
         match why {
             UnreadLine::Memory => Err(AllocError),
@@ -85,7 +85,7 @@ impl Tally {
         wanted: &str,
     ) -> Result<(), AllocError>
         ensures { self.new.times ≡
-            (if bytes_eq seen.now wanted.now then self.old.times else counted self.old.times) }
+            (if bytes_eq seen.now wanted.now then self.old.times else next_count self.old.times) }
     {
         if seen == wanted {
             return Ok(());
@@ -115,7 +115,7 @@ pub fn text_of<'b>(
     file: &str,
     bytes: &'b [u8],
 ) -> Result<Option<&'b str>, AllocError>
-    ensures { IfOk result (λ text. IfNone text (told.new.times ≡ counted told.old.times)) }
+    ensures { IfOk result (λ text. IfNone text (told.new.times ≡ next_count told.old.times)) }
 {
     match str::from_utf8(bytes) {
         Ok(text) => Ok(Some(text)),

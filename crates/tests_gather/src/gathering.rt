@@ -4,14 +4,14 @@ use crate::given::{OF_FEED, World, first_word, policy_of, world_of};
 use deny_text::{PathBuf, Span, Text};
 use diag_core::{Diag, Files, Label, LabelStyle};
 use gather_core::{Gatherer, KrateLicense, LicenseExprSource, LicenseInfo, Summary};
-use gather_licence::FileRef;
-use gather_licence::expression::{joined, scan_pack};
-use gather_licence::files::{LicensePack, TriedClarification};
-use gather_licence::location::{LocatedField, locate};
+use gather_license::FileRef;
+use gather_license::expression::{joined, scan_pack};
+use gather_license::files::{LicensePack, TriedClarification};
+use gather_license::location::{LocatedField, locate};
 use graph_core::selection::{ExcludeSpecs, Krates, Selection};
 use graph_metadata::records;
 use policy_core::valid::ValidConfig;
-use run_listing::list;
+use run_list_text::list;
 use run_request::{FromWord, Layout, OutputFormat};
 use spdx_core::Table;
 use std::alloc::Global;
@@ -73,9 +73,9 @@ pub fn put_reads(out: &mut AnswerText, reads: &[ReadRecord]) {
 
 /// A line for each crate, behind its id where there is more than one: its expression and where it comes from; each note behind
 /// a `#`; each read.
-fn put_licences(out: &mut AnswerText, licences: &[KrateLicense<'_>]) {
-    for license in licences {
-        if licences.len() > 1 {
+fn put_licenses(out: &mut AnswerText, licenses: &[KrateLicense<'_>]) {
+    for license in licenses {
+        if licenses.len() > 1 {
             write!(out, "{}: ", license.krate.id);
         }
         put_info(out, &license.lic_info);
@@ -147,11 +147,11 @@ fn gathered<'k>(
 }
 
 /// Puts the licence of each crate, what is found of each, or the text of the second file of the table.
-fn put_of(out: &mut AnswerText, key: &str, files: &Files, licences: &[KrateLicense<'_>]) {
+fn put_of(out: &mut AnswerText, key: &str, files: &Files, licenses: &[KrateLicense<'_>]) {
     match key {
-        "gathered" => put_licences(out, licences),
+        "gathered" => put_licenses(out, licenses),
         "found" => {
-            for license in licences {
+            for license in licenses {
                 put_findings(out, files, license.diags.items());
                 put_place(out, files, &license.lic_info);
             }

@@ -10,8 +10,8 @@ use gather_core::findings::{
     ExpressionBasis, PlacedFindings, SeenFiles, UnclarifiedCrate as Unsettled, find, missing_file,
     read_field,
 };
-use gather_licence::expression::{FileResult, IdentifiedName, ScannedFile};
-use gather_licence::location::locate;
+use gather_license::expression::{FileResult, IdentifiedName, ScannedFile};
+use gather_license::location::locate;
 use graph_core::Krate;
 use spdx_core::Table;
 use std::alloc::Global;

@@ -1,7 +1,7 @@
 //! Fields, their places in manifests and in expressions with slashes, and texts that are written in place of a manifest.
 use crate::given::{file_told, first_word, placed_text};
 use diag_core::texts::{FileNote, Synthetic, TextPiece, correct_span, license_span};
-use gather_licence::expression::field;
+use gather_license::expression::field;
 use spdx_core::Table;
 use std::alloc::{AllocError, Global};
 use tests_files::{AnswerText, Case, CaseEntry, ok, some};

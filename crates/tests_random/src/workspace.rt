@@ -96,7 +96,7 @@ fn push_manifest(
     push_file(files, path, text)
 }
 
-fn push_licence(
+fn push_license(
     alloc: Global,
     files: &mut Vec<MadeFile>,
     index: usize,
@@ -119,7 +119,7 @@ fn push_files(
         push_manifest(alloc, files, index, made)?;
     }
     if numbers.is_one_of(3) {
-        push_licence(alloc, files, index, numbers.pick(&TEXTS))?;
+        push_license(alloc, files, index, numbers.pick(&TEXTS))?;
     }
     Ok(())
 }

@@ -1,6 +1,6 @@
 //! Compares the runs of the cases of a file with what is wanted of them.
 ghost use Rattle.std.specs.Prelude.{◌≡◌};
-ghost use Rattle.tree_core.specs.Faults.{counted};
+ghost use Rattle.tree_core.specs.Faults.{next_count};
 
 use crate::command::command_of;
 use crate::seen::{is_seen, put_command, put_seen};
@@ -88,7 +88,7 @@ fn beginning(text: &str) -> &str {
 
 impl Comparison<'_> {
     fn tell(&mut self, line: u64, what: &str)
-        ensures { self.new.times ≡ counted self.old.times }
+        ensures { self.new.times ≡ next_count self.old.times }
     {
         self.times = self.times.saturating_add(1);
         write!(self.told, "{}:{line}: {what}\n", self.file);

@@ -5,7 +5,7 @@ ghost use Rattle.tree_core.specs.Faults.{count_after};
 use deny_text::Bytes;
 use std::alloc::Global;
 use tests_files::AnswerText;
-use tree_core::{Entries, MemTree, Sink, SinkFailed, Tree, TreeError};
+use tree_core::{FolderEntries, MemTree, Sink, SinkFailed, Tree, TreeError};
 
 /// A tree that counts its calls, and keeps a line for each: what was asked, the path, and the answer in a word.
 #[derive(Drop)]
@@ -70,7 +70,7 @@ impl Tree for CountedTree {
         answer
     }
 
-    fn list(&mut self, alloc: Global, path: &str) -> Result<Entries, TreeError> {
+    fn list(&mut self, alloc: Global, path: &str) -> Result<FolderEntries, TreeError> {
         let answer = self.tree.list(alloc, path);
         self.note("list", path, &answer, word_of(&answer, "entries"));
         answer

@@ -3,7 +3,7 @@ use crate::command::CommandEnd;
 use crate::counted::CountedSink;
 use crate::settings::Ending;
 use deny_run::{
-    Answer, Color, CrateReport, DiagPrinter, Diagnostics, Error, Format, LicenseExprSource,
+    VerifyAnswer, Color, CrateReport, DiagPrinter, Diagnostics, Error, Format, LicenseExprSource,
     LogContext, NoReason, Report, Request, RunEnd, ShapeErrors, Stats, StoreFault, SyntaxError,
     Verdict,
 };
@@ -339,15 +339,15 @@ pub fn put_command(out: &mut AnswerText, end: &Option<CommandEnd>) {
 }
 
 /// Puts whether a verdict file is right, and else the reason, with the id of the crate.
-fn put_answer(out: &mut AnswerText, answer: &Answer) {
+fn put_answer(out: &mut AnswerText, answer: &VerifyAnswer) {
     match answer {
-        Answer::Yes => out.put("verified"),
-        Answer::No(NoReason::Crates) => out.put("Crates"),
-        Answer::No(NoReason::Variant(id)) => write!(out, "Variant {id}"),
-        Answer::No(NoReason::NotAChoice(id)) => write!(out, "NotAChoice {id}"),
-        Answer::No(NoReason::NotSatisfied(id)) => write!(out, "NotSatisfied {id}"),
-        Answer::No(NoReason::HasHit(id)) => write!(out, "HasHit {id}"),
-        Answer::No(NoReason::NotBlocking(id)) => write!(out, "NotBlocking {id}"),
+        VerifyAnswer::Yes => out.put("verified"),
+        VerifyAnswer::No(NoReason::Crates) => out.put("Crates"),
+        VerifyAnswer::No(NoReason::Variant(id)) => write!(out, "Variant {id}"),
+        VerifyAnswer::No(NoReason::NotAChoice(id)) => write!(out, "NotAChoice {id}"),
+        VerifyAnswer::No(NoReason::NotSatisfied(id)) => write!(out, "NotSatisfied {id}"),
+        VerifyAnswer::No(NoReason::HasHit(id)) => write!(out, "HasHit {id}"),
+        VerifyAnswer::No(NoReason::NotBlocking(id)) => write!(out, "NotBlocking {id}"),
     }
 }
 

@@ -70,8 +70,8 @@ fn put_beginning(out: &mut AnswerText, text: &str) {
 pub fn compare(rt: &HostRuntime) -> bool {
     match texts::read(rt) {
         Ok(files) => {
-            let licences = compare_rows(rt, "spdx/licences.txt", &files);
-            compare_rows(rt, "spdx/catalogues.txt", &files) & licences
+            let licenses = compare_rows(rt, "spdx/licences.txt", &files);
+            compare_rows(rt, "spdx/catalogues.txt", &files) & licenses
         }
         Err(error) => {
             let _ = eprintln!(rt; "{error}");

@@ -1,6 +1,6 @@
 //! Files of an organisation's own catalogue, and folders of its texts.
 use deny_text::Bytes;
-use spdx_listing::{Listing, ListingError, StoreError, StoreFault, read_catalog, read_store};
+use spdx_own_names::{FileCatalog, ListingError, StoreError, StoreFault, read_catalog, read_store};
 use spdx_terms::catalog::{Catalog, Identifier, Table};
 use std::alloc::{AllocError, Global};
 use tests_files::AnswerText;
@@ -47,7 +47,7 @@ fn put_listing_error(out: &mut AnswerText, error: &ListingError) {
     }
 }
 
-fn read(alloc: Global, text: &str) -> Result<Listing, ListingError> {
+fn read(alloc: Global, text: &str) -> Result<FileCatalog, ListingError> {
     let bytes = bytes_of(alloc, text)?;
     read_catalog(alloc, bytes.items())
 }
@@ -68,7 +68,7 @@ fn count_lines(file: &str, start: &str) -> usize {
 }
 
 /// Whether a catalogue and the built-in one begin a text with all of it, and for the same licence.
-fn begin_alike(listing: &Listing, text: &str) -> bool {
+fn begin_alike(listing: &FileCatalog, text: &str) -> bool {
     match (Table.imprecise(text), listing.imprecise(text)) {
         (Some(found), Some(own)) => {
             found.len == text.len() && own.len == text.len() && found.name == own.name
@@ -78,7 +78,7 @@ fn begin_alike(listing: &Listing, text: &str) -> bool {
 }
 
 /// Whether the built-in catalogue has what a line lists, and a catalogue tells the same of it.
-fn is_as_built_in(listing: &Listing, line: &str) -> bool {
+fn is_as_built_in(listing: &FileCatalog, line: &str) -> bool {
     let (kind, rest) = line.split_once(' ').unwrap_or((line, ""));
     let (name, behind) = rest.split_once(' ').unwrap_or((rest, ""));
     match kind {
@@ -96,7 +96,7 @@ fn is_as_built_in(listing: &Listing, line: &str) -> bool {
 pub fn put_list(alloc: Global, out: &mut AnswerText, file: &str, built_in: &str) {
     match read_catalog(alloc, file.as_bytes()) {
         Ok(listing) => {
-            let licences = count_lines(file, "license ");
+            let licenses = count_lines(file, "license ");
             let exceptions = count_lines(file, "exception ");
             let texts = count_lines(file, "imprecise ");
             write!(

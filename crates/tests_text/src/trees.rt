@@ -7,7 +7,7 @@ use std::fs::{File, OpenFile};
 use std::rt::Files;
 use std::{fs, io};
 use tests_files::{AnswerText, Case, Cases, KeyAnswer};
-use tree_core::{Entries, Entry, FolderTree, MemSink, MemTree, Sink, Tree, TreeError, write_all};
+use tree_core::{FolderEntries, Entry, FolderTree, MemSink, MemTree, Sink, Tree, TreeError, write_all};
 
 /// Bytes of which none is alike at a distance that reads are likely to have.
 fn counted(alloc: Global, length: usize) -> Result<Vec<u8>, AllocError> {
@@ -89,7 +89,7 @@ fn put_entries(out: &mut AnswerText, entries: &[Entry]) {
 }
 
 /// Puts what a listing answers.
-pub fn put_list(out: &mut AnswerText, answer: Result<Entries, TreeError>) {
+pub fn put_list(out: &mut AnswerText, answer: Result<FolderEntries, TreeError>) {
     match &answer {
         Ok(entries) => put_entries(out, entries.items()),
         Err(error) => write!(out, "{error:?}"),

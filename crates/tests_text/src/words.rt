@@ -71,7 +71,7 @@ fn put_flag(out: &mut AnswerText, name: &str, is_set: bool) {
     }
 }
 
-fn put_check(out: &mut AnswerText, args: &check::Args) {
+fn put_check(out: &mut AnswerText, args: &check::CheckArgs) {
     out.put(" check");
     put_path(out, "graph", &args.graph);
     put_flag(out, "hide", args.hide_inclusion_graph);
@@ -125,7 +125,7 @@ fn put_request(out: &mut AnswerText, request: &Request) {
     }
 }
 
-fn put_list_args(out: &mut AnswerText, args: &list::Args) {
+fn put_list_args(out: &mut AnswerText, args: &list::ListArgs) {
     write!(
         out,
         "{} {:?} {:?}",
@@ -133,7 +133,7 @@ fn put_list_args(out: &mut AnswerText, args: &list::Args) {
     );
 }
 
-fn put_list(out: &mut AnswerText, parsed: &Result<list::Args, ArgsError>) {
+fn put_list(out: &mut AnswerText, parsed: &Result<list::ListArgs, ArgsError>) {
     match parsed {
         Ok(args) => put_list_args(out, args),
         Err(ArgsError::BadValue { option, value }) => write!(out, "{option}: {value}"),
@@ -143,8 +143,8 @@ fn put_list(out: &mut AnswerText, parsed: &Result<list::Args, ArgsError>) {
 
 fn put_listing(out: &mut AnswerText, alloc: Global, text: &str) -> MemoryResult {
     let words = words_of(alloc, "cargo-deny", text)?;
-    match list::Args::cmd(alloc)?.try_get_matches_from(&words) {
-        Ok(matches) => put_list(out, &list::Args::parse(alloc, &matches)),
+    match list::ListArgs::cmd(alloc)?.try_get_matches_from(&words) {
+        Ok(matches) => put_list(out, &list::ListArgs::parse(alloc, &matches)),
         Err(_) => out.put("not taken"),
     }
     Ok(())

@@ -11,7 +11,7 @@ use Rattle.toml_subset.specs.Answer.{TomlReading, then_read}
 use Rattle.toml_subset.specs.Bytes.{backslash, may_stand}
 use Rattle.toml_subset.specs.Places.{front_is, from_to, passes_at, stands, behind_line_end}
 use Rattle.toml_subset.specs.StringReading.{Pieces, after_part, part_fault, read_pieces, string_from}
-use Rattle.toml_subset.specs.StringViews.{is_plain_part, IsPlainRun, onto, IsStringRead}
+use Rattle.toml_subset.specs.StringViews.{is_plain_part, IsPlainRun, pieces_after, IsStringRead}
 use Rattle.toml_subset.specs.Strings.{Quoting, basic, literal, long_basic, long_literal, written_of, mark_of, is_long, has_escapes, marks_in_row, StringPiece, StringPart, piece, closing, broken, plain_piece, escape_at, mark_at, plain_at, part_at, pieces_text}
 use Rattle.toml_subset.proofs.Runs.{byte_passes}
 use Rattle.toml_subset.proofs.Law.Basics.{if_false}
@@ -76,7 +76,7 @@ or_assoc true b c = refl
 or_assoc false b c = refl
 
 onto_piece : (before : List StringPiece) (p : StringPiece) (r : TomlReading Pieces)
-    → then_read (onto before) (then_read (λ (x : Pieces). Ok (p ∷ x.0, x.1, x.2)) r) ≡ then_read (onto (before ++ p ∷ [])) r
+    → then_read (pieces_after before) (then_read (λ (x : Pieces). Ok (p ∷ x.0, x.1, x.2)) r) ≡ then_read (pieces_after (before ++ p ∷ [])) r
 onto_piece before p (Err fault) = refl
 onto_piece before p (Ok r) = ap (λ (x : List StringPiece). Ok (x, r.1, r.2)) (sym (append_assoc before (p ∷ []) r.0))
 
@@ -90,14 +90,14 @@ any-append (q ∷ qs) p = ap (λ x. q.escape || x) (any-append qs p) ∙ or_asso
 
 read_more : (kind : Quoting) (text : List ℕ) (first : ℕ) (means : List ℕ) (escaped : Bool) (i : ℕ) (p : StringPiece) (next left : ℕ) (is : IsStringRead kind text first means escaped i) → i ≤ length text
     → part_at kind text i ≡ piece p next → length text < i + left
-    → read_pieces (suc (length text)) kind text first ≡ then_read (onto is.before) (read_pieces left kind text i)
+    → read_pieces (suc (length text)) kind text first ≡ then_read (pieces_after is.before) (read_pieces left kind text i)
     → IsStringRead kind text first (means ++ p.means) (escaped || p.escape) next
 read_more kind text first means escaped i p next zero is inside part room e = absurd (omega arith)
 read_more kind text first means escaped i p next (suc n) is inside part room e = record {
   before = is.before ++ p ∷ [];
   left = n;
   room = let goes = piece_goes kind text i p next part in omega arith;
-  is = e ∙ ap (λ (q : StringPart). then_read (onto is.before) (after_part kind text i (read_pieces n kind text) q)) part ∙ onto_piece is.before p (read_pieces n kind text next);
+  is = e ∙ ap (λ (q : StringPart). then_read (pieces_after is.before) (after_part kind text i (read_pieces n kind text) q)) part ∙ onto_piece is.before p (read_pieces n kind text next);
   text_so_far = text_of-append is.before p ∙ ap (λ x. x ++ p.means) is.text_so_far;
   escapes_so_far = any-append is.before p ∙ ap (λ x. x || p.escape) is.escapes_so_far;
 }
@@ -107,7 +107,7 @@ pub read_piece : (kind : Quoting) (text : List ℕ) (first : ℕ) (means : List 
     → IsStringRead kind text first means escaped i → part_at kind text i ≡ piece p next → IsStringRead kind text first (means ++ p.means) (escaped || p.escape) next
 read_piece kind text first means escaped i p next inside is part = read_more kind text first means escaped i p next is.left is inside part is.room is.is
 
-onto_none : (r : TomlReading Pieces) → r ≡ then_read (onto []) r
+onto_none : (r : TomlReading Pieces) → r ≡ then_read (pieces_after []) r
 onto_none (Ok r) = refl
 onto_none (Err fault) = refl
 
@@ -160,12 +160,12 @@ read_run kind text first means escaped i j inside is run =
 
 closed_by : (kind : Quoting) (text : List ℕ) (first : ℕ) (means : List ℕ) (escaped : Bool) (i next left : ℕ) (is : IsStringRead kind text first means escaped i) → i ≤ length text
     → part_at kind text i ≡ closing next → length text < i + left
-    → read_pieces (suc (length text)) kind text first ≡ then_read (onto is.before) (read_pieces left kind text i)
+    → read_pieces (suc (length text)) kind text first ≡ then_read (pieces_after is.before) (read_pieces left kind text i)
     → string_from text (kind, first) ≡ Ok (record { text = means; escaped = escaped }, from_to first i, next)
 closed_by kind text first means escaped i next zero is inside part room e = absurd (omega arith)
 closed_by kind text first means escaped i next (suc n) is inside part room e =
     ap (then_read (λ (r : Pieces). Ok (written_of r.0, from_to first r.1, r.2)))
-    (e ∙ ap (λ (q : StringPart). then_read (onto is.before) (after_part kind text i (read_pieces n kind text) q)) part)
+    (e ∙ ap (λ (q : StringPart). then_read (pieces_after is.before) (after_part kind text i (read_pieces n kind text) q)) part)
     ∙ ap (λ (ps : List StringPiece). Ok (written_of ps, from_to first i, next)) (append-nil is.before)
     ∙ ap (λ (s : List ℕ). Ok (record { text = s; escaped = list_any (λ (p : StringPiece). p.escape) is.before }, from_to first i, next)) is.text_so_far
     ∙ ap (λ (b : Bool). Ok (record { text = means; escaped = b }, from_to first i, next)) is.escapes_so_far
@@ -177,12 +177,12 @@ string_closed kind text first means escaped i next inside is part = closed_by ki
 
 broken_by : (kind : Quoting) (text : List ℕ) (first : ℕ) (means : List ℕ) (escaped : Bool) (i left : ℕ) (is : IsStringRead kind text first means escaped i) → i ≤ length text
     → part_at kind text i ≡ broken → length text < i + left
-    → read_pieces (suc (length text)) kind text first ≡ then_read (onto is.before) (read_pieces left kind text i)
+    → read_pieces (suc (length text)) kind text first ≡ then_read (pieces_after is.before) (read_pieces left kind text i)
     → string_from text (kind, first) ≡ Err (part_fault kind text i)
 broken_by kind text first means escaped i zero is inside part room e = absurd (omega arith)
 broken_by kind text first means escaped i (suc n) is inside part room e =
     ap (then_read (λ (r : Pieces). Ok (written_of r.0, from_to first r.1, r.2)))
-    (e ∙ ap (λ (q : StringPart). then_read (onto is.before) (after_part kind text i (read_pieces n kind text) q)) part)
+    (e ∙ ap (λ (q : StringPart). then_read (pieces_after is.before) (after_part kind text i (read_pieces n kind text) q)) part)
 
 pub string_broken : (kind : Quoting) (text : List ℕ) (first : ℕ) (means : List ℕ) (escaped : Bool) (i : ℕ) → i ≤ length text
     → IsStringRead kind text first means escaped i → part_at kind text i ≡ broken → string_from text (kind, first) ≡ Err (part_fault kind text i)

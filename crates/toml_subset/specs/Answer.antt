@@ -14,8 +14,8 @@ abbrev pub fault_at : SyntaxReason → ℕ → ℕ → SyntaxError
 fault_at reason i j = record { reason = reason; span = from_to i j }
 
 -- Nothing can go on at a place: another character stands there, or the text ends.
-abbrev pub stuck : List ℕ → ℕ → SyntaxError
-stuck text i =
+abbrev pub stop_error : List ℕ → ℕ → SyntaxError
+stop_error text i =
     if nat_lt i (length text) then fault_at Unexpected i (char_end text i) else fault_at UnexpectedEnd (length text) (length text)
 
 -- reading on behind what was read
@@ -24,9 +24,9 @@ then_read rest (Ok x) = rest x
 then_read rest (Err fault) = Err fault
 
 -- a fault that is found before anything further is read
-abbrev pub unless : {A : Type 0} → Option SyntaxError → TomlReading A → TomlReading A
-unless (Some fault) answer = Err fault
-unless None answer = answer
+abbrev pub fault_or : {A : Type 0} → Option SyntaxError → TomlReading A → TomlReading A
+fault_or (Some fault) answer = Err fault
+fault_or None answer = answer
 
 -- what the program answers, seen by `view`, is what reading answers
 abbrev pub AnswersSyntax : {A B : Type 0} → (B → A) → TomlReading A → Result B SyntaxError → Type 0

@@ -5,7 +5,7 @@ use Rattle.toml_subset.specs.Bytes.{open_bracket, close_bracket}
 use Rattle.toml_subset.specs.Keys.{AreKeys}
 use Rattle.toml_subset.specs.Places.{from_to, stands, after_blanks, next_line}
 use Rattle.toml_subset.specs.Raw.{Raw, IsPair}
-use Rattle.toml_subset.specs.Tables.{Branches, unbranched, closed, implicit, along, put, through_any, open_table, open_array, within, meant}
+use Rattle.toml_subset.specs.Tables.{Branches, unbranched, closed, implicit, edit_along, branches_with_value, through_any, open_table, open_array, edit_within, meant}
 use Rattle.toml_subset.specs.declared.string.Key.{Key}
 
 -- what a line says; headers have the span from bracket to bracket
@@ -55,11 +55,11 @@ after_line blank_line document = Some document
 after_line (pair keys span value) document =
     option_and_then (λ content.
     option_map (λ root. record { root = root; section = document.section })
-    (within document.section (put keys (closed span content)) document.root)) (meant value)
+    (edit_within document.section (branches_with_value keys (closed span content)) document.root)) (meant value)
 after_line (table_header span keys) document =
-    option_map (λ root. record { root = root; section = keys }) (along implicit through_any (open_table span) keys document.root)
+    option_map (λ root. record { root = root; section = keys }) (edit_along implicit through_any (open_table span) keys document.root)
 after_line (array_header span keys) document =
-    option_map (λ root. record { root = root; section = keys }) (along implicit through_any (open_array span) keys document.root)
+    option_map (λ root. record { root = root; section = keys }) (edit_along implicit through_any (open_array span) keys document.root)
 
 -- what some lines make of a document, one after another
 abbrev pub after_lines : List Statement → Document → Option Document

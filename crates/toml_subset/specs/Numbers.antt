@@ -120,8 +120,8 @@ abbrev pub in_range : Bool → ℕ → Bool
 in_range negative n = if negative then nat_le n (2 ^ 63) else nat_lt n (2 ^ 63)
 
 -- a number of a form that is read, or out of range
-abbrev pub ranged : (ℤ → Class) → Bool → ℕ → Class
-ranged make negative n = if in_range negative n then make (with_sign negative n) else number_range
+abbrev pub number_class : (ℤ → Class) → Bool → ℕ → Class
+number_class make negative n = if in_range negative n then make (with_sign negative n) else number_range
 
 -- a decimal in whole hundredths, its sign apart
 abbrev pub decimal_count : List ℕ → ℕ
@@ -129,13 +129,13 @@ decimal_count s = 100 * count 10 (whole_part s) + hundredths (fraction s)
 
 -- an integer in a base that its front named
 abbrev pub based_form : ℕ → List ℕ → Class
-based_form base digits = if are_grouped base digits then ranged integer false (count base digits) else number_form
+based_form base digits = if are_grouped base digits then number_class integer false (count base digits) else number_form
 
 -- a run without a base at its front: an integer, a decimal, or neither
 abbrev pub decimal_or_whole : List ℕ → Class
 decimal_or_whole run =
-    if is_whole (unsigned run) then ranged integer (is_negative run) (count 10 (unsigned run))
-    else (if is_decimal (unsigned run) then ranged decimal (is_negative run) (decimal_count (unsigned run)) else number_form)
+    if is_whole (unsigned run) then number_class integer (is_negative run) (count 10 (unsigned run))
+    else (if is_decimal (unsigned run) then number_class decimal (is_negative run) (decimal_count (unsigned run)) else number_form)
 
 -- the form of a run that is not unsupported
 abbrev pub form_of : List ℕ → Class

@@ -2,7 +2,7 @@
 use Rattle.std.specs.Prelude.{ℕ, zero, suc, ◌+◌, Bool, ◌||◌, ◌&&◌, ◌==◌, nat_le, nat_lt, if◌then◌else◌, false, List, [], ◌∷◌, Some, None, Ok, Err, length, take, drop}
 use Rattle.std.specs.List.{prefix_len}
 use Rattle.deny_text.specs.declared.span.Span.{Span}
-use Rattle.toml_subset.specs.Answer.{TomlReading, fault_at, stuck, then_read}
+use Rattle.toml_subset.specs.Answer.{TomlReading, fault_at, stop_error, then_read}
 use Rattle.toml_subset.specs.Bytes.{quote, apostrophe, backslash, dot, equals, is_bare}
 use Rattle.toml_subset.specs.Numbers.{is_digit_in}
 use Rattle.toml_subset.specs.Places.{from_to, passes_at, stands, run_end, run_at, after_blanks, char_end}
@@ -17,7 +17,7 @@ abbrev pub scalar_fault : ℕ → List ℕ → ℕ → SyntaxError
 scalar_fault digits text i =
     let found = prefix_len (is_digit_in 16) (take digits (drop (i + 2) text)) in
     if found == digits then fault_at InvalidEscape i (i + 2 + digits)
-    else (if nat_lt (i + 2 + found) (length text) then fault_at InvalidEscape i (char_end text (i + 2 + found)) else stuck text (length text))
+    else (if nat_lt (i + 2 + found) (length text) then fault_at InvalidEscape i (char_end text (i + 2 + found)) else stop_error text (length text))
 
 -- whether the text ends before an escape does: behind the backslash, or behind the blanks that follow it in a long string
 abbrev pub escape_is_cut : Quoting → List ℕ → ℕ → Bool
@@ -27,15 +27,15 @@ abbrev pub escape_fault : Quoting → List ℕ → ℕ → SyntaxError
 escape_fault kind text i =
     if stands text (i + 1) 117 then scalar_fault 4 text i
     else (if stands text (i + 1) 85 then scalar_fault 8 text i
-    else (if escape_is_cut kind text i then stuck text (length text) else fault_at InvalidEscape i (char_end text (i + 1))))
+    else (if escape_is_cut kind text i then stop_error text (length text) else fault_at InvalidEscape i (char_end text (i + 1))))
 
 -- What breaks a string at a place: a sixth mark in a row, an escape, a character that may not stand in it, or the text's
 -- end.
 abbrev pub part_fault : Quoting → List ℕ → ℕ → SyntaxError
 part_fault kind text i =
-    if stands text i (mark_of kind) then stuck text (i + 5)
+    if stands text i (mark_of kind) then stop_error text (i + 5)
     else (if has_escapes kind && stands text i backslash then escape_fault kind text i
-    else (if nat_lt i (length text) then fault_at ControlCharacter i (i + 1) else stuck text i))
+    else (if nat_lt i (length text) then fault_at ControlCharacter i (i + 1) else stop_error text i))
 
 -- the pieces of a string up to its closing, the closing's place, and the place behind it
 abbrev pub Pieces : Type 0
@@ -48,7 +48,7 @@ after_part kind text i rest broken = Err (part_fault kind text i)
 
 -- The number bounds how often reading calls itself, here and below. A larger one than is given changes no answer.
 abbrev pub read_pieces : ℕ → Quoting → List ℕ → ℕ → TomlReading Pieces
-read_pieces zero kind text i = Err (stuck text i)
+read_pieces zero kind text i = Err (stop_error text i)
 read_pieces (suc n) kind text i = after_part kind text i (read_pieces n kind text) (part_at kind text i)
 
 -- a string, its span between the delimiters, and the place behind it
@@ -60,7 +60,7 @@ string_from text first =
     then_read (λ (r : Pieces). Ok (written_of r.0, from_to first.1 r.1, r.2)) (read_pieces (suc (length text)) first.0 text first.1)
 
 abbrev pub read_string : List ℕ → ℕ → TomlReading StringFound
-read_string text i = elim (opening text i) [ Some first ↦ string_from text first | None ↦ Err (stuck text i) ]
+read_string text i = elim (opening text i) [ Some first ↦ string_from text first | None ↦ Err (stop_error text i) ]
 
 abbrev pub begins_long : List ℕ → ℕ → Bool
 begins_long text i = nat_le 3 (marks_in_row quote text i) || nat_le 3 (marks_in_row apostrophe text i)
@@ -75,7 +75,7 @@ bare_key text i =
 -- three marks begin no key
 abbrev pub quoted_key : List ℕ → ℕ → TomlReading KeyFound
 quoted_key text i =
-    if begins_long text i then Err (stuck text (i + 2))
+    if begins_long text i then Err (stop_error text (i + 2))
     else then_read (λ (r : StringFound). Ok (record { name = r.0; span = r.1 }, r.2)) (read_string text i)
 
 -- a part of a key
@@ -93,7 +93,7 @@ keys_behind rest text key =
     else Ok (key.0 ∷ [], key.1)
 
 abbrev pub read_keys : ℕ → List ℕ → ℕ → TomlReading KeysFound
-read_keys zero text i = Err (stuck text i)
+read_keys zero text i = Err (stop_error text i)
 read_keys (suc n) text i = then_read (keys_behind (read_keys n text) text) (read_key text i)
 
 -- all parts of a key
@@ -104,7 +104,7 @@ keys_at text = read_keys (suc (length text)) text
 abbrev pub equals_behind : List ℕ → KeysFound → TomlReading KeysFound
 equals_behind text keys =
     if stands text (after_blanks text keys.1) equals then Ok (keys.0, after_blanks text (after_blanks text keys.1 + 1))
-    else Err (stuck text (after_blanks text keys.1))
+    else Err (stop_error text (after_blanks text keys.1))
 
 abbrev pub read_left : List ℕ → ℕ → TomlReading KeysFound
 read_left text i = then_read (equals_behind text) (keys_at text i)

@@ -18,8 +18,8 @@ kind_of Literal = literal
 kind_of LongBasic = long_basic
 kind_of LongLiteral = long_literal
 
-abbrev pub opened : Quotes × ℕ → Quoting × ℕ
-opened first = (kind_of first.0, first.1)
+abbrev pub quoting_start : Quotes × ℕ → Quoting × ℕ
+quoting_start first = (kind_of first.0, first.1)
 
 -- the bytes of a character, if there is one
 abbrev pub meaning_of : Option ℕ → List ℕ
@@ -63,14 +63,14 @@ pub record IsPlainRun (kind : Quoting) (text : List ℕ) (i j : ℕ) : Type 0 wh
   pub ordered : i ≤ j
   pub plain : (k : ℕ) → i ≤ k → k < j → is_plain_part (part_at kind text k) ≡ true
 
-abbrev pub onto : List StringPiece → Pieces → TomlReading Pieces
-onto before r = Ok (before ++ r.0, r.1, r.2)
+abbrev pub pieces_after : List StringPiece → Pieces → TomlReading Pieces
+pieces_after before r = Ok (before ++ r.0, r.1, r.2)
 
 -- a string was read up to a place, so that its text so far, and whether an escape was read, are these
 pub record IsStringRead (kind : Quoting) (text : List ℕ) (first : ℕ) (means : List ℕ) (escaped : Bool) (i : ℕ) : Type 0 where
   pub before : List StringPiece
   pub left : ℕ
   pub room : length text < i + left
-  pub is : read_pieces (suc (length text)) kind text first ≡ then_read (onto before) (read_pieces left kind text i)
+  pub is : read_pieces (suc (length text)) kind text first ≡ then_read (pieces_after before) (read_pieces left kind text i)
   pub text_so_far : pieces_text before ≡ means
   pub escapes_so_far : list_any (λ (p : StringPiece). p.escape) before ≡ escaped

@@ -7,8 +7,8 @@ use Rattle.toml_subset.specs.declared.error.SyntaxReason.{SyntaxReason}
 use Rattle.toml_subset.specs.declared.error.SyntaxReason.TheVariants.{DuplicateKey, RedefinedTable, TooDeep}
 use Rattle.toml_subset.specs.declared.string.Key.{Key}
 
-abbrev pub refused : SyntaxReason → Key → Option SyntaxError
-refused reason key = Some (record { reason = reason; span = key.span })
+abbrev pub fault_at_key : SyntaxReason → Key → Option SyntaxError
+fault_at_key reason key = Some (record { reason = reason; span = key.span })
 
 abbrev pub table_node_at : Key → Branches → Option Node
 table_node_at key unbranched = None
@@ -45,13 +45,13 @@ way_fault inside end (key ∷ next ∷ more) branches above =
     elim (table_node_at key branches) [
       | Some node ↦ elim (inside node) [
         | Some found ↦ way_fault inside end (next ∷ more) found.0 (above + found.1)
-        | None ↦ refused RedefinedTable key
+        | None ↦ fault_at_key RedefinedTable key
       ]
-      | None ↦ (if above == depth_limit then refused TooDeep key else way_fault inside end (next ∷ more) unbranched (above + 1))
+      | None ↦ (if above == depth_limit then fault_at_key TooDeep key else way_fault inside end (next ∷ more) unbranched (above + 1))
     ]
 
 abbrev pub new_key_fault : Key → Branches → ℕ → Option SyntaxError
-new_key_fault key branches above = if has_key key branches then refused DuplicateKey key else None
+new_key_fault key branches above = if has_key key branches then fault_at_key DuplicateKey key else None
 
 -- a value's key
 abbrev pub put_fault : List Key → Branches → ℕ → Option SyntaxError
@@ -59,17 +59,17 @@ put_fault = way_fault inside_dotted new_key_fault
 
 -- the table of a header takes over an implicit one, or is new
 abbrev pub taken_over_fault : Key → Node → Option SyntaxError
-taken_over_fault key (closed span content) = refused RedefinedTable key
-taken_over_fault key (growing span by_header branches) = refused RedefinedTable key
+taken_over_fault key (closed span content) = fault_at_key RedefinedTable key
+taken_over_fault key (growing span by_header branches) = fault_at_key RedefinedTable key
 taken_over_fault key (growing span implicit branches) = None
-taken_over_fault key (growing span dotted branches) = refused RedefinedTable key
-taken_over_fault key (tables span bodies) = refused RedefinedTable key
+taken_over_fault key (growing span dotted branches) = fault_at_key RedefinedTable key
+taken_over_fault key (tables span bodies) = fault_at_key RedefinedTable key
 
 abbrev pub open_table_fault : Key → Branches → ℕ → Option SyntaxError
 open_table_fault key branches above =
     elim (table_node_at key branches) [
       | Some node ↦ taken_over_fault key node
-      | None ↦ (if above == depth_limit then refused TooDeep key else None)
+      | None ↦ (if above == depth_limit then fault_at_key TooDeep key else None)
     ]
 
 abbrev pub header_fault : List Key → Branches → Option SyntaxError
@@ -77,15 +77,15 @@ header_fault keys root = way_fault inside_any open_table_fault keys root 0
 
 -- the table of an array header is a further one of its array, or the first of a new one, which stands around it
 abbrev pub appended_fault : Key → Node → Option SyntaxError
-appended_fault key (closed span content) = refused RedefinedTable key
-appended_fault key (growing span mark branches) = refused RedefinedTable key
+appended_fault key (closed span content) = fault_at_key RedefinedTable key
+appended_fault key (growing span mark branches) = fault_at_key RedefinedTable key
 appended_fault key (tables span bodies) = None
 
 abbrev pub open_array_fault : Key → Branches → ℕ → Option SyntaxError
 open_array_fault key branches above =
     elim (table_node_at key branches) [
       | Some node ↦ appended_fault key node
-      | None ↦ (if nat_lt (above + 1) depth_limit then None else refused TooDeep key)
+      | None ↦ (if nat_lt (above + 1) depth_limit then None else fault_at_key TooDeep key)
     ]
 
 abbrev pub array_header_fault : List Key → Branches → Option SyntaxError

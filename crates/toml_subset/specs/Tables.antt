@@ -60,16 +60,16 @@ has_key key unbranched = false
 has_key key (branch other node more) = if same_key key other then true else has_key key more
 
 -- a further key, at the end
-abbrev pub added : Key → Node → Branches → Branches
-added key node unbranched = branch key node unbranched
-added key node (branch other here more) = branch other here (added key node more)
+abbrev pub branches_with_key : Key → Node → Branches → Branches
+branches_with_key key node unbranched = branch key node unbranched
+branches_with_key key node (branch other here more) = branch other here (branches_with_key key node more)
 
 -- The table with an edit at a key. The entry keeps the key that first made it.
-abbrev pub changed : (Node → Option Node) → Key → Branches → Option Branches
-changed edit key unbranched = None
-changed edit key (branch other node more) =
+abbrev pub branches_with_edit : (Node → Option Node) → Key → Branches → Option Branches
+branches_with_edit edit key unbranched = None
+branches_with_edit edit key (branch other node more) =
     if same_key key other then option_map (λ new. branch other new more) (edit node)
-    else option_map (branch other node) (changed edit key more)
+    else option_map (branch other node) (branches_with_edit edit key more)
 
 -- an edit in the last table of an array of tables
 abbrev pub in_last : (Branches → Option Branches) → Bodies → Option Bodies
@@ -93,22 +93,22 @@ through_dotted edit (tables span bodies) = None
 
 -- An edit at the last of some keys. Tables that are absent on the way are made with a mark, and stand at the key part
 -- that made them; `through` says which tables the way may go through.
-abbrev pub along : Mark → ((Branches → Option Branches) → Node → Option Node) → (Key → Branches → Option Branches) → List Key → Branches → Option Branches
-along mark through edit [] branches = None
-along mark through edit (key ∷ []) branches = edit key branches
-along mark through edit (key ∷ next ∷ more) branches =
+abbrev pub edit_along : Mark → ((Branches → Option Branches) → Node → Option Node) → (Key → Branches → Option Branches) → List Key → Branches → Option Branches
+edit_along mark through edit [] branches = None
+edit_along mark through edit (key ∷ []) branches = edit key branches
+edit_along mark through edit (key ∷ next ∷ more) branches =
     elim (has_key key branches) [
-      | true ↦ changed (through (along mark through edit (next ∷ more))) key branches
-      | false ↦ option_map (λ inner. added key (growing key.span mark inner) branches) (along mark through edit (next ∷ more) unbranched)
+      | true ↦ branches_with_edit (through (edit_along mark through edit (next ∷ more))) key branches
+      | false ↦ option_map (λ inner. branches_with_key key (growing key.span mark inner) branches) (edit_along mark through edit (next ∷ more) unbranched)
     ]
 
 -- a key that its table has is refused
 abbrev pub put_new : Node → Key → Branches → Option Branches
-put_new node key branches = if has_key key branches then None else Some (added key node branches)
+put_new node key branches = if has_key key branches then None else Some (branches_with_key key node branches)
 
 -- a value at the end of a dotted key
-abbrev pub put : List Key → Node → Branches → Option Branches
-put keys node = along dotted through_dotted (put_new node) keys
+abbrev pub branches_with_value : List Key → Node → Branches → Option Branches
+branches_with_value keys node = edit_along dotted through_dotted (put_new node) keys
 
 -- a header takes over an implicit table, once, and is refused on any other value
 abbrev pub take_over : Span → Node → Option Node
@@ -120,7 +120,7 @@ take_over at (tables span bodies) = None
 
 abbrev pub open_table : Span → Key → Branches → Option Branches
 open_table at key branches =
-    if has_key key branches then changed (take_over at) key branches else Some (added key (growing at by_header unbranched) branches)
+    if has_key key branches then branches_with_edit (take_over at) key branches else Some (branches_with_key key (growing at by_header unbranched) branches)
 
 abbrev pub with_table : Span → Bodies → Bodies
 with_table at (last span branches) = body span branches (last at unbranched)
@@ -134,12 +134,12 @@ append_to at (tables span bodies) = Some (tables span (with_table at bodies))
 
 abbrev pub open_array : Span → Key → Branches → Option Branches
 open_array at key branches =
-    if has_key key branches then changed (append_to at) key branches else Some (added key (tables at (last at unbranched)) branches)
+    if has_key key branches then branches_with_edit (append_to at) key branches else Some (branches_with_key key (tables at (last at unbranched)) branches)
 
 -- an edit in the table that a header opened
-abbrev pub within : List Key → (Branches → Option Branches) → Branches → Option Branches
-within [] edit = edit
-within (key ∷ more) edit = changed (through_any (within more edit)) key
+abbrev pub edit_within : List Key → (Branches → Option Branches) → Branches → Option Branches
+edit_within [] edit = edit
+edit_within (key ∷ more) edit = branches_with_edit (through_any (edit_within more edit)) key
 
 -- What a value as written stands for. The keys of an inline table keep the same rules as those of a body.
 abbrev mutual
@@ -159,4 +159,4 @@ abbrev mutual
   pub entries_meant : RawEntries → Branches → Option Branches
   entries_meant raw_empty branches = Some branches
   entries_meant (raw_entry keys span value more) branches =
-      option_and_then (λ content. option_and_then (entries_meant more) (put keys (closed span content) branches)) (meant value)
+      option_and_then (λ content. option_and_then (entries_meant more) (branches_with_value keys (closed span content) branches)) (meant value)

@@ -1,6 +1,6 @@
 //! Faults at a place, as all readers answer them.
 ghost use Rattle.std.specs.Prelude.{◌≡◌, ◌+◌, ◌<◌, length};
-ghost use Rattle.toml_subset.specs.Answer.{fault_at as fault_from, stuck as stuck_at};
+ghost use Rattle.toml_subset.specs.Answer.{fault_at as fault_from, stop_error as stuck_at};
 
 use crate::error::{SyntaxError, SyntaxReason};
 use crate::scan::char_end;

@@ -4,10 +4,10 @@ ghost use Rattle.deny_text.specs.declared.span.Span.{Span};
 ghost use Rattle.toml_subset.specs.Data.{TomlContent, Toml, depth_limit};
 ghost use Rattle.toml_subset.specs.declared.error.SyntaxError.{SyntaxError};
 ghost use Rattle.deny_text.specs.Spans.{LiesIn};
-ghost use Rattle.toml_subset.specs.Reading.{enough, read_value, value_at, read_text};
+ghost use Rattle.toml_subset.specs.Reading.{call_bound, read_value, value_at, read_text};
 ghost use Rattle.toml_subset.specs.Strings.{Quoting, IsString};
 ghost use Rattle.toml_subset.specs.TableFaults.{put_fault, header_fault, array_header_fault};
-ghost use Rattle.toml_subset.specs.Tables.{Node, Branches, implicit, along, through_any, put, open_table};
+ghost use Rattle.toml_subset.specs.Tables.{Node, Branches, implicit, edit_along, through_any, branches_with_value, open_table};
 ghost use Rattle.toml_subset.specs.Tables.{open_array};
 ghost use Rattle.toml_subset.specs.declared.string.Key.{Key};
 ghost use Rattle.toml_subset.specs.Text.{IsText, StandsAs};
@@ -30,7 +30,7 @@ pub fn reading_a_value_answers_where_one_stands()
 
 /// A larger bound on how often reading a value calls itself changes no answer.
 pub fn more_calls_change_no_answer()
-    ensures { (text : List ℕ) (above i n : ℕ) → above ≤ depth_limit → enough text ≤ n
+    ensures { (text : List ℕ) (above i n : ℕ) → above ≤ depth_limit → call_bound text ≤ n
         → read_value n text above i ≡ value_at text above i }
 {}
 
@@ -43,17 +43,17 @@ pub fn faults_lie_in_the_text()
 pub fn keys_without_a_fault_are_put()
     ensures { (keys : List Key) (node : Node) (branches : Branches) (above : ℕ)
         → 0 < length keys → put_fault keys branches above ≡ None
-        → (new : Branches) × (put keys node branches ≡ Some new) }
+        → (new : Branches) × (branches_with_value keys node branches ≡ Some new) }
 {}
 
 /// The table of a header that no part is refused of is opened.
 pub fn headers_without_a_fault_are_opened()
     ensures tables { (at : Span) (keys : List Key) (root : Branches) → 0 < length keys
         → header_fault keys root ≡ None
-        → (new : Branches) × (along implicit through_any (open_table at) keys root ≡ Some new) }
+        → (new : Branches) × (edit_along implicit through_any (open_table at) keys root ≡ Some new) }
     ensures arrays { (at : Span) (keys : List Key) (root : Branches) → 0 < length keys
         → array_header_fault keys root ≡ None
-        → (new : Branches) × (along implicit through_any (open_array at) keys root ≡ Some new) }
+        → (new : Branches) × (edit_along implicit through_any (open_array at) keys root ≡ Some new) }
 {}
 
 /// A text stands for at most one value.

@@ -12,7 +12,7 @@ ghost use Rattle.toml_subset.specs.StringReading.{scalar_fault as fault_of_scala
 ghost use Rattle.toml_subset.specs.StringReading.{escape_fault as fault_of_escape};
 ghost use Rattle.toml_subset.specs.StringReading.{part_fault as fault_of_part, string_from};
 ghost use Rattle.toml_subset.specs.StringReading.{read_string as string_at};
-ghost use Rattle.toml_subset.specs.StringViews.{kind_of, opened, meaning_of, part_of, is_plain_part as plain};
+ghost use Rattle.toml_subset.specs.StringViews.{kind_of, quoting_start, meaning_of, part_of, is_plain_part as plain};
 ghost use Rattle.toml_subset.specs.StringViews.{GoesOn, EndsOnBorder, ClosesWithin, kept_at, IsPlainRun};
 ghost use Rattle.toml_subset.specs.StringViews.{IsStringRead};
 ghost use Rattle.toml_subset.specs.Strings.{mark_of, is_long as long_kind, has_escapes as escapes_in};
@@ -102,7 +102,7 @@ pub fn has_three(text: &[u8], place: usize, mark: u8) -> bool
 /// The kind of the string that begins at a place, and where its first piece stands.
 fn opening(text: &[u8], place: usize) -> Option<(Quotes, usize)>
     requires { place ≤ length text.now }
-    ensures { option_map opened result ≡ opening_at text.now place }
+    ensures { option_map quoting_start result ≡ opening_at text.now place }
 {
     if stands(text, place, b'"') {
         Some(if has_three(text, place, b'"') {

@@ -6,27 +6,27 @@ use Rattle.toml_subset.specs.Data.{Entries, Items, Toml}
 use Rattle.toml_subset.specs.Tables.{Branches, entries_of, items_of}
 use Rattle.toml_subset.specs.declared.string.Key.{Key}
 use Rattle.toml_subset.specs.frames.Levels.{bodies_to}
-use Rattle.toml_value.specs.BranchViews.{node_view, branches_view, body_view, body_items, finished}
-use Rattle.toml_value.specs.FinishViews.{followed, left_of, item_of}
+use Rattle.toml_value.specs.BranchViews.{node_view, branches_view, body_view, body_items, node_value}
+use Rattle.toml_value.specs.FinishViews.{joined_entries, left_of, item_of}
 use Rattle.toml_value.specs.Lookup.{with_item, with_entry}
 use Rattle.toml_value.specs.declared.tree.Body.{Body as BodyOf}
 use Rattle.toml_value.proofs.LevelLemmas.{body_view-is}
 use Rattle.toml_value.specs.declared.tree.Node.{Node as NodeOf}
 
-pub followed_none : (entries : Entries) → followed entries data.no_entry ≡ entries
+pub followed_none : (entries : Entries) → joined_entries entries data.no_entry ≡ entries
 followed_none data.no_entry = refl
 followed_none (data.entry key span content more) = ap (data.entry key span content) (followed_none more)
 
 pub followed_push : (entries : Entries) (key : Key) (value : Toml) (others : Entries)
-    → followed (with_entry entries key value) others ≡ followed entries (data.entry key value.span value.content others)
+    → joined_entries (with_entry entries key value) others ≡ joined_entries entries (data.entry key value.span value.content others)
 followed_push data.no_entry key value others = refl
 followed_push (data.entry k span content more) key value others = ap (data.entry k span content) (followed_push more key value others)
 
 pub left_step : (entries new : Entries) (key : Key) (node : NodeOf) (keys : List Key) (nodes : List NodeOf) (value : Toml)
-    → value ≡ finished (node_view node) → new ≡ with_entry entries key value
-    → followed entries (left_of (key ∷ keys) (node ∷ nodes)) ≡ followed new (left_of keys nodes)
+    → value ≡ node_value (node_view node) → new ≡ with_entry entries key value
+    → joined_entries entries (left_of (key ∷ keys) (node ∷ nodes)) ≡ joined_entries new (left_of keys nodes)
 left_step entries new key node keys nodes value is pushed =
-    sym (ap (λ es. followed es (left_of keys nodes)) (pushed ∙ ap (with_entry entries key) is) ∙ followed_push entries key (finished (node_view node)) (left_of keys nodes))
+    sym (ap (λ es. joined_entries es (left_of keys nodes)) (pushed ∙ ap (with_entry entries key) is) ∙ followed_push entries key (node_value (node_view node)) (left_of keys nodes))
 
 pub none_left : (keys : List Key) → left_of keys [] ≡ data.no_entry
 none_left [] = refl

@@ -6,7 +6,7 @@ use Rattle.deny_text.specs.declared.span.Span.{Span}
 use Rattle.toml_subset.specs.key_index.KeyPlaces.{first_key_place}
 use Rattle.toml_subset.specs.Answer.{AnswersToml, then_read}
 use Rattle.toml_subset.specs.TableFaults.{last_of}
-use Rattle.toml_subset.specs.Tables.{Node, Branches, growing, unbranched, branch, tables, same_key, added}
+use Rattle.toml_subset.specs.Tables.{Node, Branches, growing, unbranched, branch, tables, same_key, branches_with_key}
 use Rattle.toml_subset.specs.declared.error.SyntaxError.{SyntaxError}
 use Rattle.toml_subset.specs.declared.error.SyntaxReason.TheVariants.{RedefinedTable}
 use Rattle.toml_subset.specs.declared.error.TomlError.{TomlError}
@@ -14,11 +14,11 @@ use Rattle.toml_subset.specs.declared.error.TomlError.TheVariants.{Syntax, Memor
 use Rattle.toml_subset.specs.declared.string.Key.{Key}
 use Rattle.toml_subset.proofs.Law.Basics.{map_some, is_some, is_ok, not_ok, if_is}
 use Rattle.toml_subset.proofs.frames.Levels.{plugged_last}
-use Rattle.toml_subset.specs.frames.Levels.{Around, behind, Cursor, replaced, found_at, size, bodies_to, before_last, last_place, all_of, plugged, all_plugged, steps_in, opened, fresh, refusal, further, into_old, into_new, into_found, into_part, into_parts, into_header}
+use Rattle.toml_subset.specs.frames.Levels.{Around, behind, Cursor, branches_with_node, found_at, size, bodies_to, before_last, last_place, all_of, table_with_inner, all_plugged, steps_in, header_branches, new_around, refusal, cursor_below, into_old, into_new, into_found, into_part, into_parts, into_header}
 use Rattle.toml_subset.specs.declared.frames.part.HeaderPart.{HeaderPart}
 use Rattle.toml_subset.specs.declared.frames.part.HeaderPart.TheVariants.{Through, Array}
 use Rattle.toml_value.specs.AroundViews.{or_redefined}
-use Rattle.toml_value.specs.BranchViews.{mark_of, joined, node_view, branches_view, body_view, is_whole, is_whole_node, is_whole_body}
+use Rattle.toml_value.specs.BranchViews.{mark_of, branches_of_lists, node_view, branches_view, body_view, is_whole, is_whole_node, is_whole_body}
 use Rattle.toml_value.specs.LevelViews.{level_view}
 use Rattle.toml_value.specs.declared.tree.Mark.{Mark}
 use Rattle.toml_value.specs.declared.tree.Node.{Node as NodeOf, Growing, Tables as TablesOf, the_lemmas}
@@ -35,19 +35,19 @@ up_first None = refl
 up_first (Some f) = refl
 
 pub place_is : (key : Key) (keys : List Key) (nodes : List Node) → length keys ≡ length nodes
-    → first_key_place key.name.text keys ≡ option_map (λ (f : ℕ × Node). f.0) (found_at key (joined keys nodes))
+    → first_key_place key.name.text keys ≡ option_map (λ (f : ℕ × Node). f.0) (found_at key (branches_of_lists keys nodes))
 place_is key [] nodes same = refl
 place_is key (k ∷ ks) [] same = absurd (omega arith)
 place_is key (k ∷ ks) (n ∷ ns) same =
     let rest = place_is key ks ns (omega arith) in
     elim (same_key key k) as (λ b. cond b (Some 0) (option_map suc (first_key_place key.name.text ks))
-    ≡ option_map (λ (f : ℕ × Node). f.0) (cond b (Some (0, n)) (option_map up (found_at key (joined ks ns))))) [
+    ≡ option_map (λ (f : ℕ × Node). f.0) (cond b (Some (0, n)) (option_map up (found_at key (branches_of_lists ks ns))))) [
       | true ↦ refl
-      | false ↦ ap (option_map suc) rest ∙ up_first (found_at key (joined ks ns))
+      | false ↦ ap (option_map suc) rest ∙ up_first (found_at key (branches_of_lists ks ns))
     ]
 
 -- what stands at a place
-pub node_is : (key : Key) (keys : List Key) (nodes : List Node) (i : ℕ) (node d : Node) → found_at key (joined keys nodes) ≡ Some (i, node) → node ≡ get_or nodes i d
+pub node_is : (key : Key) (keys : List Key) (nodes : List Node) (i : ℕ) (node d : Node) → found_at key (branches_of_lists keys nodes) ≡ Some (i, node) → node ≡ get_or nodes i d
 node_is key [] nodes i node d e = absurd (cc)
 node_is key (k ∷ ks) [] i node d e = absurd (cc)
 node_is key (k ∷ ks) (n ∷ ns) i node d e =
@@ -56,17 +56,17 @@ node_is key (k ∷ ks) (n ∷ ns) i node d e =
     let same = is_some (0, n) (i, node) h.1 in
     sym (ap (λ (f : ℕ × Node). f.1) same) ∙ ap (λ (f : ℕ × Node). get_or (n ∷ ns) f.0 d) same)
     (λ h.
-    let more = map_some up (found_at key (joined ks ns)) (i, node) h.1 in
+    let more = map_some up (found_at key (branches_of_lists ks ns)) (i, node) h.1 in
     sym (ap (λ (f : ℕ × Node). f.1) more.2) ∙ node_is key ks ns more.0.0 more.0.1 d more.1 ∙ ap (λ (f : ℕ × Node). get_or (n ∷ ns) f.0 d) more.2)
-    (if_is (same_key key k) (Some (0, n)) (option_map up (found_at key (joined ks ns))) (Some (i, node)) e)
+    (if_is (same_key key k) (Some (0, n)) (option_map up (found_at key (branches_of_lists ks ns))) (Some (i, node)) e)
 
-pub replaced-joined : (keys : List Key) (nodes : List Node) (i : ℕ) (node : Node) → replaced i node (joined keys nodes) ≡ joined keys (set nodes i node)
+pub replaced-joined : (keys : List Key) (nodes : List Node) (i : ℕ) (node : Node) → branches_with_node i node (branches_of_lists keys nodes) ≡ branches_of_lists keys (set nodes i node)
 replaced-joined [] nodes i node = refl
 replaced-joined (k ∷ ks) [] i node = refl
 replaced-joined (k ∷ ks) (n ∷ ns) zero node = refl
 replaced-joined (k ∷ ks) (n ∷ ns) (suc i) node = ap (branch k n) (replaced-joined ks ns i node)
 
-pub size-joined : (keys : List Key) (nodes : List Node) → length keys ≡ length nodes → size (joined keys nodes) ≡ length nodes
+pub size-joined : (keys : List Key) (nodes : List Node) → length keys ≡ length nodes → size (branches_of_lists keys nodes) ≡ length nodes
 size-joined [] [] same = refl
 size-joined [] (n ∷ ns) same = absurd (omega arith)
 size-joined (k ∷ ks) [] same = absurd (omega arith)
@@ -111,13 +111,13 @@ all_of_to (x ∷ xs) at inner = ap (λ more. x ∷ more) (all_of_to xs at inner)
 
 module _ (table new : BranchesOf) (i : ℕ) (node : NodeOf) (same : (out-Branches new).keys ≡ (out-Branches table).keys)
     (nodes : (out-Branches new).nodes.items ≡ set (out-Branches table).nodes.items i node) where
-  pub put_back-view : branches_view new ≡ replaced i (node_view node) (branches_view table)
+  pub put_back-view : branches_view new ≡ branches_with_node i (node_view node) (branches_view table)
   put_back-view =
-      branches_view-is new ∙ ap (λ ks. joined ks (map (λ n. node_view n) (out-Branches new).nodes.items)) same
-      ∙ ap (λ ns. joined (out-Branches table).keys (map (λ n. node_view n) ns)) nodes
-      ∙ ap (joined (out-Branches table).keys) (seen-set (out-Branches table).nodes.items i node)
+      branches_view-is new ∙ ap (λ ks. branches_of_lists ks (map (λ n. node_view n) (out-Branches new).nodes.items)) same
+      ∙ ap (λ ns. branches_of_lists (out-Branches table).keys (map (λ n. node_view n) ns)) nodes
+      ∙ ap (branches_of_lists (out-Branches table).keys) (seen-set (out-Branches table).nodes.items i node)
       ∙ sym (replaced-joined (out-Branches table).keys (map (λ n. node_view n) (out-Branches table).nodes.items) i (node_view node))
-      ∙ ap (replaced i (node_view node)) (sym (branches_view-is table))
+      ∙ ap (branches_with_node i (node_view node)) (sym (branches_view-is table))
 
   pub put_back-whole : IsTrue (is_whole table) → is_whole_node node ≡ true → IsTrue (is_whole new)
   put_back-whole whole one =
@@ -152,14 +152,14 @@ module _ (table : BranchesOf) (whole : IsTrue (is_whole table)) where
   node_found key i node e is =
       let found = map_some (λ (f : ℕ × Node). f.0) (found_at key (branches_view table)) i e in
       let nodes = map (λ n. node_view n) nodes_in in
-      let there : found_at key (joined keys_in nodes) ≡ Some (i, found.0.1) = ap (found_at key) (sym (branches_view-is table)) ∙ found.1 ∙ ap (λ (n : ℕ). Some (n, found.0.1)) found.2 in
+      let there : found_at key (branches_of_lists keys_in nodes) ≡ Some (i, found.0.1) = ap (found_at key) (sym (branches_view-is table)) ∙ found.1 ∙ ap (λ (n : ℕ). Some (n, found.0.1)) found.2 in
       let seen = node_is key keys_in nodes i found.0.1 (node_view node) there in
       ap (found_at key) (branches_view-is table) ∙ there
       ∙ ap (λ (n : Node). Some (i, n)) (seen ∙ seen-at nodes_in i node ∙ ap (λ n. node_view n) (sym is))
 
 -- the steps of a way
 
-pub into_is_old : (part : HeaderPart) (key : Key) (c : Cursor) (i : ℕ) (node : Node) (o : Option (Around × Branches)) → found_at key c.here ≡ Some (i, node) → o ≡ opened part node
+pub into_is_old : (part : HeaderPart) (key : Key) (c : Cursor) (i : ℕ) (node : Node) (o : Option (Around × Branches)) → found_at key c.here ≡ Some (i, node) → o ≡ header_branches part node
     → into_part part key c ≡ into_old key c i o
 into_is_old part key c i node o there is = ap (into_found part key c) there ∙ ap (into_old key c i) (sym is)
 
@@ -179,11 +179,11 @@ old_refused key c i (Some found) fault e = absurd (cc)
 old_refused key c i None fault e = let same : refusal RedefinedTable key ≡ fault = cc in ap (λ f. Err f) same
 
 pub old_stops : {B C : Type 0} (view : B → Around × Branches) (see : C → Cursor) (part : HeaderPart) (key : Key) (c : Cursor) (i : ℕ) (node : Node) (error : TomlError)
-    → found_at key c.here ≡ Some (i, node) → AnswersToml {B = B} view (or_redefined key (opened part node)) (Err error) → AnswersToml {B = C} see (into_part part key c) (Err error)
-old_stops view see part key c i node (Syntax fault) there is = into_is_old part key c i node (opened part node) there refl ∙ old_refused key c i (opened part node) fault is
+    → found_at key c.here ≡ Some (i, node) → AnswersToml {B = B} view (or_redefined key (header_branches part node)) (Err error) → AnswersToml {B = C} see (into_part part key c) (Err error)
+old_stops view see part key c i node (Syntax fault) there is = into_is_old part key c i node (header_branches part node) there refl ∙ old_refused key c i (header_branches part node) fault is
 old_stops view see part key c i node Memory there is = tt
 
-pub into_is_new : (part : HeaderPart) (key : Key) (c : Cursor) (o : Option Around) → found_at key c.here ≡ None → o ≡ fresh part key c.above
+pub into_is_new : (part : HeaderPart) (key : Key) (c : Cursor) (o : Option Around) → found_at key c.here ≡ None → o ≡ new_around part key c.above
     → into_part part key c ≡ into_new key c o
 into_is_new part key c o missing is = ap (into_found part key c) missing ∙ ap (into_new key c) (sym is)
 
@@ -192,18 +192,18 @@ into_is_new part key c o missing is = ap (into_found part key c) missing ∙ ap 
 pub levels_more : (levels new : List LevelOf) (level : LevelOf) → new ≡ levels ++ level ∷ [] → map (λ l. level_view l) new ≡ map (λ l. level_view l) levels ++ level_view level ∷ []
 levels_more levels new level e = ap (map (λ l. level_view l)) e ∙ map-append (λ l. level_view l) levels (level ∷ [])
 
-pub level_back : (levels rest : List LevelOf) (level : LevelOf) (inner table : Branches) → levels ≡ rest ++ level ∷ [] → table ≡ plugged (level_view level) inner
+pub level_back : (levels rest : List LevelOf) (level : LevelOf) (inner table : Branches) → levels ≡ rest ++ level ∷ [] → table ≡ table_with_inner (level_view level) inner
     → all_plugged (map (λ l. level_view l) rest) table ≡ all_plugged (map (λ l. level_view l) levels) inner
 level_back levels rest level inner table e is =
     ap (all_plugged (map (λ l. level_view l) rest)) is ∙ sym (plugged_last (map (λ l. level_view l) rest) (level_view level) inner)
     ∙ ap (λ ls. all_plugged ls inner) (sym (levels_more rest levels level e))
 
-pub size_replaced : (i : ℕ) (node : Node) (b : Branches) → size (replaced i node b) ≡ size b
+pub size_replaced : (i : ℕ) (node : Node) (b : Branches) → size (branches_with_node i node b) ≡ size b
 size_replaced i node unbranched = refl
 size_replaced zero node (branch key old more) = refl
 size_replaced (suc i) node (branch key old more) = ap suc (size_replaced i node more)
 
-pub size_added : (key : Key) (node : Node) (b : Branches) → size (added key node b) ≡ suc (size b)
+pub size_added : (key : Key) (node : Node) (b : Branches) → size (branches_with_key key node b) ≡ suc (size b)
 size_added key node unbranched = refl
 size_added key node (branch other old more) = ap suc (size_added key node more)
 
@@ -214,9 +214,9 @@ missing_from (Some f) e = absurd (cc)
 -- the way one table further, as the program makes it
 pub further_is : (c d : Cursor) (table seen : Branches) (place at : ℕ) (around : Around) (inner : Branches) → seen ≡ table → at ≡ place
     → d ≡ record { around = c.around ++ record { table = seen; place = at; around = around } ∷ []; here = inner; above = c.above + steps_in around }
-    → d ≡ further c table place around inner
+    → d ≡ cursor_below c table place around inner
 further_is c d table seen place at around inner same place_is is =
-    is ∙ ap (λ t. further c t at around inner) same ∙ ap (λ (i : ℕ). further c table i around inner) place_is
+    is ∙ ap (λ t. cursor_below c t at around inner) same ∙ ap (λ (i : ℕ). cursor_below c table i around inner) place_is
 
 -- headers, part by part
 
@@ -241,14 +241,14 @@ header_last view last keys c d key parts result is none step =
 -- what a part of a header opens of an array of tables
 
 pub through_tables : (span at : Span) (before : List (Span × Branches)) (inner : Branches)
-    → opened Through (tables span (bodies_to before at inner)) ≡ Some (behind span before at, inner)
+    → header_branches Through (tables span (bodies_to before at inner)) ≡ Some (behind span before at, inner)
 through_tables span at before inner =
     ap (λ (xs : List (Span × Branches)). Some (behind span xs (last_place (bodies_to before at inner)), last_of (bodies_to before at inner))) (before_last_to before at inner)
     ∙ ap (λ (s : Span). Some (behind span before s, last_of (bodies_to before at inner))) (last_place_to before at inner)
     ∙ ap (λ (b : Branches). Some (behind span before at, b)) (last_of_to before at inner)
 
 pub array_tables : (span at new : Span) (before : List (Span × Branches)) (inner : Branches)
-    → opened (Array new) (tables span (bodies_to before at inner)) ≡ Some (behind span (before ++ (at, inner) ∷ []) new, unbranched)
+    → header_branches (Array new) (tables span (bodies_to before at inner)) ≡ Some (behind span (before ++ (at, inner) ∷ []) new, unbranched)
 array_tables span at new before inner = ap (λ (xs : List (Span × Branches)). Some (behind span xs new, unbranched)) (all_of_to before at inner)
 
 pub bodies_more : (before new : List BodyOf) (x : BodyOf) → new ≡ before ++ x ∷ [] → map (λ b. body_view b) new ≡ map (λ b. body_view b) before ++ body_view x ∷ []

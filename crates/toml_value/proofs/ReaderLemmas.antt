@@ -1,15 +1,15 @@
 -- Lines, as the program reads them.
 use Rattle.std.proofs.Common.{◌≡◌, ℕ, ◌+◌, ◌-◌, ◌<◌, ◌≤◌, Bool, true, false, cond, List, length, Option, Some, None, Result, Ok, Err, refl, ap, sym, subst, ◌∙◌, arith}
 use Rattle.std.specs.Str.{IsUtf8}
-use Rattle.toml_subset.specs.Answer.{TomlReading, AnswersToml, then_read, unless}
+use Rattle.toml_subset.specs.Answer.{TomlReading, AnswersToml, then_read, fault_or}
 use Rattle.toml_subset.specs.Data.{Toml, depth_of, depth_limit}
 use Rattle.toml_subset.specs.Faults.{IsFirstFault}
 use Rattle.toml_subset.specs.Lines.{Document}
-use Rattle.toml_subset.specs.Reading.{ValueFound, LineFound, enough, value_at, section_of, line_rest, with_root as with_root_at, pair_put, pair_from, line_from, read_text}
+use Rattle.toml_subset.specs.Reading.{ValueFound, LineFound, call_bound, value_at, section_of, line_rest, with_root as with_root_at, pair_put, pair_from, line_from, read_text}
 use Rattle.toml_subset.specs.Places.{after_blanks}
 use Rattle.toml_subset.specs.StringReading.{KeysFound, read_left}
 use Rattle.toml_subset.specs.TableFaults.{Inside, put_fault}
-use Rattle.toml_subset.specs.Tables.{Branches, closed, put, entries_of}
+use Rattle.toml_subset.specs.Tables.{Branches, closed, branches_with_value, entries_of}
 use Rattle.toml_subset.specs.Text.{IsText}
 use Rattle.toml_subset.specs.declared.error.SyntaxError.{SyntaxError}
 use Rattle.toml_subset.specs.declared.error.TomlError.{TomlError}
@@ -57,12 +57,12 @@ section_is seen c way =
     ap (λ root. section_of seen.section root 0) way.root ∙ section_way seen.section c.around c.here 0 way.leads ∙ more_above c.here (0 + steps c.around) c.above (let deep = way.deep in omega arith)
 
 pub value_low : (text : List ℕ) (above i : ℕ) (v : ValueFound) → above ≤ depth_limit → value_at text above i ≡ Ok v → above + depth_of v.1 ≤ depth_limit
-value_low text above i v low read = (value_sound (enough text) text above i v low read).3
+value_low text above i v low read = (value_sound (call_bound text) text above i v low read).3
 
 -- a value that was put
 pub pair_ends : (text : List ℕ) (seen : Document) (p d : Cursor) (keys : List Key) (v : ValueFound) (read : TomlReading ValueFound) (result : LineAnswer) → IsWay seen p
     → put_fault keys p.here p.above ≡ None → read ≡ Ok v → p.above + (length keys - 1) + depth_of v.1 ≤ depth_limit
-    → put keys (closed v.0 v.1) p.here ≡ Some d.here → d ≡ record { around = p.around; here = d.here; above = p.above }
+    → branches_with_value keys (closed v.0 v.1) p.here ≡ Some d.here → d ≡ record { around = p.around; here = d.here; above = p.above }
     → ((new : Document) → IsWay new d → IsLineRead (line_rest text v.2 new) result)
     → IsLineRead (then_read (pair_put text keys seen) read) result
 pair_ends text seen p d keys v read result way free is low made same ended =
@@ -86,7 +86,7 @@ pending_refused None keys c refusal is = absurd is
 pending_refused (Some fault) keys c refusal is = ap Some (sym is)
 
 abbrev pair_at : List ℕ → Document → KeysFound → Inside → TomlReading LineFound
-pair_at text seen left here = unless (put_fault left.0 here.0 here.1) (then_read (pair_put text left.0 seen) (value_at text (here.1 + (length left.0 - 1)) left.1))
+pair_at text seen left here = fault_or (put_fault left.0 here.0 here.1) (then_read (pair_put text left.0 seen) (value_at text (here.1 + (length left.0 - 1)) left.1))
 
 module _ (text : List ℕ) (seen : Document) (c : Cursor) (left : KeysFound) (i : ℕ) (way : IsWay seen c) (read : read_left text i ≡ Ok left) where
   pair_from_is : then_read (pair_from text seen) (read_left text i) ≡ pair_at text seen left (c.here, c.above)
@@ -101,7 +101,7 @@ module _ (text : List ℕ) (seen : Document) (c : Cursor) (left : KeysFound) (i 
       let above : pending.above ≡ c.above = ap (λ (x : Cursor). x.above) p.view_is in
       line_as (then_read (pair_put text pending.awaiting.keys seen) (value_at text (pending.above + (length pending.awaiting.keys - 1)) left.1))
       (then_read (pair_from text seen) (read_left text i)) result
-      (pair_from_is ∙ ap (λ f. unless f (then_read (pair_put text left.0 seen) (value_at text (c.above + (length left.0 - 1)) left.1))) p.free
+      (pair_from_is ∙ ap (λ f. fault_or f (then_read (pair_put text left.0 seen) (value_at text (c.above + (length left.0 - 1)) left.1))) p.free
       ∙ sym (ap (λ (ks : List Key). then_read (pair_put text ks seen) (value_at text (pending.above + (length ks - 1)) left.1)) p.keys_are
       ∙ ap (λ (n : ℕ). then_read (pair_put text left.0 seen) (value_at text (n + (length left.0 - 1)) left.1)) above))
       (ended seen (subst (IsWay seen) (sym p.view_is) way))
@@ -109,7 +109,7 @@ module _ (text : List ℕ) (seen : Document) (c : Cursor) (left : KeysFound) (i 
   pub pair_refused : (fault : SyntaxError) → IsPending (put_fault left.0 c.here c.above) left.0 c (Err fault)
       → then_read (pair_from text seen) (read_left text i) ≡ Err fault
   pair_refused fault is =
-      pair_from_is ∙ ap (λ f. unless f (then_read (pair_put text left.0 seen) (value_at text (c.above + (length left.0 - 1)) left.1)))
+      pair_from_is ∙ ap (λ f. fault_or f (then_read (pair_put text left.0 seen) (value_at text (c.above + (length left.0 - 1)) left.1)))
       (pending_refused (put_fault left.0 c.here c.above) left.0 c fault is)
 
 -- headers
@@ -119,15 +119,15 @@ module _ (text : List ℕ) (i : ℕ) (keys : List Key) (fault : Option SyntaxErr
   further c = line_rest text i (record { root = all_plugged c.around c.here; section = keys })
 
   pub header_ends : (d : Cursor) (result : LineAnswer) → answer ≡ Ok d → ((s : Document) → IsWay s d → IsLineRead (line_rest text i s) result)
-      → IsLineRead (unless fault (with_root_at text i keys made)) result
+      → IsLineRead (fault_or fault (with_root_at text i keys made)) result
   header_ends d result e ended =
       let opened : IsOpened fault made keys (Ok d) = subst (IsOpened fault made keys) e is in
-      line_as (further d) (unless fault (with_root_at text i keys made)) result (header_line_is text i keys fault made answer is ∙ ap (then_read further) e)
+      line_as (further d) (fault_or fault (with_root_at text i keys made)) result (header_line_is text i keys fault made answer is ∙ ap (then_read further) e)
       (ended (record { root = all_plugged d.around d.here; section = keys }) opened.2)
 
-  pub header_refused : {B : Type 0} (view : B → Cursor) (error : TomlError) → AnswersToml {B = B} view answer (Err error) → IsLineRead (unless fault (with_root_at text i keys made)) (Err error)
+  pub header_refused : {B : Type 0} (view : B → Cursor) (error : TomlError) → AnswersToml {B = B} view answer (Err error) → IsLineRead (fault_or fault (with_root_at text i keys made)) (Err error)
   header_refused view error e =
-      line_as (then_read further answer) (unless fault (with_root_at text i keys made)) (Err error) (header_line_is text i keys fault made answer is) (refused_line view further answer error e)
+      line_as (then_read further answer) (fault_or fault (with_root_at text i keys made)) (Err error) (header_line_is text i keys fault made answer is) (refused_line view further answer error e)
 
 -- the root
 

@@ -7,15 +7,15 @@ use Rattle.std.specs.Str.{bytes_eq}
 use Rattle.toml_subset.specs.key_index.KeyPlaces.{first_key_place}
 use Rattle.toml_subset.specs.TableFaults.{table_node_at}
 use Rattle.deny_text.specs.declared.span.Span.{Span}
-use Rattle.toml_subset.specs.Tables.{Node, growing, dotted, branch, same_key, has_key, added}
+use Rattle.toml_subset.specs.Tables.{Node, growing, dotted, branch, same_key, has_key, branches_with_key}
 use Rattle.toml_subset.specs.declared.string.Key.{Key}
 use Rattle.toml_subset.proofs.Law.Basics.{map_some, is_some, if_is, if_true, if_false}
-use Rattle.toml_value.specs.BranchViews.{joined, node_view, branches_view, is_whole, is_whole_node}
+use Rattle.toml_value.specs.BranchViews.{branches_of_lists, node_view, branches_view, is_whole, is_whole_node}
 use Rattle.toml_value.specs.declared.tree.Mark.TheVariants.{Dotted}
 use Rattle.toml_value.specs.declared.tree.Node.{Node as NodeOf, Growing, the_lemmas}
 use Rattle.toml_value.specs.declared.tree.Branches.{Branches as BranchesOf, out-Branches}
 
-pub branches_view-is : (b : BranchesOf) → branches_view b ≡ joined (out-Branches b).keys (map (λ n. node_view n) (out-Branches b).nodes.items)
+pub branches_view-is : (b : BranchesOf) → branches_view b ≡ branches_of_lists (out-Branches b).keys (map (λ n. node_view n) (out-Branches b).nodes.items)
 branches_view-is b = search (rules, the_lemmas)
 
 abbrev all_whole : List NodeOf → Bool
@@ -100,42 +100,42 @@ seen-at (n ∷ ns) (suc i) d = seen-at ns i d
 -- look-ups
 
 pub is_found : (key : Key) (keys : List Key) (nodes : List Node) (i : ℕ) (d : Node) → length keys ≡ length nodes → first_key_place key.name.text keys ≡ Some i
-    → table_node_at key (joined keys nodes) ≡ Some (get_or nodes i d)
+    → table_node_at key (branches_of_lists keys nodes) ≡ Some (get_or nodes i d)
 is_found key [] nodes i d same e = absurd (cc)
 is_found key (k ∷ ks) [] i d same e = absurd (omega arith)
 is_found key (k ∷ ks) (n ∷ ns) i d same e =
     ⊎_elim
-    (λ h. subst (λ j. table_node_at key (joined (k ∷ ks) (n ∷ ns)) ≡ Some (get_or (n ∷ ns) j d)) (is_some 0 i h.1) (if_true (same_key key k) (Some n) (table_node_at key (joined ks ns)) h.0))
+    (λ h. subst (λ j. table_node_at key (branches_of_lists (k ∷ ks) (n ∷ ns)) ≡ Some (get_or (n ∷ ns) j d)) (is_some 0 i h.1) (if_true (same_key key k) (Some n) (table_node_at key (branches_of_lists ks ns)) h.0))
     (λ h.
     let more = map_some suc (first_key_place key.name.text ks) i h.1 in
     let rest = is_found key ks ns more.0 d (omega arith) more.1 in
-    subst (λ j. table_node_at key (joined (k ∷ ks) (n ∷ ns)) ≡ Some (get_or (n ∷ ns) j d)) more.2 (if_false (same_key key k) (Some n) (table_node_at key (joined ks ns)) h.0 ∙ rest))
+    subst (λ j. table_node_at key (branches_of_lists (k ∷ ks) (n ∷ ns)) ≡ Some (get_or (n ∷ ns) j d)) more.2 (if_false (same_key key k) (Some n) (table_node_at key (branches_of_lists ks ns)) h.0 ∙ rest))
     (if_is (bytes_eq key.name.text k.name.text) (Some 0) (option_map suc (first_key_place key.name.text ks)) (Some i) e)
 
 map_none : {A B : Type 0} (f : A → B) (o : Option A) → option_map f o ≡ None → o ≡ None
 map_none f None e = refl
 map_none f (Some x) e = absurd (cc)
 
-pub is_missing : (key : Key) (keys : List Key) (nodes : List Node) → first_key_place key.name.text keys ≡ None → table_node_at key (joined keys nodes) ≡ None
+pub is_missing : (key : Key) (keys : List Key) (nodes : List Node) → first_key_place key.name.text keys ≡ None → table_node_at key (branches_of_lists keys nodes) ≡ None
 is_missing key [] nodes e = refl
 is_missing key (k ∷ ks) [] e = refl
 is_missing key (k ∷ ks) (n ∷ ns) e =
     ⊎_elim (λ h. let other : Some 0 ≡ None = h.1 in absurd (cc))
-    (λ h. if_false (same_key key k) (Some n) (table_node_at key (joined ks ns)) h.0 ∙ is_missing key ks ns (map_none suc (first_key_place key.name.text ks) h.1))
+    (λ h. if_false (same_key key k) (Some n) (table_node_at key (branches_of_lists ks ns)) h.0 ∙ is_missing key ks ns (map_none suc (first_key_place key.name.text ks) h.1))
     (if_is (bytes_eq key.name.text k.name.text) (Some 0) (option_map suc (first_key_place key.name.text ks)) None e)
 
 -- a key that its table does not have has no place in it
-pub has_no_place : (key : Key) (keys : List Key) (nodes : List Node) → length keys ≡ length nodes → has_key key (joined keys nodes) ≡ false → first_key_place key.name.text keys ≡ None
+pub has_no_place : (key : Key) (keys : List Key) (nodes : List Node) → length keys ≡ length nodes → has_key key (branches_of_lists keys nodes) ≡ false → first_key_place key.name.text keys ≡ None
 has_no_place key [] nodes same e = refl
 has_no_place key (k ∷ ks) [] same e = absurd (omega arith)
 has_no_place key (k ∷ ks) (n ∷ ns) same e =
     ⊎_elim (λ h. let other : true ≡ false = h.1 in absurd (cc))
     (λ h. if_false (bytes_eq key.name.text k.name.text) (Some 0) (option_map suc (first_key_place key.name.text ks)) h.0
     ∙ ap (option_map suc) (has_no_place key ks ns (omega arith) h.1))
-    (if_is (same_key key k) true (has_key key (joined ks ns)) false e)
+    (if_is (same_key key k) true (has_key key (branches_of_lists ks ns)) false e)
 
 pub added-joined : (key : Key) (node : Node) (keys : List Key) (nodes : List Node) → length keys ≡ length nodes
-    → added key node (joined keys nodes) ≡ joined (keys ++ key ∷ []) (nodes ++ node ∷ [])
+    → branches_with_key key node (branches_of_lists keys nodes) ≡ branches_of_lists (keys ++ key ∷ []) (nodes ++ node ∷ [])
 added-joined key node [] [] same = refl
 added-joined key node [] (n ∷ ns) same = absurd (omega arith)
 added-joined key node (k ∷ ks) [] same = absurd (omega arith)

@@ -31,10 +31,10 @@ parts_of_dotted (tables.growing span tables.dotted branches) = Some (span, branc
 parts_of_dotted (tables.tables span bodies) = None
 
 -- each key with its node
-abbrev pub joined : List Key → List Node → Branches
-joined [] nodes = tables.unbranched
-joined (key ∷ keys) [] = tables.unbranched
-joined (key ∷ keys) (node ∷ nodes) = tables.branch key node (joined keys nodes)
+abbrev pub branches_of_lists : List Key → List Node → Branches
+branches_of_lists [] nodes = tables.unbranched
+branches_of_lists (key ∷ keys) [] = tables.unbranched
+branches_of_lists (key ∷ keys) (node ∷ nodes) = tables.branch key node (branches_of_lists keys nodes)
 
 -- tables of an array of tables as the items of an array
 abbrev pub body_items : List (Span × Branches) → Items
@@ -42,21 +42,21 @@ body_items [] = data.no_item
 body_items (x ∷ more) = data.item x.0 (data.table (tables.entries_of x.1)) (body_items more)
 
 -- a value as it was written
-abbrev pub shut : Value → Node
-shut value = tables.closed (value_view value).span (value_view value).content
+abbrev pub closed_node : Value → Node
+closed_node value = tables.closed (value_view value).span (value_view value).content
 
 -- the value that stands at a key in the end
-abbrev pub finished : Node → Toml
-finished node = record { content = tables.content_of node; span = tables.span_of node }
+abbrev pub node_value : Node → Toml
+node_value node = record { content = tables.content_of node; span = tables.span_of node }
 
 -- one level of a tree, with what stands in it already seen
 abbrev pub node_step : Node-F Node (Span × Branches) Branches → Node
-node_step (Node-F.Closed value) = shut value
+node_step (Node-F.Closed value) = closed_node value
 node_step (Node-F.Growing span mark branches) = tables.growing span (mark_of mark) branches
 node_step (Node-F.Tables span before last inner) = tables.tables span (bodies_to before.items last inner)
 
 abbrev pub branches_step : Branches-F Node (Span × Branches) Branches → Branches
-branches_step x = joined x.keys x.nodes.items
+branches_step x = branches_of_lists x.keys x.nodes.items
 
 abbrev pub body_step : Body-F Node (Span × Branches) Branches → Span × Branches
 body_step x = (x.span, x.table)

@@ -5,18 +5,18 @@ use Rattle.toml_subset.specs.Data as «data»
 use Rattle.toml_subset.specs.Data.{Entries, Items, Toml}
 use Rattle.toml_subset.specs.Tables.{Branches, entries_of}
 use Rattle.toml_subset.specs.declared.string.Key.{Key}
-use Rattle.toml_value.specs.BranchViews.{joined, node_view}
+use Rattle.toml_value.specs.BranchViews.{branches_of_lists, node_view}
 use Rattle.toml_value.specs.Lookup.{with_item}
 use Rattle.toml_value.specs.declared.tree.Node.{Node as NodeOf}
 
 -- entries, and others behind them
-abbrev pub followed : Entries → Entries → Entries
-followed data.no_entry others = others
-followed (data.entry key span content more) others = data.entry key span content (followed more others)
+abbrev pub joined_entries : Entries → Entries → Entries
+joined_entries data.no_entry others = others
+joined_entries (data.entry key span content more) others = data.entry key span content (joined_entries more others)
 
 -- what some keys and nodes of a table come to
 abbrev pub left_of : List Key → List NodeOf → Entries
-left_of keys nodes = entries_of (joined keys (map (λ n. node_view n) nodes))
+left_of keys nodes = entries_of (branches_of_lists keys (map (λ n. node_view n) nodes))
 
 -- a table of an array of tables as an item
 abbrev pub item_of : Span × Branches → Toml

@@ -4,7 +4,7 @@ use Rattle.toml_subset.specs.Data.{TomlContent, Items, Entries, Toml, string, bo
 use Rattle.toml_subset.specs.Written.{WrittenString}
 use Rattle.toml_subset.specs.shapes.Kinds.{kind_word}
 use Rattle.toml_subset.specs.shapes.Shaped.{ShapeReading}
-use Rattle.toml_subset.specs.shapes.Shapes.{Fault, fault_alone, wanted}
+use Rattle.toml_subset.specs.shapes.Shapes.{ShapeFault, fault_alone, wanted}
 use Rattle.toml_value.specs.Kinds.{kind_of}
 
 -- what a value holds, where it is of the kind
@@ -22,7 +22,7 @@ as_table (table entries) = Some entries
 as_table _ = None
 
 -- a value of another kind was wanted there
-abbrev pub wrong_kind : List ℕ → Toml → List Fault
+abbrev pub wrong_kind : List ℕ → Toml → List ShapeFault
 wrong_kind expected value = fault_alone (wanted expected (kind_word (kind_of value.content))) value.span
 
 -- what was found, or else that fault

@@ -1,6 +1,6 @@
 //! Texts, line by line.
 ghost use Rattle.std.specs.Prelude.{◌≡◌, ◌+◌, ◌-◌, ◌<◌, ◌≤◌, Option, length, IsTrue, IfOk};
-ghost use Rattle.toml_subset.specs.Answer.{AnswersToml, AnswersSyntax, then_read, unless};
+ghost use Rattle.toml_subset.specs.Answer.{AnswersToml, AnswersSyntax, then_read, fault_or};
 ghost use Rattle.toml_subset.specs.Bytes.{open_bracket};
 ghost use Rattle.toml_subset.specs.Data.{Toml};
 ghost use Rattle.toml_subset.specs.Faults.{IsFirstFault};
@@ -8,7 +8,7 @@ ghost use Rattle.toml_subset.specs.Lines.{Document as DocumentOf};
 ghost use Rattle.toml_subset.specs.Places.{stands as stands_at};
 ghost use Rattle.toml_subset.specs.Reading.{is_blank_line as blank_line_at, line_rest as rest_of_line};
 ghost use Rattle.toml_subset.specs.Reading.{line_from, value_at, pair_put, pair_from, with_root, header_from};
-ghost use Rattle.toml_subset.specs.Reading.{array_header_from, whole as whole_text, read_text};
+ghost use Rattle.toml_subset.specs.Reading.{array_header_from, root_value as whole_text, read_text};
 ghost use Rattle.toml_subset.specs.StringReading.{read_left as left_at};
 ghost use Rattle.toml_subset.specs.Tables.{Branches};
 ghost use Rattle.toml_subset.specs.declared.error.SyntaxError.{SyntaxError as SyntaxErrorOf};
@@ -146,7 +146,7 @@ fn opened_line<'de>(
     requires shallow { IsShallowCursor (at_root (cursor_view document)) }
     ensures answer { (fault : Option SyntaxErrorOf) (made : Option Branches)
         → IsOpened fault made keys.entry (into_header last keys.entry (cursor_view document.entry))
-        → IsLineRead (unless fault (with_root text.now place keys.entry made)) result }
+        → IsLineRead (fault_or fault (with_root text.now place keys.entry made)) result }
     ensures within { IfOk result (λ found. found.1 ≤ length text.now) }
 {
     match document.with_header(alloc, keys, last) {

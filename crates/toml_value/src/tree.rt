@@ -2,8 +2,8 @@
 ghost use Rattle.std.specs.Prelude.{◌≡◌, ◌<◌, ◌++◌, [], ◌∷◌, length, get_or, set, false, IsTrue, IfOk, IfSome, option_map};
 ghost use Rattle.toml_subset.specs.key_index.KeyPlaces.{first_key_place};
 ghost use Rattle.toml_subset.specs.TableFaults.{table_node_at};
-ghost use Rattle.toml_subset.specs.Tables.{unbranched, has_key, added};
-ghost use Rattle.toml_subset.specs.frames.Levels.{size as size_of, replaced, hole as hole_at};
+ghost use Rattle.toml_subset.specs.Tables.{unbranched, has_key, branches_with_key};
+ghost use Rattle.toml_subset.specs.frames.Levels.{size as size_of, branches_with_node, hole as hole_at};
 ghost use Rattle.toml_value.specs.BranchViews.{node_view, branches_view, is_whole, is_whole_node};
 ghost use Rattle.toml_value.specs.declared.tree.Branches.{out-Branches};
 
@@ -103,7 +103,7 @@ impl<'de> Branches<'de> {
         requires node { IsTrue (is_whole_node node) }
         requires new { has_key key (branches_view self) ≡ false }
         ensures view { IfOk result (λ new. branches_view new
-            ≡ added key.entry (node_view node.entry) (branches_view self.entry)) }
+            ≡ branches_with_key key.entry (node_view node.entry) (branches_view self.entry)) }
         ensures whole { IfOk result (λ new. IsTrue (is_whole new)) }
     {
         let Branches { keys, nodes } = self;
@@ -151,7 +151,7 @@ impl<'de> Branches<'de> {
         requires whole { IsTrue (is_whole self.old) }
         requires inside { place < length (out-Branches self.old).nodes.items }
         ensures value { result ≡ get_or (out-Branches self.old).nodes.items place result }
-        ensures left { branches_view self.new ≡ replaced place (hole_at key.now) (branches_view self.old) }
+        ensures left { branches_view self.new ≡ branches_with_node place (hole_at key.now) (branches_view self.old) }
         ensures whole { IsTrue (is_whole self.new) }
     {
         self.replace(place, hole(key))

@@ -9,7 +9,7 @@ ghost use Rattle.toml_subset.specs.Places.{stands as stands_at};
 ghost use Rattle.toml_subset.specs.Reading.{read_scalar as scalar_at, value_at};
 ghost use Rattle.toml_subset.specs.Tables.{entries_of};
 ghost use Rattle.toml_subset.specs.frames.Between.{next_place};
-ghost use Rattle.toml_subset.specs.frames.Frames.{in_array, in_table, outside, inside as inside_of, IsShallowFrame};
+ghost use Rattle.toml_subset.specs.frames.Frames.{in_array, in_table, depth_around, depth_within as inside_of, IsShallowFrame};
 ghost use Rattle.toml_subset.specs.frames.Frames.{on_with, array_turn as turn_of_array, table_turn as turn_of_table};
 ghost use Rattle.toml_subset.specs.frames.Frames.{table_on};
 ghost use Rattle.toml_subset.specs.frames.Scalars.{scalar_content};
@@ -281,7 +281,7 @@ fn next_turn<'de>(
     requires shallow { IsShallowFrame (frame_view frame) }
     requires value { inside_of (frame_view frame) + depth_of (value_view value).content ≤ depth_limit }
     ensures { let seen = frame_view frame.entry in
-        TakesTurn text.now (next + 1) (outside seen) (on_with text.now seen (value_found (value.entry, next)))
+        TakesTurn text.now (next + 1) (depth_around seen) (on_with text.now seen (value_found (value.entry, next)))
         result }
 {
     match frame {

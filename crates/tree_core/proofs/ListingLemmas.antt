@@ -14,7 +14,7 @@ use Rattle.std.specs.FinMap as finite
 use Rattle.std.specs.FinMap.{entries-from_sorted}
 use Rattle.std.specs.FinMap.Entries.{below_all}
 use Rattle.std.proofs.lemmas.Slice.Eq.{bytes_eq-Decides}
-use Rattle.tree_core.specs.Answer.{listed, IsInNameOrder}
+use Rattle.tree_core.specs.Answer.{listed_entry, IsInNameOrder}
 use Rattle.tree_core.specs.Content.{Place, TreeNode, ListedEntry, folder, is_file, place_cmp, place_cmp_total, entry_in, entries_in}
 use Rattle.tree_core.specs.SystemNames.{system_names}
 use Rattle.tree_core.specs.Stored.{node_of, entry_of, with_root, content_of}
@@ -138,16 +138,16 @@ names_rise above (e ∷ es) ordered =
           (names_above above entry.0 es (subst (λ (p : Place). T (below_all place_cmp p es)) is (first_part _ _ ordered)), rest)
     ] refl
 
-names_of_listed : (entries : List Entry) → map (λ (l : ListedEntry). l.0) (map listed entries) ≡ system_names entries
+names_of_listed : (entries : List Entry) → map (λ (l : ListedEntry). l.0) (map listed_entry entries) ≡ system_names entries
 names_of_listed [] = refl
 names_of_listed (e ∷ es) = ap (λ rest. e.name ∷ rest) (names_of_listed es)
 
-pub IsInNameOrder-listing_of : (above : Place) (stored : List (Place × StoredNode)) (entries : List Entry) → T (finite.is_sorted place_cmp (with_root stored)) → map listed entries ≡ listing_of above stored → IsInNameOrder entries
+pub IsInNameOrder-listing_of : (above : Place) (stored : List (Place × StoredNode)) (entries : List Entry) → T (finite.is_sorted place_cmp (with_root stored)) → map listed_entry entries ≡ listing_of above stored → IsInNameOrder entries
 IsInNameOrder-listing_of above stored entries ordered is =
     let names_are : map (λ (l : ListedEntry). l.0) (listing_of above stored) ≡ system_names entries = ap (map (λ (l : ListedEntry). l.0)) (sym is) ∙ names_of_listed entries in
     let rise : IsStrictlySortedBy (slice_cmp nat_cmp) (map (λ (l : ListedEntry). l.0) (listing_of above stored)) = names_rise above (map entry_of stored) (second_part _ _ ordered) in
     IsInNameOrder-names_of entries (subst (λ (ns : List (List ℕ)). IsSorted (slice_cmp nat_cmp) ns) names_are (IsSorted-strictly _ rise))
 
-pub map_listed-push : (entries : List Entry) (entry : Entry) → map listed (entries ++ entry ∷ []) ≡ map listed entries ++ listed entry ∷ []
+pub map_listed-push : (entries : List Entry) (entry : Entry) → map listed_entry (entries ++ entry ∷ []) ≡ map listed_entry entries ++ listed_entry entry ∷ []
 map_listed-push [] entry = refl
-map_listed-push (e ∷ es) entry = ap (λ rest. listed e ∷ rest) (map_listed-push es entry)
+map_listed-push (e ∷ es) entry = ap (λ rest. listed_entry e ∷ rest) (map_listed-push es entry)

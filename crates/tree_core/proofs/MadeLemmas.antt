@@ -3,13 +3,13 @@ use Rattle.std.proofs.Common.{◌≡◌, ℕ, ◌≤◌, Bool, List, [], ◌∷�
 use Rattle.std.specs.Option.{ForSome}
 use Rattle.std.proofs.lemmas.List.{append_cancel_left}
 use Rattle.std.proofs.lemmas.List.Elements.{All-nil, All-cons, All-append}
-use Rattle.tree_core.specs.Answer.{ReadAnswers, ListAnswers, FileAnswers, ExistsAnswers, FailsOrLacksMemory, listed}
+use Rattle.tree_core.specs.Answer.{ReadAnswers, ListAnswers, FileAnswers, ExistsAnswers, FailsOrLacksMemory, listed_entry}
 use Rattle.tree_core.specs.Call as call
 use Rattle.tree_core.specs.Call.{CallAnswer, Call}
 use Rattle.tree_core.specs.Content.{Content, node_at, entries_in, resolve}
-use Rattle.tree_core.specs.Faults.{count_after, counted}
+use Rattle.tree_core.specs.Faults.{count_after, next_count}
 use Rattle.tree_core.specs.Hearing.{Made, MadeSome}
-use Rattle.tree_core.specs.Trace.{Says, answered, exists_call, fault_behind, faults_after, file_call, list_answer, list_call, read_answer, read_call}
+use Rattle.tree_core.specs.Trace.{Says, call_answer, exists_call, fault_behind, faults_after, file_call, list_answer, list_call, read_answer, read_call}
 use Rattle.tree_core.specs.declared.tree.TreeError.{TreeError}
 use Rattle.tree_core.specs.declared.tree.TreeError.TheVariants.{Absent, WrongKind, Failed, Memory}
 use Rattle.tree_core.specs.declared.tree.Entry.{Entry}
@@ -20,7 +20,7 @@ pub faults_after-append : (count : ℕ) (calls more : List Call) → faults_afte
 faults_after-append count [] more = refl
 faults_after-append count (one ∷ calls) more = faults_after-append (fault_behind count one.answer) calls more
 
-counted_later : (count : ℕ) → count ≤ counted count
+counted_later : (count : ℕ) → count ≤ next_count count
 counted_later count = omega arith
 
 behind_later : (count : ℕ) (answer : CallAnswer) → count ≤ fault_behind count answer
@@ -40,7 +40,7 @@ faults_after-later count (one ∷ calls) =
     let rest = faults_after-later (fault_behind count one.answer) calls in omega arith
 
 -- the count behind an answer, as the trait says it and as the call says it
-answered_counts : (X : Type 0) (tell : X → CallAnswer) (count : ℕ) → ((value : X) → fault_behind count (tell value) ≡ count) → (result : Result X TreeError) → count_after count result ≡ fault_behind count (answered tell result)
+answered_counts : (X : Type 0) (tell : X → CallAnswer) (count : ℕ) → ((value : X) → fault_behind count (tell value) ≡ count) → (result : Result X TreeError) → count_after count result ≡ fault_behind count (call_answer tell result)
 answered_counts X tell count quiet (Ok value) = sym (quiet value)
 answered_counts X tell count quiet (Err Absent) = refl
 answered_counts X tell count quiet (Err WrongKind) = refl
@@ -103,7 +103,7 @@ module _ {told tells : Option Content} {before after : ℕ} {old new : List Call
   pub list_made : (result : Result (List Entry) TreeError) → after ≡ count_after before result → new ≡ old ++ list_call path result ∷ [] →
       ForSome told (λ c. ListAnswers c path result) → Made told tells before after old new (list_call path result ∷ [])
   list_made result counts traced answers =
-      one_made (list_call path result) (counts ∙ answered_counts (List Entry) (λ items. call.entries (map listed items)) before (λ items. refl) result) traced
+      one_made (list_call path result) (counts ∙ answered_counts (List Entry) (λ items. call.entries (map listed_entry items)) before (λ items. refl) result) traced
       (λ content is. list_says content path result (answers content is))
 
   pub file_made : (result : Result Bool TreeError) → after ≡ count_after before result → new ≡ old ++ file_call path result ∷ [] →

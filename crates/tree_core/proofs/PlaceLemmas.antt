@@ -8,7 +8,7 @@ use Rattle.std.specs.Cmp.Lexicographic.{slice_cmp, lists_total, nat_list_cmp_tot
 use Rattle.std.specs.FinMap.{nat_cmp-IsAntisymmetric, slice_cmp-IsAntisymmetric, IsAntisymmetric}
 use Rattle.std.proofs.lemmas.Bool.{cases_lt}
 use Rattle.std.proofs.lemmas.List.{take-take, length-take-le, length-take, length-append, take_all, take_at, take_more}
-use Rattle.tree_core.specs.Content.{Place, above, names_cmp, place_cmp, place_cmp_total}
+use Rattle.tree_core.specs.Content.{Place, place_above, names_cmp, place_cmp, place_cmp_total}
 use Rattle.tree_core.specs.TreeState.{IsPlaceFront}
 
 then_equal : (o p : Ordering) → ordering_then o p ≡ Equal → p ≡ Equal
@@ -28,10 +28,10 @@ after_root [] = refl
 after_root (name ∷ names) = refl
 
 pub place_cmp-root : (name : List ℕ) (names : Place) → place_cmp (name ∷ names) [] ≡ Greater
-place_cmp-root name names = after_root (above (name ∷ names))
+place_cmp-root name names = after_root (place_above (name ∷ names))
 
 -- the folder above what stands right in a folder
-pub above-child : (folder : Place) (name : List ℕ) → above (folder ++ name ∷ []) ≡ folder
+pub above-child : (folder : Place) (name : List ℕ) → place_above (folder ++ name ∷ []) ≡ folder
 above-child folder name = take_at folder (name ∷ []) (length (folder ++ name ∷ []) - 1) (omega (arith, length-append folder (name ∷ [])))
 
 names_tie : (place : Place) → names_cmp place place ≡ Equal

@@ -15,12 +15,12 @@ ReadAnswers there (Err WrongKind) = there ≡ Some folder
 ReadAnswers there (Err Failed) = Unit {0}
 ReadAnswers there (Err Memory) = Unit {0}
 
-abbrev pub listed : Entry → ListedEntry
-listed entry = (entry.name, entry.is_file)
+abbrev pub listed_entry : Entry → ListedEntry
+listed_entry entry = (entry.name, entry.is_file)
 
 -- `list`: the entries of a folder, Absent where nothing stands, WrongKind at a file
 abbrev pub ListAnswers : Content → List ℕ → Result (List Entry) TreeError → Type 0
-ListAnswers content path (Ok entries) = (node_at content path ≡ Some folder) × (map listed entries ≡ entries_in content (resolve path))
+ListAnswers content path (Ok entries) = (node_at content path ≡ Some folder) × (map listed_entry entries ≡ entries_in content (resolve path))
 ListAnswers content path (Err Absent) = node_at content path ≡ None
 ListAnswers content path (Err WrongKind) = (bytes : List ℕ) × (node_at content path ≡ Some (file bytes))
 ListAnswers content path (Err Failed) = Unit {0}

@@ -19,8 +19,8 @@ abbrev pub Place : Type 0
 Place = List (List ℕ)
 
 -- the folder that it stands in; the root for the root
-abbrev pub above : Place → Place
-above place = take (length place - 1) place
+abbrev pub place_above : Place → Place
+place_above place = take (length place - 1) place
 
 -- by the first names that differ, in byte order
 abbrev pub names_cmp : Place → Place → Ordering
@@ -28,10 +28,10 @@ names_cmp = slice_cmp (slice_cmp nat_cmp)
 
 -- by the folders that they stand in, and then by their names: what stands right in a folder stands together, after the root
 abbrev pub place_cmp : Place → Place → Ordering
-place_cmp = then_cmp (on above names_cmp) names_cmp
+place_cmp = then_cmp (on place_above names_cmp) names_cmp
 
 pub place_cmp_total : IsTotalOrder place_cmp
-place_cmp_total = then_total (on_total above (lists_total nat_list_cmp_total)) (lists_total nat_list_cmp_total)
+place_cmp_total = then_total (on_total place_above (lists_total nat_list_cmp_total)) (lists_total nat_list_cmp_total)
 
 abbrev pub Content : Type 0
 Content = map.FinMap place_cmp TreeNode
@@ -42,7 +42,7 @@ abbrev pub step : Place → List ℕ → Place
 step place part =
     if bytes_eq part (codes "/") then []
     else (if bytes_eq part (codes ".") then place
-    else (if bytes_eq part (codes "..") then above place else place ++ part ∷ []))
+    else (if bytes_eq part (codes "..") then place_above place else place ++ part ∷ []))
 
 -- the place that a path leads to, from the root on
 abbrev pub resolve : List ℕ → Place

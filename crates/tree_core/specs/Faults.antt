@@ -26,13 +26,13 @@ pub record GainedPrefix (old new : Option (List ℕ)) (text : List ℕ) : Type 0
   pub gained : Gained old new front
 
 -- one more fault; a count of 64 bits stops at its last number
-abbrev pub counted : ℕ → ℕ
-counted faults = min (faults + 1) (max faults (2 ^ 64 - 1))
+abbrev pub next_count : ℕ → ℕ
+next_count faults = min (faults + 1) (max faults (2 ^ 64 - 1))
 
 -- the count after an answer: one more where it failed
 abbrev pub count_after : {T : Type 0} → ℕ → Result T TreeError → ℕ
 count_after faults (Ok value) = faults
 count_after faults (Err Absent) = faults
 count_after faults (Err WrongKind) = faults
-count_after faults (Err Failed) = counted faults
+count_after faults (Err Failed) = next_count faults
 count_after faults (Err Memory) = faults

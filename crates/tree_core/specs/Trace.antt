@@ -1,10 +1,10 @@
 -- What a call adds to the trace of a tree, and what the calls of a trace say.
 use Rattle.std.specs.Prelude.{◌≡◌, ℕ, Bool, List, [], ◌∷◌, map, is_some, Option, Some, None, Result, Ok, Err}
-use Rattle.tree_core.specs.Answer.{has_file, listed}
+use Rattle.tree_core.specs.Answer.{has_file, listed_entry}
 use Rattle.tree_core.specs.Call as call
 use Rattle.tree_core.specs.Call.{CallKind, CallAnswer, Call}
 use Rattle.tree_core.specs.Content.{Content, TreeNode, file, folder, entries_in, node_at, resolve}
-use Rattle.tree_core.specs.Faults.{counted}
+use Rattle.tree_core.specs.Faults.{next_count}
 use Rattle.tree_core.specs.declared.tree.TreeError.{TreeError}
 use Rattle.tree_core.specs.declared.tree.TreeError.TheVariants.{Absent, WrongKind, Failed, Memory}
 use Rattle.tree_core.specs.declared.tree.Entry.{Entry}
@@ -16,21 +16,21 @@ refusal_answer Failed = call.failed
 refusal_answer Memory = call.no_memory
 
 -- what was answered, by how a value is told
-abbrev pub answered : {T : Type 0} → (T → CallAnswer) → Result T TreeError → CallAnswer
-answered tell (Ok value) = tell value
-answered tell (Err error) = refusal_answer error
+abbrev pub call_answer : {T : Type 0} → (T → CallAnswer) → Result T TreeError → CallAnswer
+call_answer tell (Ok value) = tell value
+call_answer tell (Err error) = refusal_answer error
 
 abbrev pub read_call : List ℕ → Result (List ℕ) TreeError → Call
-read_call path result = record { asked = call.read; path = path; answer = answered call.bytes result }
+read_call path result = record { asked = call.read; path = path; answer = call_answer call.bytes result }
 
 abbrev pub list_call : List ℕ → Result (List Entry) TreeError → Call
-list_call path result = record { asked = call.list; path = path; answer = answered (λ items. call.entries (map listed items)) result }
+list_call path result = record { asked = call.list; path = path; answer = call_answer (λ items. call.entries (map listed_entry items)) result }
 
 abbrev pub file_call : List ℕ → Result Bool TreeError → Call
-file_call path result = record { asked = call.is_file; path = path; answer = answered call.told result }
+file_call path result = record { asked = call.is_file; path = path; answer = call_answer call.told result }
 
 abbrev pub exists_call : List ℕ → Result Bool TreeError → Call
-exists_call path result = record { asked = call.exists; path = path; answer = answered call.told result }
+exists_call path result = record { asked = call.exists; path = path; answer = call_answer call.told result }
 
 -- ---- how often calls failed
 
@@ -41,7 +41,7 @@ fault_behind count (call.entries items) = count
 fault_behind count (call.told answer) = count
 fault_behind count call.absent = count
 fault_behind count call.wrong_kind = count
-fault_behind count call.failed = counted count
+fault_behind count call.failed = next_count count
 fault_behind count call.no_memory = count
 
 -- the count behind calls: one more for each that failed, up to the last number

@@ -5,7 +5,7 @@ use Rattle.std.specs.List.{list_any}
 use Rattle.std.specs.FinMap as map
 use Rattle.tree_core.specs.Content.{Content, Place, TreeNode, file, folder}
 use Rattle.tree_core.specs.Call.{Call, call_code}
-use Rattle.tree_core.specs.Faults.{counted}
+use Rattle.tree_core.specs.Faults.{next_count}
 
 -- what it holds, how often it failed, which of its calls will fail, counted from 1 at the next (0 is a call gone by), and
 -- the calls so far
@@ -47,10 +47,10 @@ abbrev pub fails_next : TreeState → Bool
 fails_next state = list_any (λ n. n == 1) state.failing
 
 -- what the beginning of a call leaves: the same content, a call less to wait for each that will fail, and a failure counted
-abbrev pub begun : TreeState → TreeState
-begun state = record {
+abbrev pub state_behind_start : TreeState → TreeState
+state_behind_start state = record {
   content = state.content;
-  faults = if fails_next state then counted state.faults else state.faults;
+  faults = if fails_next state then next_count state.faults else state.faults;
   failing = map (λ n. n - 1) state.failing;
   calls = state.calls;
 }
@@ -59,7 +59,7 @@ begun state = record {
 abbrev pub after_call : TreeState → Call → TreeState
 after_call state call = record {
   content = state.content;
-  faults = if fails_next state then counted state.faults else state.faults;
+  faults = if fails_next state then next_count state.faults else state.faults;
   failing = map (λ n. n - 1) state.failing;
   calls = state.calls ++ call ∷ [];
 }

@@ -17,7 +17,7 @@ ghost use Rattle.tree_core.specs.Readable.{IsReadable};
 ghost use Rattle.tree_core.specs.SystemNames.{TellsNames, names_entry, system_names, names_in_listing};
 
 use crate::trace::Trace;
-use crate::tree::{Entries, Entry, Tree, TreeError};
+use crate::tree::{FolderEntries, Entry, Tree, TreeError};
 use deny_text::path::join;
 use deny_text::{Bytes, PathBuf, Text};
 use std::alloc::{AllocError, Global};
@@ -113,7 +113,7 @@ impl<R: Files + AllocGlobal + Drop> Tree for FolderTree<R> {
         answer
     }
 
-    fn list(&mut self, alloc: Global, path: &str) -> Result<Entries, TreeError>
+    fn list(&mut self, alloc: Global, path: &str) -> Result<FolderEntries, TreeError>
         ensures ordered { IfOk result IsInNameOrder }
         ensures counts { self.new.faults ≡ count_after self.old.faults result }
         ensures traced { self.new.calls ≡ self.old.calls ++ list_call path.now result ∷ [] }
@@ -393,7 +393,7 @@ fn listable(found: &Option<Metadata>) -> Result<(), TreeError>
     }
 }
 
-fn list_folder<R: Files>(rt: &R, alloc: Global, path: &str) -> Result<Entries, TreeError>
+fn list_folder<R: Files>(rt: &R, alloc: Global, path: &str) -> Result<FolderEntries, TreeError>
     ensures { IfOk result IsInNameOrder }
 {
     let found = look(rt, path)?;
@@ -410,7 +410,7 @@ fn list_opened<R: Files, D: Read>(
     alloc: Global,
     path: &str,
     folder: &mut D,
-) -> Result<Entries, TreeError>
+) -> Result<FolderEntries, TreeError>
     ensures told { IfOk result
         (λ entries. TellsNames (D.remaining folder.old) (D.remaining folder.new) (system_names entries)) }
     ensures ordered { IfOk result IsInNameOrder }
@@ -425,10 +425,10 @@ fn entries_named<R: Files>(
     alloc: Global,
     path: &str,
     names: Vec<Text>,
-) -> Result<Entries, TreeError>
+) -> Result<FolderEntries, TreeError>
     ensures { IfOk result (λ entries. system_names entries ≡ names.items) }
 {
-    let mut entries = Entries::new(alloc);
+    let mut entries = FolderEntries::new(alloc);
     'names: for name in names {
         let is_file = is_file_entry(rt, alloc, path, name.as_str())?;
         entries.push(Entry { name, is_file })?;

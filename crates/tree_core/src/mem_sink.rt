@@ -1,6 +1,6 @@
 //! A sink in memory.
 ghost use Rattle.std.specs.Prelude.{◌≡◌, ℕ, ◌↔◌, ◌<◌, ◌≤◌, ◌++◌, [], Some, length, take, IfOk, OnErr, IsErr};
-ghost use Rattle.tree_core.specs.Faults.{Gained, IsCounted, counted};
+ghost use Rattle.tree_core.specs.Faults.{Gained, IsCounted, next_count};
 ghost use Rattle.tree_core.specs.SinkState.{taken_of};
 
 use crate::sink::{Sink, SinkFailed};
@@ -68,7 +68,7 @@ impl Sink for MemSink {
             ≡ record self.old { held = self.old.held ++ take n piece.now }) }
         ensures full { IsErr result ↔ ((0 < length piece.now) × (self.old.room ≤ length self.old.held)) }
         ensures after_refusal { OnErr result
-            (self.new ≡ record self.old { faults = counted self.old.faults }) }
+            (self.new ≡ record self.old { faults = next_count self.old.faults }) }
     {
         let left = self.limit - self.bytes.len();
         let count = piece.len().min(self.most.min(left));

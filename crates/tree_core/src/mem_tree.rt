@@ -4,16 +4,16 @@ ghost use Rattle.std.specs.Prelude.{OnErr, map, if◌then◌else◌};
 ghost use Rattle.std.specs.FinMap.{get};
 ghost use Rattle.tree_core.specs.Content.{Content, IsRooted, entries_in, file, node_at, resolve};
 ghost use Rattle.tree_core.specs.Answer.{ReadAnswers, ListAnswers, FileAnswers, ExistsAnswers};
-ghost use Rattle.tree_core.specs.Answer.{FailsOrLacksMemory, IsInNameOrder, listed};
+ghost use Rattle.tree_core.specs.Answer.{FailsOrLacksMemory, IsInNameOrder, listed_entry};
 ghost use Rattle.tree_core.specs.Faults.{count_after};
 ghost use Rattle.tree_core.specs.Found.{found_node};
 ghost use Rattle.tree_core.specs.Trace.{read_call, list_call, file_call, exists_call};
-ghost use Rattle.tree_core.specs.TreeState.{root_alone, fails_next, begun, after_call, Clashes, Puts};
+ghost use Rattle.tree_core.specs.TreeState.{root_alone, fails_next, state_behind_start, after_call, Clashes, Puts};
 
 use crate::nodes::{FoundNode, Nodes, PutError, StoredNode, entries_at, find, put_at};
 use crate::place::Place;
 use crate::trace::Trace;
-use crate::tree::{Entries, Tree, TreeError};
+use crate::tree::{FolderEntries, Tree, TreeError};
 use deny_text::Bytes;
 use std::alloc::{AllocError, Global};
 use std::collections::BTreeMap;
@@ -99,7 +99,7 @@ impl MemTree {
     /// Begins a call of the four: counts the waits down, and fails where the call was named.
     fn start_call(&mut self) -> Result<(), TreeError>
         ensures answer { result ≡ (if fails_next self.old then Err TreeError.Failed else Ok tt) }
-        ensures after { self.new ≡ begun self.old }
+        ensures after { self.new ≡ state_behind_start self.old }
     {
         let fails = self.waits.contains(&1);
         'waits: for wait in self.waits.iter_mut() {
@@ -128,8 +128,8 @@ impl MemTree {
     }
 
     /// What stands right in a folder.
-    fn entries(&self, alloc: Global, folder: &Place) -> Result<Entries, AllocError>
-        ensures answer { IfOk result (λ entries. map listed entries
+    fn entries(&self, alloc: Global, folder: &Place) -> Result<FolderEntries, AllocError>
+        ensures answer { IfOk result (λ entries. map listed_entry entries
             ≡ entries_in self.now.content folder.now) }
         ensures ordered { IfOk result IsInNameOrder }
     {
@@ -141,7 +141,7 @@ impl MemTree {
         ensures answer { ReadAnswers (node_at self.old.content path.now) result }
         ensures counts { self.new.faults ≡ count_after self.old.faults result }
         ensures fails { (result ≡ Err TreeError.Failed) ↔ IsTrue (fails_next self.old) }
-        ensures after { self.new ≡ begun self.old }
+        ensures after { self.new ≡ state_behind_start self.old }
     {
         self.start_call()?;
         match self.look(alloc, path)? {
@@ -155,12 +155,12 @@ impl MemTree {
     }
 
     /// What `list` answers.
-    fn answer_list(&mut self, alloc: Global, path: &str) -> Result<Entries, TreeError>
+    fn answer_list(&mut self, alloc: Global, path: &str) -> Result<FolderEntries, TreeError>
         ensures answer { ListAnswers self.old.content path.now result }
         ensures ordered { IfOk result IsInNameOrder }
         ensures counts { self.new.faults ≡ count_after self.old.faults result }
         ensures fails { (result ≡ Err TreeError.Failed) ↔ IsTrue (fails_next self.old) }
-        ensures after { self.new ≡ begun self.old }
+        ensures after { self.new ≡ state_behind_start self.old }
     {
         self.start_call()?;
         let place = Place::resolve(alloc, path)?;
@@ -180,7 +180,7 @@ impl MemTree {
         ensures refusal { FailsOrLacksMemory result }
         ensures counts { self.new.faults ≡ count_after self.old.faults result }
         ensures fails { (result ≡ Err TreeError.Failed) ↔ IsTrue (fails_next self.old) }
-        ensures after { self.new ≡ begun self.old }
+        ensures after { self.new ≡ state_behind_start self.old }
     {
         self.start_call()?;
         match self.look(alloc, path)? {
@@ -195,7 +195,7 @@ impl MemTree {
         ensures refusal { FailsOrLacksMemory result }
         ensures counts { self.new.faults ≡ count_after self.old.faults result }
         ensures fails { (result ≡ Err TreeError.Failed) ↔ IsTrue (fails_next self.old) }
-        ensures after { self.new ≡ begun self.old }
+        ensures after { self.new ≡ state_behind_start self.old }
     {
         self.start_call()?;
         match self.look(alloc, path)? {
@@ -224,7 +224,7 @@ impl Tree for MemTree {
         answer
     }
 
-    fn list(&mut self, alloc: Global, path: &str) -> Result<Entries, TreeError>
+    fn list(&mut self, alloc: Global, path: &str) -> Result<FolderEntries, TreeError>
         ensures answer { ListAnswers self.old.content path.now result }
         ensures ordered { IfOk result IsInNameOrder }
         ensures counts { self.new.faults ≡ count_after self.old.faults result }

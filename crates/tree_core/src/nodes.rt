@@ -3,13 +3,13 @@ ghost use Rattle.std.specs.Prelude.{◌≡◌, ◌++◌, None, IfOk, OnOk, OnErr
 ghost use Rattle.std.specs.Option.{option_to_list};
 ghost use Rattle.std.specs.FinMap as finite;
 ghost use Rattle.tree_core.specs.Content.{entries_in, entry_in, place_cmp};
-ghost use Rattle.tree_core.specs.Answer.{IsInNameOrder, listed};
+ghost use Rattle.tree_core.specs.Answer.{IsInNameOrder, listed_entry};
 ghost use Rattle.tree_core.specs.Stored.{IsSound, content_of, node_of, stored_at, with_root};
 ghost use Rattle.tree_core.specs.Found.{found_node};
 ghost use Rattle.tree_core.specs.TreeState.{Clashes, IsClosedAbove, Puts};
 
 use crate::place::Place;
-use crate::tree::{Entries, Entry};
+use crate::tree::{FolderEntries, Entry};
 use deny_text::{Bytes, Text};
 use std::alloc::{AllocError, Global};
 use std::collections::BTreeMap;
@@ -142,15 +142,15 @@ fn add(nodes: &mut Nodes, alloc: Global, place: &Place, node: StoredNode) -> Res
 
 /// What stands right in a folder, in order: from the folder's least possible entry on, which has the empty
 /// name, up to the first of another folder.
-pub fn entries_at(nodes: &Nodes, alloc: Global, folder: &Place) -> Result<Entries, AllocError>
+pub fn entries_at(nodes: &Nodes, alloc: Global, folder: &Place) -> Result<FolderEntries, AllocError>
     requires { T (finite.is_sorted place_cmp (with_root nodes.now.entries)) }
-    ensures answer { IfOk result (λ entries. map listed entries
+    ensures answer { IfOk result (λ entries. map listed_entry entries
         ≡ entries_in (content_of nodes.now.entries) folder.now) }
     ensures ordered { IfOk result IsInNameOrder }
 {
     let least = folder.child(alloc, "")?;
     let past = least.child(alloc, "")?;
-    let mut entries = Entries::new(alloc);
+    let mut entries = FolderEntries::new(alloc);
     'nodes: for (place, node) in nodes.range(least..past) {
         push_entry(&mut entries, alloc, folder, place, node)?;
     }
@@ -159,14 +159,14 @@ pub fn entries_at(nodes: &Nodes, alloc: Global, folder: &Place) -> Result<Entrie
 
 /// Appends what stands at the place, where that is right in the folder.
 fn push_entry(
-    entries: &mut Entries,
+    entries: &mut FolderEntries,
     alloc: Global,
     folder: &Place,
     place: &Place,
     node: &StoredNode,
 ) -> Result<(), AllocError>
-    ensures { OnOk result (map listed entries.new
-        ≡ map listed entries.old ++ option_to_list (entry_in folder.now place.now (node_of node.now))) }
+    ensures { OnOk result (map listed_entry entries.new
+        ≡ map listed_entry entries.old ++ option_to_list (entry_in folder.now place.now (node_of node.now))) }
 {
     if let Some(name) = place.name_in(folder) {
         let name = Text::copy(alloc, name)?;

@@ -5,7 +5,7 @@ ghost use Rattle.std.proofs.Common.{rules};
 ghost use Rattle.std.specs.Ordering.{eq_by_cmp};
 ghost use Rattle.std.specs.Cmp.{eq_by_cmp_equiv, partial_equiv_from_equiv, partial_order_from_total};
 ghost use Rattle.std.specs.Cmp.Rules.{comparing};
-ghost use Rattle.tree_core.specs.Content.{Place, above, place_cmp, place_cmp_total, step, resolve};
+ghost use Rattle.tree_core.specs.Content.{Place, place_above, place_cmp, place_cmp_total, step, resolve};
 
 use deny_text::Text;
 use deny_text::path::components;
@@ -75,14 +75,14 @@ impl Place {
 
     /// The folder that this stands in; the root for the root.
     pub fn above(&self, alloc: Global) -> Result<Place, AllocError>
-        ensures { IfOk result (λ p. p ≡ above self.now) }
+        ensures { IfOk result (λ p. p ≡ place_above self.now) }
     {
         let names = copy_names(alloc, self.names_above())?;
         Ok(Place { names })
     }
 
     fn names_above(&self) -> &[Text]
-        ensures { result.now ≡ above self.now }
+        ensures { result.now ≡ place_above self.now }
     {
         let count = self.names.len().saturating_sub(1);
         &self.names[..count]

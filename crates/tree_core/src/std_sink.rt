@@ -5,7 +5,7 @@ ghost use Rattle.std.specs.declared.io.ErrorKind.{ErrorKind};
 ghost use Rattle.std.specs.Io.{WritesAtMost};
 ghost use Rattle.std.specs.Io.KnownBytes.{Appends, Keeps, WriteAppends};
 ghost use Rattle.std.specs.IoError.{error_kind};
-ghost use Rattle.tree_core.specs.Faults.{IsCounted, counted};
+ghost use Rattle.tree_core.specs.Faults.{IsCounted, next_count};
 
 use crate::sink::{Sink, SinkFailed};
 use std::io;
@@ -47,7 +47,7 @@ impl<W: Write> Sink for StdSink<W> {
         ensures cause { IsCounted self.old.1 self.new.1 result }
 
         ensures nothing { length piece.now ≡ 0 → result ≡ Ok 0 }
-        ensures counts { self.new.1 ≡ (if is_ok result then self.old.1 else counted self.old.1) }
+        ensures counts { self.new.1 ≡ (if is_ok result then self.old.1 else next_count self.old.1) }
         ensures gained { IfOk result
             (λ n. Appends (W.contents self.old.0) (W.contents self.new.0) (take n piece.now)) }
         ensures kept { OnErr result (Keeps (W.contents self.old.0) (W.contents self.new.0)) }

@@ -4,7 +4,7 @@ ghost use Rattle.std.specs.Borrow.{ftrue};
 ghost use Rattle.std.specs.Coded.{coded_list};
 ghost use Rattle.tree_core.specs.Call.{Call, call_code};
 
-use crate::tree::{Entries, TreeError};
+use crate::tree::{FolderEntries, TreeError};
 use deny_text::Bytes;
 use std::marker::Model;
 
@@ -37,7 +37,7 @@ impl Trace {
     }
 
     /// The calls so far, and a listing.
-    pub fn list(&self, path: &[u8], answer: &Result<Entries, TreeError>) -> Trace
+    pub fn list(&self, path: &[u8], answer: &Result<FolderEntries, TreeError>) -> Trace
         ensures { result.calls ≡ self.now.calls ++ list_call path.now answer.now ∷ [] }
     {
         Trace {}

@@ -46,7 +46,7 @@ pub struct Entry {
 }
 
 /// The entries of a folder, in byte order of their names.
-pub type Entries = ListOf<Entry>;
+pub type FolderEntries = ListOf<Entry>;
 
 /// Files and folders, by paths. A relative path is read from the root.
 pub trait Tree {
@@ -67,7 +67,7 @@ pub trait Tree {
         ensures traced { trace self.new ≡ trace self.old ++ read_call path.now result ∷ [] };
 
     /// What stands right in a folder.
-    fn list(&mut self, alloc: Global, path: &str) -> Result<Entries, TreeError>
+    fn list(&mut self, alloc: Global, path: &str) -> Result<FolderEntries, TreeError>
         ensures answer { ForSome (content self.old) (λ c. ListAnswers c path.now result) }
         ensures ordered { IfOk result IsInNameOrder }
         ensures same { content self.new ≡ content self.old }

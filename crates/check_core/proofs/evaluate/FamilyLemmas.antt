@@ -12,7 +12,7 @@ use Rattle.spdx_terms.specs.families.Places as families
 use Rattle.spdx_terms.specs.families.Places.{places_in, same_family}
 use Rattle.policy_parts.specs.spec.Index.{places_from, first_of}
 use Rattle.policy_core.specs.valid.Satisfied.{item_satisfies, same_text, satisfies, version_satisfies}
-use Rattle.policy_core.specs.valid.Policy.{Grant, first_entry, granted}
+use Rattle.policy_core.specs.valid.Policy.{Grant, first_entry, granted_licensees}
 use Rattle.check_core.specs.evaluate.Entries.{families_at, families_in, granted_families, places_for}
 
 -- ---- a licensee that satisfies a term is of its family
@@ -95,14 +95,14 @@ left_behind test places i inside none =
 
 -- ---- what an index has
 
-families_granted : (exceptions : List Grant) (place : ℕ) → families_at (granted_families exceptions) place ≡ families_in (granted exceptions place)
+families_granted : (exceptions : List Grant) (place : ℕ) → families_at (granted_families exceptions) place ≡ families_in (granted_licensees exceptions place)
 families_granted [] zero = refl
 families_granted [] (suc place) = refl
 families_granted (first ∷ exceptions) zero = refl
 families_granted (first ∷ exceptions) (suc place) = families_granted exceptions place
 
 pub granted_places : (exceptions : List Grant) (lists : List (List Family)) (exception : ℕ) (term : LicenseReq) (family : Family) (places : List ℕ) (licensees : List LicenseReq)
-    → granted_families exceptions ≡ lists → family ≡ family_of term → places ≡ places_in family (families_at lists exception) → licensees ≡ granted exceptions exception
+    → granted_families exceptions ≡ lists → family ≡ family_of term → places ≡ places_in family (families_at lists exception) → licensees ≡ granted_licensees exceptions exception
     → places ≡ places_for licensees term
 granted_places exceptions lists exception term family places licensees kept own is are =
     is

@@ -8,7 +8,7 @@ use Rattle.std.proofs.lemmas.List.Folds.{list_any-append}
 use Rattle.spdx_terms.specs.declared.term.ExpressionReq.{ExpressionReq}
 use Rattle.spdx_terms.specs.declared.term.LicenseReq.{LicenseReq}
 use Rattle.spdx_core.specs.Grammar.{ExpressionTree}
-use Rattle.graph_core.specs.Krate.{Record}
+use Rattle.graph_core.specs.Krate.{CrateRecord}
 use Rattle.policy_parts.specs.spec.Index.{places_from, first_of}
 use Rattle.policy_parts.specs.spec.Matching.{spec_matches}
 use Rattle.policy_parts.specs.spec.Spec.{Spec}
@@ -17,7 +17,7 @@ use Rattle.spdx_core.specs.declared.certificates.verdict.Hit.TheVariants.{Allowe
 use Rattle.spdx_core.specs.certificates.Certificates.{has_hit}
 use Rattle.spdx_core.proofs.certificates.LawLemmas.{more_hits}
 use Rattle.policy_core.specs.valid.Satisfied.{satisfies}
-use Rattle.policy_core.specs.valid.Policy.{Grant, Policy, first_exception, first_entry, granted, exception_hit, hit_by, hit_of}
+use Rattle.policy_core.specs.valid.Policy.{Grant, Policy, first_exception, first_entry, granted_licensees, exception_hit, hit_by, hit_of}
 use Rattle.check_core.specs.evaluate.Evaluation.{term_hits, is_allowed}
 use Rattle.check_core.specs.evaluate.Laws.{with_allowed, with_exception}
 use Rattle.check_core.proofs.evaluate.PlaceLemmas.{found, within, stays_first}
@@ -31,7 +31,7 @@ each f g more [] (suc n) h = h
 each f g more (term ∷ terms) zero h = more term h
 each f g more (term ∷ terms) (suc n) h = each f g more terms n h
 
-still_allowed : (policy other : Policy) (krate : Record) (terms : List ExpressionReq) (tree : ExpressionTree)
+still_allowed : (policy other : Policy) (krate : CrateRecord) (terms : List ExpressionReq) (tree : ExpressionTree)
     → ((term : LicenseReq) → IsTrue (is_some (hit_of policy krate term)) → IsTrue (is_some (hit_of other krate term)))
     → IsTrue (is_allowed policy krate terms tree) → IsTrue (is_allowed other krate terms tree)
 still_allowed policy other krate terms tree more =
@@ -73,7 +73,7 @@ entry_more term xs place x h =
     map_some (first_entry (insert xs place x) term) ∙ found test 0 (insert xs place x)
     ∙ any_more test xs place x (sym (found test 0 xs) ∙ sym (map_some (first_entry xs term)) ∙ h)
 
-pub more_allowed : (policy : Policy) (krate : Record) (terms : List ExpressionReq) (tree : ExpressionTree) (place : ℕ) (licensee : LicenseReq)
+pub more_allowed : (policy : Policy) (krate : CrateRecord) (terms : List ExpressionReq) (tree : ExpressionTree) (place : ℕ) (licensee : LicenseReq)
     → IsTrue (is_allowed policy krate terms tree) → IsTrue (is_allowed (with_allowed policy place licensee) krate terms tree)
 more_allowed policy krate terms tree place licensee =
     still_allowed policy (with_allowed policy place licensee) krate terms tree (λ term h.
@@ -85,13 +85,13 @@ more_allowed policy krate terms tree place licensee =
 
 -- ---- a further exception
 
-granted_still : (exceptions : List Grant) (grant : Grant) (place : ℕ) → place < length exceptions → granted (exceptions ++ grant ∷ []) place ≡ granted exceptions place
+granted_still : (exceptions : List Grant) (grant : Grant) (place : ℕ) → place < length exceptions → granted_licensees (exceptions ++ grant ∷ []) place ≡ granted_licensees exceptions place
 granted_still [] grant place h = absurd (omega arith)
 granted_still (first ∷ exceptions) grant zero h = refl
 granted_still (first ∷ exceptions) grant (suc n) h = let below : n < length exceptions = omega arith in granted_still exceptions grant n below
 
 -- the first exception that matches, if any does, stays the first
-hit_still : (policy : Policy) (krate : Record) (grant : Grant) (term : LicenseReq) (exception : Option ℕ) → first_exception policy krate ≡ exception
+hit_still : (policy : Policy) (krate : CrateRecord) (grant : Grant) (term : LicenseReq) (exception : Option ℕ) → first_exception policy krate ≡ exception
     → IsTrue (is_some (hit_by policy exception term)) → IsTrue (is_some (hit_of (with_exception policy grant) krate term))
 hit_still policy krate grant term (Some place) is h =
     let spec_of : Grant → Spec = λ g. g.spec in
@@ -111,7 +111,7 @@ hit_still policy krate grant term None is h =
     let allowed = option_map Allowed (first_entry policy.allowed term) in
     either_some by_exception allowed ∙ right_of (is_some by_exception) (is_some allowed) h
 
-pub more_exceptions : (policy : Policy) (krate : Record) (terms : List ExpressionReq) (tree : ExpressionTree) (grant : Grant)
+pub more_exceptions : (policy : Policy) (krate : CrateRecord) (terms : List ExpressionReq) (tree : ExpressionTree) (grant : Grant)
     → IsTrue (is_allowed policy krate terms tree) → IsTrue (is_allowed (with_exception policy grant) krate terms tree)
 more_exceptions policy krate terms tree grant =
     still_allowed policy (with_exception policy grant) krate terms tree (λ term. hit_still policy krate grant term (first_exception policy krate) refl)

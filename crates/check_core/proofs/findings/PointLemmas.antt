@@ -5,7 +5,7 @@ use Rattle.std.specs.List.{AllZip}
 use Rattle.std.specs.Str.{IsCharBoundary}
 use Rattle.std.proofs.Math.Nat.{eq-or-lt_of_le}
 use Rattle.std.proofs.lemmas.List.{get_or-take, get_or-drop, take-take, drop-take, drop-drop}
-use Rattle.deny_text.specs.Spans.{moved}
+use Rattle.deny_text.specs.Spans.{moved_span}
 use Rattle.deny_text.specs.declared.span.Span.{Span}
 use Rattle.spdx_terms.specs.declared.term.ExpressionReq.{ExpressionReq}
 use Rattle.spdx_terms.specs.Spans.{LiesFrom, Rise}
@@ -13,7 +13,7 @@ use Rattle.spdx_core.specs.Expressions.{IsExpression}
 use Rattle.spdx_core.specs.Reading.{ExpressionView}
 use Rattle.spdx_core.specs.declared.certificates.verdict.Hit.{Hit}
 use Rattle.diag_core.specs.File.{File}
-use Rattle.gather_licence.specs.location.Location.{PointsAt}
+use Rattle.gather_license.specs.location.Location.{PointsAt}
 use Rattle.gather_core.specs.declared.findings.license.LicenseExprInfo.{LicenseExprInfo}
 use Rattle.gather_core.specs.findings.License.{Stands, StandsIn}
 use Rattle.check_core.specs.findings.Findings.{term_label, term_labels}
@@ -62,7 +62,7 @@ module _ (source text : List ℕ) (start : ℕ) (is : slice_range source start (
 -- in a file of the table, a part of the text that stands there
 part_cut : (files : List File) (file start : ℕ) (text : List ℕ) (span : Span) → span.start ≤ span.end → IsCharBoundary text span.start → IsCharBoundary text span.end
     → PointsAt files (record { file = file; span = record { start = start; end = start + length text } }) text
-    → PointsAt files (record { file = file; span = moved start span }) (slice_range text span.start span.end)
+    → PointsAt files (record { file = file; span = moved_span start span }) (slice_range text span.start span.end)
 part_cut files file start text span ordered starts ends points =
     let is : slice_range points.source start (start + length text) ≡ text = points.cuts.cut_out in
     let last : IsCharBoundary points.source (start + length text) = points.cuts.ends in

@@ -8,7 +8,7 @@ use Rattle.std.proofs.lemmas.List.FromFn.{fill_by_all, get_or-map-range_with_len
 use Rattle.spdx_core.specs.declared.certificates.verdict.Hit.{Hit}
 use Rattle.spdx_core.specs.declared.certificates.verdict.Hit.TheVariants.{Allowed, Exception}
 use Rattle.policy_core.specs.declared.valid.policy.ValidConfig.{ValidConfig}
-use Rattle.check_core.specs.unused.Flags.{Flags, flag_at, flags_by, flags_of, marked, marked_by, no_flags}
+use Rattle.check_core.specs.unused.Flags.{Flags, flag_at, flags_by, flags_of, flags_with_hit, marked_by, no_flags}
 use Rattle.check_core.specs.unused.Unused.{allows, excepts, hits_in, is_exception_hit, is_license_hit}
 
 or_true : (b : Bool) → (b || true) ≡ true
@@ -69,7 +69,7 @@ exceptions_same n hits p =
     same_flags n (is_exception_hit hits) (is_exception_hit (hits ++ Allowed p ∷ []))
     (λ k. sym (list_any-append (excepts k) hits (Allowed p ∷ []) ∙ or_false (is_exception_hit hits k)))
 
-flags_more : (policy : ValidConfig) (hits : List Hit) (hit : Hit) → marked (flags_by policy hits) hit ≡ flags_by policy (hits ++ hit ∷ [])
+flags_more : (policy : ValidConfig) (hits : List Hit) (hit : Hit) → flags_with_hit (flags_by policy hits) hit ≡ flags_by policy (hits ++ hit ∷ [])
 flags_more policy hits (Allowed entry) =
     ap (λ (flags : List Bool). record { allowed = flags; exceptions = flags_of (length policy.exceptions) (is_exception_hit hits) })
     (licenses_more (length policy.allowed) hits entry)

@@ -18,7 +18,7 @@ use Rattle.policy_parts.specs.Names.{severity_of_lint}
 use Rattle.policy_core.specs.declared.valid.policy.ValidConfig.{ValidConfig}
 use Rattle.policy_core.specs.declared.valid.policy.ValidException.{ValidException}
 use Rattle.check_core.specs.unused.Laws.{EntriesLie, ExceptionIsHit, ExceptionIsTold, EntryLabelsLie, LicenseIsHit, LicenseIsTold, Tell, TellUnused}
-use Rattle.check_core.specs.unused.Unused.{allows, excepts, exception_findings, is_exception_hit, is_license_hit, is_own, license_findings, severity_asked, unhit, unused_exception, unused_findings, unused_license}
+use Rattle.check_core.specs.unused.Unused.{allows, excepts, exception_findings, is_exception_hit, is_license_hit, is_own, license_findings, severity_asked, items_without_hit, unused_exception, unused_findings, unused_license}
 
 -- ---- hits by their tests
 
@@ -70,9 +70,9 @@ module _ {A : Type 0} (is_told : ℕ → A → Type 0) (told : A → Diag) (is_h
   tell_by place x items rest more true is = inr (hit place x is, more)
   tell_by place x items rest more false is = told_by place x items rest more is (own x) refl
 
-  tell_own : (place : ℕ) (items : List A) → Tell is_told told place items (map told (filter own (unhit is_hit place items)))
+  tell_own : (place : ℕ) (items : List A) → Tell is_told told place items (map told (filter own (items_without_hit is_hit place items)))
   tell_own place [] = refl
-  tell_own place (x ∷ items) = tell_by place x items (unhit is_hit (suc place) items) (tell_own (suc place) items) (is_hit place) refl
+  tell_own place (x ∷ items) = tell_by place x items (items_without_hit is_hit (suc place) items) (tell_own (suc place) items) (is_hit place) refl
 
 all_own : {A : Type 0} (xs : List A) → filter (λ x. true) xs ≡ xs
 all_own [] = refl
@@ -81,10 +81,10 @@ all_own (x ∷ xs) = ap (λ rest. x ∷ rest) (all_own xs)
 -- ---- licensees
 
 licenses_asked : (policy : ValidConfig) (hits : List Hit) (severity : Severity) → (policy.unused_allowed_license ≡ Allow → ⊥)
-    → Tell (LicenseIsTold policy hits) (unused_license severity policy.file_id) 0 policy.allowed (map (unused_license severity policy.file_id) (unhit (is_license_hit hits) 0 policy.allowed))
+    → Tell (LicenseIsTold policy hits) (unused_license severity policy.file_id) 0 policy.allowed (map (unused_license severity policy.file_id) (items_without_hit (is_license_hit hits) 0 policy.allowed))
 licenses_asked policy hits severity asked =
     subst (λ (l : List Licensee). Tell (LicenseIsTold policy hits) (unused_license severity policy.file_id) 0 policy.allowed (map (unused_license severity policy.file_id) l))
-    (all_own (unhit (is_license_hit hits) 0 policy.allowed))
+    (all_own (items_without_hit (is_license_hit hits) 0 policy.allowed))
     (tell_own (LicenseIsTold policy hits) (unused_license severity policy.file_id) (is_license_hit hits) (λ licensee. true)
     (λ place x free own. record { asked = asked; no_hit = license_not_hit hits place free })
     (λ place x is told. told.no_hit (license_hit hits place is))
@@ -92,7 +92,7 @@ licenses_asked policy hits severity asked =
 
 licenses_told : (policy : ValidConfig) (hits : List Hit) (level : LintLevel) → policy.unused_allowed_license ≡ level
     → Tell (LicenseIsTold policy hits) (unused_license (severity_of_lint level) policy.file_id) 0 policy.allowed
-    (option_map_or (λ severity. map (unused_license severity policy.file_id) (unhit (is_license_hit hits) 0 policy.allowed)) (severity_asked level) [])
+    (option_map_or (λ severity. map (unused_license severity policy.file_id) (items_without_hit (is_license_hit hits) 0 policy.allowed)) (severity_asked level) [])
 licenses_told policy hits Allow is = tell_none (LicenseIsTold policy hits) (unused_license (severity_of_lint Allow) policy.file_id) (λ place x told. told.asked is) 0 policy.allowed
 licenses_told policy hits Warn is = licenses_asked policy hits Warning (λ allow. let same : Warn ≡ Allow = sym is ∙ allow in cc)
 licenses_told policy hits Deny is = licenses_asked policy hits Error (λ allow. let same : Deny ≡ Allow = sym is ∙ allow in cc)
@@ -101,7 +101,7 @@ licenses_told policy hits Deny is = licenses_asked policy hits Error (λ allow. 
 
 exceptions_asked : (policy : ValidConfig) (hits : List Hit) (severity : Severity) → (policy.unused_license_exception ≡ Allow → ⊥)
     → Tell (ExceptionIsTold policy hits) (unused_exception severity) 0 policy.exceptions
-    (map (unused_exception severity) (filter (is_own policy.file_id) (unhit (is_exception_hit hits) 0 policy.exceptions)))
+    (map (unused_exception severity) (filter (is_own policy.file_id) (items_without_hit (is_exception_hit hits) 0 policy.exceptions)))
 exceptions_asked policy hits severity asked =
     tell_own (ExceptionIsTold policy hits) (unused_exception severity) (is_exception_hit hits) (is_own policy.file_id)
     (λ place x free own. (record { asked = asked; no_hit = exception_not_hit hits place free }, eqb-true x.file_id policy.file_id own))
@@ -110,7 +110,7 @@ exceptions_asked policy hits severity asked =
 
 exceptions_told : (policy : ValidConfig) (hits : List Hit) (level : LintLevel) → policy.unused_license_exception ≡ level
     → Tell (ExceptionIsTold policy hits) (unused_exception (severity_of_lint level)) 0 policy.exceptions
-    (option_map_or (λ severity. map (unused_exception severity) (filter (is_own policy.file_id) (unhit (is_exception_hit hits) 0 policy.exceptions))) (severity_asked level) [])
+    (option_map_or (λ severity. map (unused_exception severity) (filter (is_own policy.file_id) (items_without_hit (is_exception_hit hits) 0 policy.exceptions))) (severity_asked level) [])
 exceptions_told policy hits Allow is = tell_none (ExceptionIsTold policy hits) (unused_exception (severity_of_lint Allow)) (λ place x told. told.0.asked is) 0 policy.exceptions
 exceptions_told policy hits Warn is = exceptions_asked policy hits Warning (λ allow. let same : Warn ≡ Allow = sym is ∙ allow in cc)
 exceptions_told policy hits Deny is = exceptions_asked policy hits Error (λ allow. let same : Deny ≡ Allow = sym is ∙ allow in cc)
@@ -130,10 +130,10 @@ both_parts : {A : Type 0} (P : A → Type 0) (xs ys : List A) → AllByRecursion
 both_parts P [] ys some more = more
 both_parts P (x ∷ xs) ys some more = (some.0, both_parts P xs ys some.1 more)
 
-unhit_lie : {A : Type 0} (P : A → Type 0) (is_hit : ℕ → Bool) (place : ℕ) (items : List A) → AllByRecursion P items → AllByRecursion P (unhit is_hit place items)
+unhit_lie : {A : Type 0} (P : A → Type 0) (is_hit : ℕ → Bool) (place : ℕ) (items : List A) → AllByRecursion P items → AllByRecursion P (items_without_hit is_hit place items)
 unhit_lie P is_hit place [] all = tt
 unhit_lie P is_hit place (x ∷ items) all =
-    both_parts P (cond (is_hit place) [] (x ∷ [])) (unhit is_hit (suc place) items)
+    both_parts P (cond (is_hit place) [] (x ∷ [])) (items_without_hit is_hit (suc place) items)
     (elim (is_hit place) as (λ b. AllByRecursion P (cond b [] (x ∷ []))) [ true ↦ tt | false ↦ (all.0, tt) ]) (unhit_lie P is_hit (suc place) items all.1)
 
 filter_lie : {A : Type 0} (P : A → Type 0) (own : A → Bool) (items : List A) → AllByRecursion P items → AllByRecursion P (filter own items)
@@ -157,10 +157,10 @@ labels_lie files policy hits lie =
     let LicenseLies : Licensee → Type 0 = λ licensee. PlaceLies files policy.file_id licensee.0.span in
     let ExceptionLies : ValidException → Type 0 = λ exception. PlaceLies files exception.file_id exception.spec.span in
     both_parts (EntryLabelsLie files) (license_findings policy (is_license_hit hits)) (exception_findings policy (is_exception_hit hits))
-    (asked_lie (EntryLabelsLie files) (λ severity. map (unused_license severity policy.file_id) (unhit (is_license_hit hits) 0 policy.allowed))
-    (λ severity. told_lie LicenseLies (EntryLabelsLie files) (unused_license severity policy.file_id) (λ x lies. (lies, tt)) (unhit (is_license_hit hits) 0 policy.allowed)
+    (asked_lie (EntryLabelsLie files) (λ severity. map (unused_license severity policy.file_id) (items_without_hit (is_license_hit hits) 0 policy.allowed))
+    (λ severity. told_lie LicenseLies (EntryLabelsLie files) (unused_license severity policy.file_id) (λ x lies. (lies, tt)) (items_without_hit (is_license_hit hits) 0 policy.allowed)
     (unhit_lie LicenseLies (is_license_hit hits) 0 policy.allowed lie.allowed)) (severity_asked policy.unused_allowed_license))
-    (asked_lie (EntryLabelsLie files) (λ severity. map (unused_exception severity) (filter (is_own policy.file_id) (unhit (is_exception_hit hits) 0 policy.exceptions)))
-    (λ severity. told_lie ExceptionLies (EntryLabelsLie files) (unused_exception severity) (λ x lies. (lies, tt)) (filter (is_own policy.file_id) (unhit (is_exception_hit hits) 0 policy.exceptions))
-    (filter_lie ExceptionLies (is_own policy.file_id) (unhit (is_exception_hit hits) 0 policy.exceptions) (unhit_lie ExceptionLies (is_exception_hit hits) 0 policy.exceptions lie.exceptions)))
+    (asked_lie (EntryLabelsLie files) (λ severity. map (unused_exception severity) (filter (is_own policy.file_id) (items_without_hit (is_exception_hit hits) 0 policy.exceptions)))
+    (λ severity. told_lie ExceptionLies (EntryLabelsLie files) (unused_exception severity) (λ x lies. (lies, tt)) (filter (is_own policy.file_id) (items_without_hit (is_exception_hit hits) 0 policy.exceptions))
+    (filter_lie ExceptionLies (is_own policy.file_id) (items_without_hit (is_exception_hit hits) 0 policy.exceptions) (unhit_lie ExceptionLies (is_exception_hit hits) 0 policy.exceptions lie.exceptions)))
     (severity_asked policy.unused_license_exception))

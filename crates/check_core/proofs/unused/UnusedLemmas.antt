@@ -10,7 +10,7 @@ use Rattle.policy_parts.specs.declared.entries.licensee.Licensee.{Licensee}
 use Rattle.policy_core.specs.declared.valid.policy.ValidConfig.{ValidConfig}
 use Rattle.policy_core.specs.declared.valid.policy.ValidException.{ValidException}
 use Rattle.check_core.specs.unused.Flags.{flag_at, flags_by, flags_of, unused_pack, with_more}
-use Rattle.check_core.specs.unused.Unused.{exception_findings, is_exception_hit, is_license_hit, last_pack, own_findings, license_findings, severity_asked, unhit, unused_license}
+use Rattle.check_core.specs.unused.Unused.{exception_findings, is_exception_hit, is_license_hit, last_pack, own_findings, license_findings, severity_asked, items_without_hit, unused_license}
 use Rattle.check_core.proofs.unused.FlagLemmas.{flag_is}
 
 -- ---- packs that gain findings
@@ -20,15 +20,15 @@ nothing_more pack = ap (λ (findings : List Diag). record { check = pack.check; 
 
 -- ---- all items, by flags that say what is a hit
 
-same_unhit : {A : Type 0} (f g : ℕ → Bool) (place n : ℕ) (items : List A) → place + length items ≡ n → ((k : ℕ) → k < n → f k ≡ g k) → unhit f place items ≡ unhit g place items
+same_unhit : {A : Type 0} (f g : ℕ → Bool) (place n : ℕ) (items : List A) → place + length items ≡ n → ((k : ℕ) → k < n → f k ≡ g k) → items_without_hit f place items ≡ items_without_hit g place items
 same_unhit f g place n [] long same = refl
 same_unhit {A} f g place n (item ∷ items) long same =
     let here : place < n = omega arith in
     let rest : suc place + length items ≡ n = omega arith in
-    ap (λ (b : Bool). cond b [] (item ∷ []) ++ unhit f (suc place) items) (same place here)
+    ap (λ (b : Bool). cond b [] (item ∷ []) ++ items_without_hit f (suc place) items) (same place here)
     ∙ ap (λ (l : List A). cond (g place) [] (item ∷ []) ++ l) (same_unhit f g (suc place) n items rest same)
 
-unhit_is : {A : Type 0} (test : ℕ → Bool) (items : List A) → unhit (flag_at (flags_of (length items) test)) 0 items ≡ unhit test 0 items
+unhit_is : {A : Type 0} (test : ℕ → Bool) (items : List A) → items_without_hit (flag_at (flags_of (length items) test)) 0 items ≡ items_without_hit test 0 items
 unhit_is test items =
     same_unhit (flag_at (flags_of (length items) test)) test 0 (length items) items (omega arith) (λ k below. flag_is (length items) test k below)
 

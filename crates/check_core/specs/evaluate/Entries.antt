@@ -6,8 +6,8 @@ use Rattle.spdx_terms.specs.declared.term.Family.{Family}
 use Rattle.spdx_terms.specs.declared.term.LicenseReq.{LicenseReq}
 use Rattle.spdx_terms.specs.Terms.{family_of}
 use Rattle.spdx_terms.specs.families.Places.{places_in}
-use Rattle.graph_core.specs.Krate.{Record}
-use Rattle.policy_core.specs.valid.Policy.{Grant, Policy, first_exception, granted}
+use Rattle.graph_core.specs.Krate.{CrateRecord}
+use Rattle.policy_core.specs.valid.Policy.{Grant, Policy, first_exception, granted_licensees}
 
 -- ---- families
 
@@ -43,7 +43,7 @@ entries_in licensees term = length (places_for licensees term)
 
 -- those of the exception at a place, if there is one
 abbrev pub granted_entries : List Grant → Option ℕ → LicenseReq → ℕ
-granted_entries exceptions exception term = option_map_or (λ place. entries_in (granted exceptions place) term) exception 0
+granted_entries exceptions exception term = option_map_or (λ place. entries_in (granted_licensees exceptions place) term) exception 0
 
 -- those of an exception and of what is allowed together
 abbrev pub entries_by : Policy → Option ℕ → LicenseReq → ℕ
@@ -51,12 +51,12 @@ entries_by policy exception term = granted_entries policy.exceptions exception t
 
 -- How many entries are asked at most for a term of a crate: those of the term's family in the first exception that
 -- matches the crate, and in what is allowed.
-abbrev pub entries_of : Policy → Record → LicenseReq → ℕ
+abbrev pub entries_of : Policy → CrateRecord → LicenseReq → ℕ
 entries_of policy krate term = entries_by policy (first_exception policy krate) term
 
 -- those of all terms of an expression, where it is known which exception is the first that matches
 abbrev pub entries_by_terms : Policy → Option ℕ → List ExpressionReq → ℕ
 entries_by_terms policy exception terms = sum_by (λ term. entries_by policy exception term.req) terms
 
-abbrev pub entries_of_terms : Policy → Record → List ExpressionReq → ℕ
+abbrev pub entries_of_terms : Policy → CrateRecord → List ExpressionReq → ℕ
 entries_of_terms policy krate terms = entries_by_terms policy (first_exception policy krate) terms

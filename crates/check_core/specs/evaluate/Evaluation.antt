@@ -2,7 +2,7 @@
 use Rattle.std.specs.Prelude.{ℕ, Bool, List, map, Option}
 use Rattle.spdx_terms.specs.declared.term.ExpressionReq.{ExpressionReq}
 use Rattle.spdx_core.specs.Grammar.{ExpressionTree}
-use Rattle.graph_core.specs.Krate.{Record}
+use Rattle.graph_core.specs.Krate.{CrateRecord}
 use Rattle.spdx_core.specs.declared.certificates.verdict.Hit.{Hit}
 use Rattle.spdx_core.specs.certificates.Certificates.{has_hit}
 use Rattle.spdx_core.specs.certificates.Choices.{is_accepted}
@@ -11,11 +11,11 @@ use Rattle.policy_core.specs.valid.Policy.{Policy, hit_of}
 use Rattle.check_core.specs.evaluate.Entries.{EntryFamilies}
 
 -- the hit of each term, or none, in text order
-abbrev pub term_hits : Policy → Record → List ExpressionReq → List (Option Hit)
+abbrev pub term_hits : Policy → CrateRecord → List ExpressionReq → List (Option Hit)
 term_hits policy krate terms = map (λ term. hit_of policy krate term.req) terms
 
 -- some choice of the tree has a hit at each of its places
-abbrev pub is_allowed : Policy → Record → List ExpressionReq → ExpressionTree → Bool
+abbrev pub is_allowed : Policy → CrateRecord → List ExpressionReq → ExpressionTree → Bool
 is_allowed policy krate terms tree = is_accepted (has_hit (term_hits policy krate terms)) tree
 
 -- An evaluator: for how many nodes it has room, the numbers of the exceptions that it was made for, place by place, the

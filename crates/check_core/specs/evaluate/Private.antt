@@ -6,12 +6,12 @@ use Rattle.url.specs.Host.{host_text}
 use Rattle.url.specs.Parts.{Parts, nonempty_host}
 use Rattle.graph_core.specs.source.Matching.{Matches}
 use Rattle.graph_core.specs.declared.source.source.Source.{Source}
-use Rattle.policy_parts.specs.spec.Index.{mixed, name_number}
+use Rattle.policy_parts.specs.spec.Index.{mixed_number, name_number}
 use Rattle.policy_core.specs.valid.Policy.{Policy}
 
 -- the number of a host and a path
 abbrev pub site_number : List ℕ → List ℕ → ℕ
-site_number host path = mixed (name_number host) (name_number path)
+site_number host path = mixed_number (name_number host) (name_number path)
 
 -- that of an address's host, or of no text, and of its path
 abbrev pub address_number : Parts → ℕ

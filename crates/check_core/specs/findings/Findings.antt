@@ -5,7 +5,7 @@ use Rattle.spdx_terms.specs.declared.term.ExpressionReq.{ExpressionReq}
 use Rattle.spdx_core.specs.Reading.{ExpressionView}
 use Rattle.spdx_core.specs.declared.certificates.verdict.Hit.{Hit}
 use Rattle.spdx_core.specs.declared.certificates.verdict.Hit.TheVariants.{Allowed, Exception}
-use Rattle.graph_core.specs.Krate.{Record, title_of}
+use Rattle.graph_core.specs.Krate.{CrateRecord, title_of}
 use Rattle.diag_core.specs.declared.code.DiagnosticCode.TheVariants.{License}
 use Rattle.diag_core.specs.declared.label.Label.{Label}
 use Rattle.diag_core.specs.declared.label.LabelStyle.TheVariants.{Primary, Secondary}
@@ -59,20 +59,20 @@ verdict_labels expression nfo hits = whole_label nfo expression.text ∷ term_la
 
 -- The expression is accepted or not. The labels are the same, and tell each term by its own hit: an accepted expression may
 -- have terms that are not allowed.
-abbrev pub judged : Bool → List Label → List (List ℕ) → Diag
-judged true labels notes = finding Note code.Accepted (codes "license requirements satisfied") labels notes
-judged false labels notes = finding Error code.Rejected (codes "failed to satisfy license requirements") labels notes
+abbrev pub expression_finding : Bool → List Label → List (List ℕ) → Diag
+expression_finding true labels notes = finding Note code.Accepted (codes "license requirements satisfied") labels notes
+expression_finding false labels notes = finding Error code.Rejected (codes "failed to satisfy license requirements") labels notes
 
 -- the crate has no expression
-abbrev pub unlicensed : Record → List (List ℕ) → Diag
-unlicensed krate notes = finding Error code.Unlicensed (title_of krate ++ codes " is unlicensed") [] notes
+abbrev pub unlicensed_finding : CrateRecord → List (List ℕ) → Diag
+unlicensed_finding krate notes = finding Error code.Unlicensed (title_of krate ++ codes " is unlicensed") [] notes
 
 -- the policy passes the crate over
-abbrev pub skipped : Record → Diag
-skipped krate = finding Note code.SkippedPrivateWorkspaceCrate (codes "skipping private workspace crate '" ++ title_of krate ++ codes "'") [] []
+abbrev pub skipped_finding : CrateRecord → Diag
+skipped_finding krate = finding Note code.SkippedPrivateWorkspaceCrate (codes "skipping private workspace crate '" ++ title_of krate ++ codes "'") [] []
 
 -- ---- the pack of a crate
 
 -- findings of the licence check about a crate; those that name no crate are about it
-abbrev pub pack_of : Record → List Diag → PackOf
+abbrev pub pack_of : CrateRecord → List Diag → PackOf
 pack_of krate findings = record { check = check.Licenses; kid = Some krate.id; findings = map (with_crate (Some krate.id)) findings }

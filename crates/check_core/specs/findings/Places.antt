@@ -1,16 +1,16 @@
 -- Places in an expression's text, as places in its file.
 use Rattle.std.specs.Prelude.{◌≡◌, ℕ, ◌+◌, ◌^◌, ◌<◌, List, length, Option, Some, None, ⊤}
-use Rattle.deny_text.specs.Spans.{moved}
+use Rattle.deny_text.specs.Spans.{moved_span}
 use Rattle.deny_text.specs.declared.span.Span.{Span}
 use Rattle.spdx_terms.specs.declared.term.ExpressionReq.{ExpressionReq}
 use Rattle.diag_core.specs.declared.label.Label.{Label}
 use Rattle.diag_core.specs.File.{File}
-use Rattle.gather_licence.specs.location.Location.{PointsAt}
+use Rattle.gather_license.specs.location.Location.{PointsAt}
 use Rattle.gather_core.specs.declared.findings.license.LicenseExprInfo.{LicenseExprInfo}
 use Rattle.gather_core.specs.findings.License.{PlaceLies}
 
 abbrev pub span_by : ℕ → Span → Option Span → Span
-span_by start inner None = moved start inner
+span_by start inner None = moved_span start inner
 span_by start inner (Some whole) = whole
 
 -- a place in an expression's text, as a place in its file; where the string has escapes it is the whole string

@@ -32,13 +32,13 @@ abbrev pub flag_at : List Bool → ℕ → Bool
 flag_at flags place = get_or flags place false
 
 -- with the flag of one more hit
-abbrev pub marked : Flags → Hit → Flags
-marked flags (Allowed entry) = record { allowed = slice_set flags.allowed entry true; exceptions = flags.exceptions }
-marked flags (Exception exception entry) = record { allowed = flags.allowed; exceptions = slice_set flags.exceptions exception true }
+abbrev pub flags_with_hit : Flags → Hit → Flags
+flags_with_hit flags (Allowed entry) = record { allowed = slice_set flags.allowed entry true; exceptions = flags.exceptions }
+flags_with_hit flags (Exception exception entry) = record { allowed = flags.allowed; exceptions = slice_set flags.exceptions exception true }
 
 abbrev pub marked_by : Flags → Option Hit → Flags
 marked_by flags None = flags
-marked_by flags (Some hit) = marked flags hit
+marked_by flags (Some hit) = flags_with_hit flags hit
 
 -- ---- packs
 

@@ -90,24 +90,24 @@ abbrev row : ValidConfig → List Hit → List UnusedFinding → UnusedRow
 row policy hits told = record { policy = policy; hits = hits; told = told }
 
 -- an allowed `MIT` and `Zlib`, and two exceptions of the policy's file
-abbrev usual : LintLevel → LintLevel → ValidConfig
-usual licenses grants = policy licenses grants (mit ∷ zlib ∷ []) (exception 0 61 62 (mit ∷ zlib ∷ []) ∷ exception 0 90 91 [] ∷ [])
+abbrev usual_policy : LintLevel → LintLevel → ValidConfig
+usual_policy licenses grants = policy licenses grants (mit ∷ zlib ∷ []) (exception 0 61 62 (mit ∷ zlib ∷ []) ∷ exception 0 90 91 [] ∷ [])
 
 abbrev pub unused_rows : List UnusedRow
 unused_rows =
     -- no hit at all
-    row (usual Warn Warn) [] (license_told Warning 21 24 ∷ license_told Warning 28 32 ∷ exception_told Warning 61 62 ∷ exception_told Warning 90 91 ∷ [])
+    row (usual_policy Warn Warn) [] (license_told Warning 21 24 ∷ license_told Warning 28 32 ∷ exception_told Warning 61 62 ∷ exception_told Warning 90 91 ∷ [])
     -- by the place of the entry, whatever stands there
-    ∷ row (usual Warn Warn) (Allowed 1 ∷ []) (license_told Warning 21 24 ∷ exception_told Warning 61 62 ∷ exception_told Warning 90 91 ∷ [])
+    ∷ row (usual_policy Warn Warn) (Allowed 1 ∷ []) (license_told Warning 21 24 ∷ exception_told Warning 61 62 ∷ exception_told Warning 90 91 ∷ [])
     -- one entry is enough for an exception, and its place is none in the list of allowed licences
-    ∷ row (usual Warn Warn) (Exception 0 1 ∷ []) (license_told Warning 21 24 ∷ license_told Warning 28 32 ∷ exception_told Warning 90 91 ∷ [])
-    ∷ row (usual Warn Warn) (Exception 1 0 ∷ Allowed 0 ∷ Allowed 0 ∷ []) (license_told Warning 28 32 ∷ exception_told Warning 61 62 ∷ [])
-    ∷ row (usual Warn Warn) (Allowed 1 ∷ Exception 1 0 ∷ Exception 0 0 ∷ Allowed 0 ∷ []) []
+    ∷ row (usual_policy Warn Warn) (Exception 0 1 ∷ []) (license_told Warning 21 24 ∷ license_told Warning 28 32 ∷ exception_told Warning 90 91 ∷ [])
+    ∷ row (usual_policy Warn Warn) (Exception 1 0 ∷ Allowed 0 ∷ Allowed 0 ∷ []) (license_told Warning 28 32 ∷ exception_told Warning 61 62 ∷ [])
+    ∷ row (usual_policy Warn Warn) (Allowed 1 ∷ Exception 1 0 ∷ Exception 0 0 ∷ Allowed 0 ∷ []) []
     -- each lint has its level, and tells nothing where it is `allow`
-    ∷ row (usual Deny Warn) (Allowed 0 ∷ Exception 0 0 ∷ []) (license_told Error 28 32 ∷ exception_told Warning 90 91 ∷ [])
-    ∷ row (usual Allow Deny) (Allowed 0 ∷ Exception 0 0 ∷ []) (exception_told Error 90 91 ∷ [])
-    ∷ row (usual Warn Allow) (Allowed 0 ∷ Exception 0 0 ∷ []) (license_told Warning 28 32 ∷ [])
-    ∷ row (usual Allow Allow) [] []
+    ∷ row (usual_policy Deny Warn) (Allowed 0 ∷ Exception 0 0 ∷ []) (license_told Error 28 32 ∷ exception_told Warning 90 91 ∷ [])
+    ∷ row (usual_policy Allow Deny) (Allowed 0 ∷ Exception 0 0 ∷ []) (exception_told Error 90 91 ∷ [])
+    ∷ row (usual_policy Warn Allow) (Allowed 0 ∷ Exception 0 0 ∷ []) (license_told Warning 28 32 ∷ [])
+    ∷ row (usual_policy Allow Allow) [] []
     -- exceptions of another file are not told
     ∷ row (policy Warn Warn [] (exception 1 61 62 (mit ∷ []) ∷ exception 0 90 91 (mit ∷ []) ∷ exception 1 99 100 [] ∷ [])) [] (exception_told Warning 90 91 ∷ [])
     -- of two equal entries the one that is no hit is told

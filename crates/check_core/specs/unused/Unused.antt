@@ -44,9 +44,9 @@ abbrev pub is_exception_hit : List Hit → ℕ → Bool
 is_exception_hit hits place = list_any (excepts place) hits
 
 -- the items at whose places no hit is, where the first stands at a place
-abbrev pub unhit : {A : Type 0} → (ℕ → Bool) → ℕ → List A → List A
-unhit is_hit place [] = []
-unhit is_hit place (x ∷ xs) = (if is_hit place then [] else x ∷ []) ++ unhit is_hit (suc place) xs
+abbrev pub items_without_hit : {A : Type 0} → (ℕ → Bool) → ℕ → List A → List A
+items_without_hit is_hit place [] = []
+items_without_hit is_hit place (x ∷ xs) = (if is_hit place then [] else x ∷ []) ++ items_without_hit is_hit (suc place) xs
 
 -- ---- findings
 
@@ -56,17 +56,17 @@ severity_asked Allow = None
 severity_asked Warn = Some Warning
 severity_asked Deny = Some Error
 
-abbrev pub unused : Severity → Code → List ℕ → Label → Diag
-unused severity code message label = finding severity code message (label ∷ []) []
+abbrev pub unused_finding : Severity → Code → List ℕ → Label → Diag
+unused_finding severity code message label = finding severity code message (label ∷ []) []
 
 abbrev pub unused_license : Severity → ℕ → Licensee → Diag
 unused_license severity file licensee =
-    unused severity LicenseNotEncountered (codes "license was not encountered") (label_at Primary file licensee.0.span (codes "unmatched license allowance"))
+    unused_finding severity LicenseNotEncountered (codes "license was not encountered") (label_at Primary file licensee.0.span (codes "unmatched license allowance"))
 
 -- at the name of its spec
 abbrev pub unused_exception : Severity → ValidException → Diag
 unused_exception severity exception =
-    unused severity LicenseExceptionNotEncountered (codes "license exception was not encountered")
+    unused_finding severity LicenseExceptionNotEncountered (codes "license exception was not encountered")
     (label_at Primary exception.file_id exception.spec.span (codes "unmatched license exception"))
 
 -- an exception stands in the file of that number
@@ -80,12 +80,12 @@ own_findings severity file exceptions = map (unused_exception severity) (filter 
 -- each allowed licensee that is no hit, in sorted order
 abbrev pub license_findings : ValidConfig → (ℕ → Bool) → List Diag
 license_findings policy is_hit =
-    option_map_or (λ severity. map (unused_license severity policy.file_id) (unhit is_hit 0 policy.allowed)) (severity_asked policy.unused_allowed_license) []
+    option_map_or (λ severity. map (unused_license severity policy.file_id) (items_without_hit is_hit 0 policy.allowed)) (severity_asked policy.unused_allowed_license) []
 
 -- each exception of the policy's own file none of whose entries is a hit
 abbrev pub exception_findings : ValidConfig → (ℕ → Bool) → List Diag
 exception_findings policy is_hit =
-    option_map_or (λ severity. own_findings severity policy.file_id (unhit is_hit 0 policy.exceptions)) (severity_asked policy.unused_license_exception) []
+    option_map_or (λ severity. own_findings severity policy.file_id (items_without_hit is_hit 0 policy.exceptions)) (severity_asked policy.unused_license_exception) []
 
 -- what is told after all crates, of which these are the hits
 abbrev pub unused_findings : ValidConfig → List Hit → List Diag

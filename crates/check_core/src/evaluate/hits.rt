@@ -67,7 +67,7 @@ fn first_entry<L: Ledger>(
 
 /// The licensees of the exception at a place.
 pub fn granted(exceptions: &[ValidException], place: usize) -> &[Licensee]
-    ensures { map req_of result.now ≡ spec.granted (map grant_of exceptions.now) place }
+    ensures { map req_of result.now ≡ spec.granted_licensees (map grant_of exceptions.now) place }
 {
     match exceptions.get(place) {
         Some(exception) => exception.allowed.items(),
@@ -87,7 +87,7 @@ fn granted_hit<L: Ledger>(
     ensures hit { result ≡ spec.exception_hit (map grant_of exceptions.now) (Some exception) term.now }
     ensures steps { steps.old ≤ steps.new }
     ensures bound { steps.new
-        ≤ steps.old + entries_in (spec.granted (map grant_of exceptions.now) exception) term.now }
+        ≤ steps.old + entries_in (spec.granted_licensees (map grant_of exceptions.now) exception) term.now }
 {
     let places = index.granted(exception, term.family());
     let entry = first_entry(granted(exceptions, exception), places, term, steps)?;

@@ -51,7 +51,7 @@ fn judged_by(
     labels: Labels,
     notes: Notes,
 ) -> Result<Diag, AllocError>
-    ensures { IfOk result (λ told. told ≡ spec.judged accepted labels notes) }
+    ensures { IfOk result (λ told. told ≡ spec.expression_finding accepted labels notes) }
 {
     if accepted {
         finding(
@@ -86,7 +86,7 @@ pub fn judged(
 ) -> Result<Diag, AllocError>
     requires { PlaceFits nfo.now (length expression.now.text) }
     ensures { let labels = verdict_labels expression.now nfo.now hits.now in
-        IfOk result (λ told. told ≡ spec.judged accepted labels notes.now) }
+        IfOk result (λ told. told ≡ spec.expression_finding accepted labels notes.now) }
 {
     let labels = labels(alloc, expression, nfo, hits)?;
     let notes = notes_copy(alloc, notes)?;
@@ -95,7 +95,7 @@ pub fn judged(
 
 /// That a crate has no expression.
 pub fn unlicensed(alloc: Global, krate: &Krate, notes: &[Text]) -> Result<Diag, AllocError>
-    ensures { IfOk result (λ told. told ≡ spec.unlicensed (record_of krate.now) notes.now) }
+    ensures { IfOk result (λ told. told ≡ spec.unlicensed_finding (record_of krate.now) notes.now) }
 {
     let message = format!(in alloc; "{krate} is unlicensed")?;
     let notes = notes_copy(alloc, notes)?;
@@ -111,7 +111,7 @@ pub fn unlicensed(alloc: Global, krate: &Krate, notes: &[Text]) -> Result<Diag, 
 
 /// That the policy passes a crate over.
 pub fn skipped(alloc: Global, krate: &Krate) -> Result<Diag, AllocError>
-    ensures { IfOk result (λ told. told ≡ spec.skipped (record_of krate.now)) }
+    ensures { IfOk result (λ told. told ≡ spec.skipped_finding (record_of krate.now)) }
 {
     let message = format!(in alloc; "skipping private workspace crate '{krate}'")?;
     finding(

@@ -3,7 +3,7 @@ ghost use Rattle.std.specs.Prelude.{◌≡◌, ◌++◌, [], List, IfOk, slice_s
 ghost use Rattle.std.specs.List.{fold};
 ghost use Rattle.spdx_core.specs.declared.certificates.verdict.Hit.{Hit};
 ghost use Rattle.policy_core.specs.declared.valid.policy.ValidConfig.{ValidConfig};
-ghost use Rattle.check_core.specs.unused.Flags.{Flags, flags_by, marked, marked_by, no_flags};
+ghost use Rattle.check_core.specs.unused.Flags.{Flags, flags_by, flags_with_hit, marked_by, no_flags};
 ghost use Rattle.check_core.specs.unused.Unused.{hits_in};
 
 use policy_core::valid::ValidConfig;
@@ -57,7 +57,7 @@ impl EntryHits {
     }
 
     fn mark(&mut self, hit: Hit)
-        ensures { self.new ≡ marked self.old hit }
+        ensures { self.new ≡ flags_with_hit self.old hit }
     {
         match hit {
             Hit::Allowed(entry) => set(&mut self.allowed, entry),

@@ -4,7 +4,7 @@ ghost use Rattle.spdx_core.specs.declared.certificates.verdict.Hit.{Hit};
 ghost use Rattle.check_core.specs.unused.Flags.{flag_at, flags_by, unused_pack, with_more};
 ghost use Rattle.check_core.specs.unused.Unused as spec;
 ghost use Rattle.check_core.specs.unused.Unused.{exception_findings, license_findings, own_findings};
-ghost use Rattle.check_core.specs.unused.Unused.{severity_asked, unhit, unused_exception, unused_license};
+ghost use Rattle.check_core.specs.unused.Unused.{severity_asked, items_without_hit, unused_exception, unused_license};
 
 use crate::findings::finding;
 use crate::unused::encountered::EntryHits;
@@ -34,7 +34,7 @@ fn unused(
     message: &str,
     label: Label,
 ) -> Result<Diag, AllocError>
-    ensures { IfOk result (λ told. told ≡ spec.unused severity code message.now label) }
+    ensures { IfOk result (λ told. told ≡ spec.unused_finding severity code message.now label) }
 {
     let mut labels = Labels::new(alloc);
     labels.push(label)?;
@@ -158,7 +158,7 @@ fn push_licenses(
     flags: &[bool],
 ) -> Result<(), AllocError>
     ensures { OnOk result (pack.new ≡ with_more pack.old (map (unused_license severity policy.now.file_id)
-        (unhit (flag_at flags.now) 0 policy.now.allowed))) }
+        (items_without_hit (flag_at flags.now) 0 policy.now.allowed))) }
 {
     'licensees: for (place, licensee) in policy.allowed.items().iter().enumerate() {
         let is_hit = is_set(flags, place);
@@ -176,7 +176,7 @@ fn push_exceptions(
     flags: &[bool],
 ) -> Result<(), AllocError>
     ensures { OnOk result (pack.new ≡ with_more pack.old (own_findings severity policy.now.file_id
-        (unhit (flag_at flags.now) 0 policy.now.exceptions))) }
+        (items_without_hit (flag_at flags.now) 0 policy.now.exceptions))) }
 {
     'exceptions: for (place, exception) in policy.exceptions.items().iter().enumerate() {
         let is_hit = is_set(flags, place);

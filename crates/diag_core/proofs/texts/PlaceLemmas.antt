@@ -8,24 +8,24 @@ use Rattle.std.proofs.lemmas.Str.{IsUtf8-append, IsUtf8-nil}
 use Rattle.std.proofs.Math.Seq.{drop-append_seam, take-append_seam}
 use Rattle.deny_text.specs.declared.span.Span.{Span}
 use Rattle.deny_text.specs.Spans.{LiesIn}
-use Rattle.diag_core.specs.texts.Synthetic.{Bit, plain, marked, PlacedText, nothing_kept, place_behind, with_piece, written_all, bytes_of, marked_of, cut, IsBetweenCharacters, PlacesCutOut}
+use Rattle.diag_core.specs.texts.Synthetic.{Bit, plain, marked, PlacedText, nothing_kept, place_behind, with_piece, written_all, bytes_of, marked_of, text_at, IsBetweenCharacters, PlacesCutOut}
 
 LiesIn-grown : (text more : List ℕ) (span : Span) → LiesIn text span → LiesIn (text ++ more) span
 LiesIn-grown text more span lies = (lies.0, omega (arith, lies.1, length-append text more))
 
-cut-grown : (text more : List ℕ) (span : Span) → LiesIn text span → cut (text ++ more) span ≡ cut text span
+cut-grown : (text more : List ℕ) (span : Span) → LiesIn text span → text_at (text ++ more) span ≡ text_at text span
 cut-grown text more span lies =
     ap (take (span.end - span.start)) (drop-append-le span.start text more (omega (arith, lies.0, lies.1)))
     ∙ take-append-le (span.end - span.start) (drop span.start text) more (omega (arith, lies.0, lies.1, length-drop span.start text))
 
-cuts-grown : (text more : List ℕ) (spans : List Span) → All (LiesIn text) spans → map (cut (text ++ more)) spans ≡ map (cut text) spans
+cuts-grown : (text more : List ℕ) (spans : List Span) → All (LiesIn text) spans → map (text_at (text ++ more)) spans ≡ map (text_at text) spans
 cuts-grown text more [] lie = refl
 cuts-grown text more (span ∷ spans) lie =
     let here = cut-grown text more span (All-head (LiesIn text) span spans lie) in
     let rest = cuts-grown text more spans (All-tail (LiesIn text) span spans lie) in
     rw (here, rest) refl
 
-cut-behind : (text bytes : List ℕ) → cut (text ++ bytes) (place_behind text bytes) ≡ bytes
+cut-behind : (text bytes : List ℕ) → text_at (text ++ bytes) (place_behind text bytes) ≡ bytes
 cut-behind text bytes =
     ap (take (length text + length bytes - length text)) (drop-append_seam text bytes) ∙ take_all (length text + length bytes - length text) bytes (omega arith)
 
@@ -43,8 +43,8 @@ lie_all : (kept : PlacedText) (pieces : List Bit) → All (LiesIn kept.text) kep
 lie_all kept [] lie = lie
 lie_all kept (piece ∷ pieces) lie = lie_all (with_piece kept piece) pieces (lie_written kept piece lie)
 
-cuts_all : (kept : PlacedText) (pieces : List Bit) → All (LiesIn kept.text) kept.spans → map (cut (written_all kept pieces).text) (written_all kept pieces).spans ≡ map (cut kept.text) kept.spans ++ marked_of pieces
-cuts_all kept [] lie = sym (append-nil (map (cut kept.text) kept.spans))
+cuts_all : (kept : PlacedText) (pieces : List Bit) → All (LiesIn kept.text) kept.spans → map (text_at (written_all kept pieces).text) (written_all kept pieces).spans ≡ map (text_at kept.text) kept.spans ++ marked_of pieces
+cuts_all kept [] lie = sym (append-nil (map (text_at kept.text) kept.spans))
 cuts_all kept (plain bytes ∷ pieces) lie =
     cuts_all (with_piece kept (plain bytes)) pieces (lie_written kept (plain bytes) lie)
     ∙ ap (λ front. front ++ marked_of pieces) (cuts-grown kept.text bytes kept.spans lie)
@@ -52,8 +52,8 @@ cuts_all kept (marked bytes ∷ pieces) lie =
     let grown = cuts-grown kept.text bytes kept.spans lie in
     let own = cut-behind kept.text bytes in
     cuts_all (with_piece kept (marked bytes)) pieces (lie_written kept (marked bytes) lie)
-    ∙ ap (λ front. front ++ marked_of pieces) (map-append (cut (kept.text ++ bytes)) kept.spans (place_behind kept.text bytes ∷ []))
-    ∙ rw (grown, own) (append_assoc (map (cut kept.text) kept.spans) (bytes ∷ []) (marked_of pieces))
+    ∙ ap (λ front. front ++ marked_of pieces) (map-append (text_at (kept.text ++ bytes)) kept.spans (place_behind kept.text bytes ∷ []))
+    ∙ rw (grown, own) (append_assoc (map (text_at kept.text) kept.spans) (bytes ∷ []) (marked_of pieces))
 
 -- a place in a text, between its characters
 abbrev pub StandsIn : List ℕ → Span → Type 0

@@ -2,7 +2,7 @@
 use Rattle.std.proofs.Common.{◌≡◌, ℕ, ◌+◌, nat_eq, List, [], ◌∷◌, length, refl, sym, ap, inl, inr, ◌∙◌, arith, if◌then◌else◌}
 use Rattle.std.proofs.lemmas.Bool.Decides.{eqb_tells}
 use Rattle.deny_text.specs.declared.span.Span.{Span}
-use Rattle.diag_core.specs.texts.Slashes.{passed_of, corrected, corrected_by, corrected_after, last_of}
+use Rattle.diag_core.specs.texts.Slashes.{passed_of, span_in_manifest, corrected_by, corrected_after, last_of}
 
 -- how many were passed, and the last of them
 abbrev pub tally : ℕ → ℕ → List ℕ → ℕ × ℕ
@@ -17,8 +17,8 @@ tally-last : (count last : ℕ) (places : List ℕ) → (tally count last places
 tally-last count last [] = refl
 tally-last count last (place ∷ places) = tally-last (count + 1) place places
 
-pub corrected-tally : (text : List ℕ) (span : Span) (count last : ℕ) → tally 0 0 (passed_of span.start text) ≡ (count, last) → corrected text span ≡ (if nat_eq count 0 then span else corrected_by count last span)
-unfolding corrected
+pub corrected-tally : (text : List ℕ) (span : Span) (count last : ℕ) → tally 0 0 (passed_of span.start text) ≡ (count, last) → span_in_manifest text span ≡ (if nat_eq count 0 then span else corrected_by count last span)
+unfolding span_in_manifest
 corrected-tally text span count last is = after (passed_of span.start text) is where
   after : (places : List ℕ) → tally 0 0 places ≡ (count, last) → corrected_after places span ≡ (if nat_eq count 0 then span else corrected_by count last span)
   after [] e =

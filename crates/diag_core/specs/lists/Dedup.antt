@@ -6,7 +6,7 @@ use Rattle.std.specs.declared.alloc.AllocError.{AllocError}
 use Rattle.std.specs.declared.cmp.Ordering.{Ordering}
 use Rattle.deny_text.specs.declared.span.Span.{Span}
 use Rattle.deny_text.specs.declared.span.Spanned.{Spanned}
-use Rattle.diag_core.specs.Diagnostic.{plain}
+use Rattle.diag_core.specs.Diagnostic.{plain_diagnostic}
 use Rattle.diag_core.specs.Label.{label_at}
 use Rattle.diag_core.specs.declared.diagnostic.Diagnostic.{Diagnostic}
 use Rattle.diag_core.specs.declared.label.LabelStyle.TheVariants.{Secondary}
@@ -25,7 +25,7 @@ pub record Sorts {T : Type 0} (cmp : T → T → Ordering) (old new : List (Span
 
 abbrev pub duplicates : ℕ → Span → Span → Diagnostic
 duplicates file one other =
-    record (plain Warning) { message = codes "duplicate items detected"; labels = label_at Secondary file one [] ∷ label_at Secondary file other [] ∷ [] }
+    record (plain_diagnostic Warning) { message = codes "duplicate items detected"; labels = label_at Secondary file one [] ∷ label_at Secondary file other [] ∷ [] }
 
 abbrev pub warning_where : {T : Type 0} → (T → T → Bool) → ℕ → Spanned T → Spanned T → List Diagnostic
 warning_where eq file one other = if eq one.value other.value then duplicates file one.span other.span ∷ [] else []

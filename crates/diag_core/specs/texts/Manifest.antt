@@ -29,16 +29,16 @@ abbrev pub closing_pieces : List Bit
 closing_pieces = plain (codes "]\n") ∷ []
 
 -- digits of a base, with zeros in front up to the width
-abbrev pub filled : ℕ → ℕ → ℕ → List ℕ
-filled base width number = padded_integral (format_spec 32 0 4 width (2 ^ 64 - 1)) false [] (digits base false number)
+abbrev pub padded_digits : ℕ → ℕ → ℕ → List ℕ
+padded_digits base width number = padded_integral (format_spec 32 0 4 width (2 ^ 64 - 1)) false [] (digits base false number)
 
 -- eight hexadecimal digits
 abbrev pub hash_text : ℕ → List ℕ
-hash_text hash = filled 16 8 hash
+hash_text hash = padded_digits 16 8 hash
 
 -- hundredths: a point before the last two digits
 abbrev pub score_text : ℕ → List ℕ
-score_text score = decimal (score / 100) ++ codes "." ++ filled 10 2 (score % 100)
+score_text score = decimal (score / 100) ++ codes "." ++ padded_digits 10 2 (score % 100)
 
 abbrev pub hash_pieces : ℕ → List Bit
 hash_pieces hash = plain (codes "hash = 0x") ∷ plain (hash_text hash) ∷ plain (codes ", ") ∷ []

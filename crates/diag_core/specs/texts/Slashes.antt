@@ -44,5 +44,5 @@ abbrev pub corrected_after : List ℕ → Span → Span
 corrected_after [] span = span
 corrected_after (place ∷ places) span = corrected_by (length (place ∷ places)) (last_of place places) span
 
-unfoldable pub corrected : List ℕ → Span → Span
-corrected text span = corrected_after (passed_of span.start text) span
+unfoldable pub span_in_manifest : List ℕ → Span → Span
+span_in_manifest text span = corrected_after (passed_of span.start text) span

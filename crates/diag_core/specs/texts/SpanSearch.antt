@@ -3,7 +3,7 @@ use Rattle.std.specs.Prelude.{ℕ, ◌-◌, ◌||◌, ◌==◌, nat_lt, Bool, Li
 use Rattle.std.specs.List.{position_or_len}
 use Rattle.std.specs.Option.{option_and_then, option_map, option_or}
 use Rattle.std.specs.Str.{trim_start}
-use Rattle.deny_text.specs.Spans.{moved}
+use Rattle.deny_text.specs.Spans.{moved_span}
 use Rattle.deny_text.specs.declared.span.Span.{Span}
 
 -- what follows the front, where the text begins with it
@@ -30,7 +30,7 @@ license_key = codes "license"
 
 -- the value that a text ends with, up to the first quote in it
 abbrev pub value_at_end : List ℕ → List ℕ → Option Span
-value_at_end text value = option_map (λ len. moved (length text - length value) (record { start = 0; end = len })) (quote_place value)
+value_at_end text value = option_map (λ len. moved_span (length text - length value) (record { start = 0; end = len })) (quote_place value)
 
 -- behind a key: white space, `=`, white space, a quote, the value, a quote; the place of the value
 unfoldable pub value_behind : List ℕ → Option Span
@@ -39,9 +39,9 @@ value_behind text =
 
 -- the same of a key that the text begins with
 abbrev pub value_here : List ℕ → Option Span
-value_here text = option_and_then (λ rest. option_map (moved (length license_key)) (value_behind rest)) (rest_behind license_key text)
+value_here text = option_and_then (λ rest. option_map (moved_span (length license_key)) (value_behind rest)) (rest_behind license_key text)
 
 -- the place of the value of the first key that has one
 abbrev pub license_span_of : List ℕ → Option Span
 license_span_of [] = None
-license_span_of (byte ∷ rest) = option_or (value_here (byte ∷ rest)) (option_map (moved 1) (license_span_of rest))
+license_span_of (byte ∷ rest) = option_or (value_here (byte ∷ rest)) (option_map (moved_span 1) (license_span_of rest))

@@ -41,8 +41,8 @@ marked_of (plain bytes ∷ rest) = marked_of rest
 marked_of (marked bytes ∷ rest) = bytes ∷ marked_of rest
 
 -- what a place cuts out of a text
-abbrev pub cut : List ℕ → Span → List ℕ
-cut text span = take (span.end - span.start) (drop span.start text)
+abbrev pub text_at : List ℕ → Span → List ℕ
+text_at text span = take (span.end - span.start) (drop span.start text)
 
 -- both its ends are between characters: what stands before each is text
 abbrev pub IsBetweenCharacters : List ℕ → Span → Type 0
@@ -51,7 +51,7 @@ IsBetweenCharacters text span = IsUtf8 (take span.start text) × IsUtf8 (take sp
 -- the kept places of any pieces cut out those that are marked, in order, lie in the text, and stand between characters
 -- where each piece is text
 pub record PlacesCutOut (pieces : List Bit) : Type 0 where
-  pub cut_out : map (cut (written_all nothing_kept pieces).text) (written_all nothing_kept pieces).spans ≡ marked_of pieces
+  pub cut_out : map (text_at (written_all nothing_kept pieces).text) (written_all nothing_kept pieces).spans ≡ marked_of pieces
   pub inside : All (LiesIn (written_all nothing_kept pieces).text) (written_all nothing_kept pieces).spans
   pub between : All (λ piece. IsUtf8 (bytes_of piece)) pieces → All (IsBetweenCharacters (written_all nothing_kept pieces).text) (written_all nothing_kept pieces).spans
 

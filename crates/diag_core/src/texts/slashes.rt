@@ -1,6 +1,6 @@
 //! Places in an expression whose slashes were read as ` OR `.
 ghost use Rattle.std.specs.Prelude.{◌≡◌, ◌-◌, ◌*◌, ◌^◌, ◌≤◌, ◌<◌, nat_eq, if◌then◌else◌};
-ghost use Rattle.diag_core.specs.texts.Slashes.{corrected, corrected_by};
+ghost use Rattle.diag_core.specs.texts.Slashes.{span_in_manifest, corrected_by};
 
 use deny_text::Span;
 
@@ -8,7 +8,7 @@ use deny_text::Span;
 /// start inside a replacement leads to the slash. The end loses only what the slashes up to the start gave,
 /// so a place over later slashes may end past the text.
 pub fn correct_span(original: &str, error_span: &mut Span)
-    ensures { error_span.new ≡ corrected original.now error_span.old }
+    ensures { error_span.new ≡ span_in_manifest original.now error_span.old }
 {
     let start = error_span.start;
     let mut place = 0;

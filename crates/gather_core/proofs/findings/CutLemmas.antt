@@ -11,10 +11,10 @@ use Rattle.diag_core.specs.declared.label.LabelStyle.TheVariants.{Primary}
 use Rattle.diag_core.specs.declared.pack.Diag.{Diag}
 use Rattle.diag_core.specs.File.{File, source_of_file}
 use Rattle.diag_core.specs.Label.{label_at}
-use Rattle.graph_core.specs.Krate.{Record}
+use Rattle.graph_core.specs.Krate.{CrateRecord}
 use Rattle.deny_text.specs.Spans.{LiesBetween}
-use Rattle.diag_core.specs.texts.Synthetic.{cut, marked_of}
-use Rattle.gather_licence.specs.location.Location.{PointsAt}
+use Rattle.diag_core.specs.texts.Synthetic.{text_at, marked_of}
+use Rattle.gather_license.specs.location.Location.{PointsAt}
 use Rattle.gather_core.specs.findings.Cuts.{CutOutBy, ExpressionStandsBy, LabelLies, LabelsLieBy, MarksLie, StandsAtCoord, failed_texts, field_texts, labels_of, name_texts, text_under}
 use Rattle.gather_core.specs.findings.Findings.{UnclarifiedCrateView, MarksView, ExpressionBasisView, by_field, by_files, failure_findings, failure_marks, failures_of, field_findings, field_mark, field_place, joined_place, unlicensed_findings}
 use Rattle.gather_core.specs.findings.Pieces.{SeenFilesView, listed, crate_kept, joined_pieces, seen_pieces, synthetic_file}
@@ -26,7 +26,7 @@ use Rattle.gather_core.proofs.findings.PlaceLemmas.{grown, last_source, points, 
 -- ---- a synthetic manifest in the table
 
 -- its text and its marks, each where it cuts out what it marks
-record Made (table : List File) (id : ℕ) (krate : Record) (folder : List ℕ) (joined : Option (List ℕ)) (seen : SeenFilesView) : Type 0 where
+record Made (table : List File) (id : ℕ) (krate : CrateRecord) (folder : List ℕ) (joined : Option (List ℕ)) (seen : SeenFilesView) : Type 0 where
   text : List ℕ
   is_text : source_of_file table id ≡ Some text
   name : Span
@@ -36,9 +36,9 @@ record Made (table : List File) (id : ℕ) (krate : Record) (folder : List ℕ) 
   named : PointsAt table (record { file = id; span = name }) krate.name
   stands : PointsAt table (record { file = id; span = field }) (unwrap_or krate.license [])
   more_lie : All (LiesBetween text) more
-  more_cut : map (cut text) more ≡ marked_of (joined_pieces joined) ++ marked_of (seen_pieces folder seen)
+  more_cut : map (text_at text) more ≡ marked_of (joined_pieces joined) ++ marked_of (seen_pieces folder seen)
 
-made : (files : List File) (krate : Record) (folder : List ℕ) (joined : Option (List ℕ)) (seen : SeenFilesView)
+made : (files : List File) (krate : CrateRecord) (folder : List ℕ) (joined : Option (List ℕ)) (seen : SeenFilesView)
     → All (LiesBetween (crate_kept krate folder joined seen).text) (crate_kept krate folder joined seen).spans
     → Made (files ++ synthetic_file krate (crate_kept krate folder joined seen) ∷ []) (length files) krate folder joined seen
 made files krate folder joined seen lie =
@@ -77,7 +77,7 @@ placed files (Some at) mark field located stands = record { place = at; is_place
 
 -- the marks of what failed are those behind the others
 failed_marks : (joined : Option (List ℕ)) (id : ℕ) (name field : Span) (more : List Span) (text : List ℕ) (failed : List (List ℕ))
-    → map (cut text) more ≡ marked_of (joined_pieces joined) ++ failed → map (cut text) (failure_marks joined (marks_of id name field more)) ≡ failed
+    → map (text_at text) more ≡ marked_of (joined_pieces joined) ++ failed → map (text_at text) (failure_marks joined (marks_of id name field more)) ≡ failed
 failed_marks None id name field more text failed is = is
 failed_marks (Some expression) id name field [] text failed is = cc
 failed_marks (Some expression) id name field (mark ∷ more) text failed is = cc
@@ -88,13 +88,13 @@ failed_lie None id name field more text lie = lie
 failed_lie (Some expression) id name field [] text lie = All-nil (LiesBetween text)
 failed_lie (Some expression) id name field (mark ∷ more) text lie = All-tail (LiesBetween text) mark more lie
 
-name_cuts : (files : List File) (joined : Option (List ℕ)) (krate : Record) (id : ℕ) (name field : Span) (more : List Span)
+name_cuts : (files : List File) (joined : Option (List ℕ)) (krate : CrateRecord) (id : ℕ) (name field : Span) (more : List Span)
     → PointsAt files (record { file = id; span = name }) krate.name
     → map (text_under files) (labels_of (unlicensed_findings joined (marks_of id name field more))) ≡ name_texts krate joined
 name_cuts files None krate id name field more named = ap (λ (one : List ℕ). one ∷ []) (points_cut files (record { file = id; span = name }) krate.name named)
 name_cuts files (Some expression) krate id name field more named = refl
 
-name_lies : (files : List File) (joined : Option (List ℕ)) (krate : Record) (id : ℕ) (name field : Span) (more : List Span)
+name_lies : (files : List File) (joined : Option (List ℕ)) (krate : CrateRecord) (id : ℕ) (name field : Span) (more : List Span)
     → PointsAt files (record { file = id; span = name }) krate.name
     → All (LabelLies files) (labels_of (unlicensed_findings joined (marks_of id name field more)))
 name_lies files None krate id name field more named =
@@ -103,11 +103,11 @@ name_lies files (Some expression) krate id name field more named = All-nil (Labe
 
 -- ---- by the licence files
 
-abbrev all_findings : Record → Option Coord → List ParseError → SeenFilesView → Option (List ℕ) → MarksView → List Diag
+abbrev all_findings : CrateRecord → Option Coord → List ParseError → SeenFilesView → Option (List ℕ) → MarksView → List Diag
 all_findings krate location faults seen joined marks =
     field_findings krate location faults (field_place location (field_mark marks)) krate.license ++ failure_findings seen joined marks ++ unlicensed_findings joined marks
 
-module _ (files : List File) (krate : Record) (folder : List ℕ) (location : Option Coord) (faults : List ParseError) (seen : SeenFilesView) (joined : Option (List ℕ)) (id : ℕ)
+module _ (files : List File) (krate : CrateRecord) (folder : List ℕ) (location : Option Coord) (faults : List ParseError) (seen : SeenFilesView) (joined : Option (List ℕ)) (id : ℕ)
     (is : Made files id krate folder joined seen) (located : IfSome location (λ at. PointsAt files at (unwrap_or krate.license [])))
     (lie : FaultsLie (unwrap_or krate.license []) faults) where
   files_cut : map (text_under files) (labels_of (all_findings krate location faults seen joined (marks_of id is.name is.field is.more)))
@@ -121,7 +121,7 @@ module _ (files : List File) (krate : Record) (folder : List ℕ) (location : Op
       let third = unlicensed_findings joined marks in
       let failed = failed_marks joined id is.name is.field is.more is.text (marked_of (seen_pieces folder seen)) is.more_cut in
       let counted : length (failures_of seen) ≡ length (failure_marks joined marks) =
-      as_many folder seen ∙ sym (ap length failed) ∙ length-map (failure_marks joined marks) (cut is.text) in
+      as_many folder seen ∙ sym (ap length failed) ∙ length-map (failure_marks joined marks) (text_at is.text) in
       let one : map (text_under files) (labels_of first) ≡ field_texts location faults krate.license =
       ap (λ (place : Option Coord). map (text_under files) (labels_of (field_findings krate location faults place krate.license))) at.is_place
       ∙ field_cuts files krate location faults at.place krate.license located at.stands lie in
@@ -151,17 +151,17 @@ module _ (files : List File) (krate : Record) (folder : List ℕ) (location : Op
       lie-append files (first ++ second) third (lie-append files first second one two) three
 
 joined_stands : (files : List File) (folder : List ℕ) (joined : Option (List ℕ)) (seen : SeenFilesView) (id : ℕ) (text : List ℕ) (name field : Span) (more : List Span)
-    → source_of_file files id ≡ Some text → All (LiesBetween text) more → map (cut text) more ≡ marked_of (joined_pieces joined) ++ marked_of (seen_pieces folder seen)
+    → source_of_file files id ≡ Some text → All (LiesBetween text) more → map (text_at text) more ≡ marked_of (joined_pieces joined) ++ marked_of (seen_pieces folder seen)
     → StandsAtCoord files (joined_place joined (marks_of id name field more)) joined
 joined_stands files folder None seen id text name field more is lie cuts = tt
 joined_stands files folder (Some expression) seen id text name field [] is lie cuts = cc
 joined_stands files folder (Some expression) seen id text name field (mark ∷ more) is lie cuts =
-    let own : cut text mark ≡ expression = cc in
+    let own : text_at text mark ≡ expression = cc in
     points files id text mark expression is (All-head (LiesBetween text) mark more lie) own
 
 -- ---- whatever settles the licence
 
-module _ (krate : Record) (folder : List ℕ) (faults : List ParseError) (settled : ExpressionBasisView) (files : List File) where
+module _ (krate : CrateRecord) (folder : List ℕ) (faults : List ParseError) (settled : ExpressionBasisView) (files : List File) where
   abbrev case_of : Option Coord → UnclarifiedCrateView
   case_of location = record { krate = krate; folder = folder; location = location; faults = faults; outcome = settled }
 

@@ -12,8 +12,8 @@ use Rattle.spdx_core.specs.Reading.{ExpressionView, expression_of_text}
 use Rattle.spdx_core.proofs.FaultSpans.{fault_lies}
 use Rattle.spdx_core.proofs.HasTree.{has_tree}
 use Rattle.spdx_core.proofs.SpellingLemmas.{is_read}
-use Rattle.gather_licence.proofs.expression.TakenLemmas.{of_fault, of_read}
-use Rattle.gather_licence.specs.expression.Taken.{field_read, lax, strict_with_slash}
+use Rattle.gather_license.proofs.expression.TakenLemmas.{of_fault, of_read}
+use Rattle.gather_license.specs.expression.Taken.{field_read, lax_mode, strict_with_slash}
 use Rattle.deny_text.specs.Spans.{LiesBetween}
 use Rattle.gather_core.specs.findings.Faults.{faults_by, field_faults, same_span}
 use Rattle.gather_core.specs.findings.Premises.{FaultsLie}
@@ -27,11 +27,11 @@ fault_of mode lists text fault is = of_fault mode lists text fault is
 -- a field that the strict reading takes
 pub strictly_read : (lists : CatalogLists) (byte : ℕ) (bytes : List ℕ) (read : ExpressionView) → expression_of_text strict_with_slash lists (byte ∷ bytes) ≡ Some read
     → field_read lists (byte ∷ bytes) ≡ Some read
-strictly_read lists byte bytes read is = ap (λ o. option_or o (expression_of_text lax lists (byte ∷ bytes))) is
+strictly_read lists byte bytes read is = ap (λ o. option_or o (expression_of_text lax_mode lists (byte ∷ bytes))) is
 
 pub laxly_read : (lists : CatalogLists) (byte : ℕ) (bytes : List ℕ) → expression_of_text strict_with_slash lists (byte ∷ bytes) ≡ None
-    → field_read lists (byte ∷ bytes) ≡ expression_of_text lax lists (byte ∷ bytes)
-laxly_read lists byte bytes is = ap (λ o. option_or o (expression_of_text lax lists (byte ∷ bytes))) is
+    → field_read lists (byte ∷ bytes) ≡ expression_of_text lax_mode lists (byte ∷ bytes)
+laxly_read lists byte bytes is = ap (λ o. option_or o (expression_of_text lax_mode lists (byte ∷ bytes))) is
 
 -- a field without a strict fault is what the strict reading gives
 pub fine_read : (lists : CatalogLists) (field : List ℕ) (found : Option ExpressionView) → eqb (length field) 0 ≡ false → first_fault strict_with_slash lists field ≡ None
@@ -52,20 +52,20 @@ either_way false none is = is
 -- of a field that the strict reading takes
 pub no_faults : (lists : CatalogLists) (field : List ℕ) → first_fault strict_with_slash lists field ≡ None → field_faults lists field ≡ []
 no_faults lists field is =
-    either_way (eqb (length field) 0) (faults_by (first_fault strict_with_slash lists field) (first_fault lax lists field))
-    (ap (λ o. faults_by o (first_fault lax lists field)) is)
+    either_way (eqb (length field) 0) (faults_by (first_fault strict_with_slash lists field) (first_fault lax_mode lists field))
+    (ap (λ o. faults_by o (first_fault lax_mode lists field)) is)
 
 -- of one that it refuses
 pub some_faults : (lists : CatalogLists) (field : List ℕ) (fault : ParseError) → eqb (length field) 0 ≡ false → first_fault strict_with_slash lists field ≡ Some fault
-    → field_faults lists field ≡ faults_by (Some fault) (first_fault lax lists field)
+    → field_faults lists field ≡ faults_by (Some fault) (first_fault lax_mode lists field)
 some_faults lists field fault some is =
-    ap (λ b. cond b [] (faults_by (first_fault strict_with_slash lists field) (first_fault lax lists field))) some
-    ∙ ap (λ o. faults_by o (first_fault lax lists field)) is
+    ap (λ b. cond b [] (faults_by (first_fault strict_with_slash lists field) (first_fault lax_mode lists field))) some
+    ∙ ap (λ o. faults_by o (first_fault lax_mode lists field)) is
 
 -- of the empty field
 pub empty_faults : (lists : CatalogLists) (field : List ℕ) → eqb (length field) 0 ≡ true → field_faults lists field ≡ []
 empty_faults lists field none =
-    ap (λ b. cond b [] (faults_by (first_fault strict_with_slash lists field) (first_fault lax lists field))) none
+    ap (λ b. cond b [] (faults_by (first_fault strict_with_slash lists field) (first_fault lax_mode lists field))) none
 
 -- ---- where they stand
 
@@ -89,8 +89,8 @@ one_lies mode lists field laws utf8 (Some fault) is = fault_lies mode lists fiel
 pub faults_lie : (lists : CatalogLists) (field : List ℕ) → IsCatalog lists → IsUtf8 field → FaultsLie field (field_faults lists field)
 faults_lie lists field laws utf8 =
     let strictly = one_lies strict_with_slash lists field laws utf8 (first_fault strict_with_slash lists field) refl in
-    let laxly = one_lies lax lists field laws utf8 (first_fault lax lists field) refl in
-    elim (eqb (length field) 0) as (λ b. FaultsLie field (cond b [] (faults_by (first_fault strict_with_slash lists field) (first_fault lax lists field)))) [
+    let laxly = one_lies lax_mode lists field laws utf8 (first_fault lax_mode lists field) refl in
+    elim (eqb (length field) 0) as (λ b. FaultsLie field (cond b [] (faults_by (first_fault strict_with_slash lists field) (first_fault lax_mode lists field)))) [
       | true ↦ All-nil (λ (one : ParseError). LiesBetween field one.span)
-      | false ↦ two_lie field (first_fault strict_with_slash lists field) (first_fault lax lists field) strictly laxly
+      | false ↦ two_lie field (first_fault strict_with_slash lists field) (first_fault lax_mode lists field) strictly laxly
     ]

@@ -7,7 +7,7 @@ use Rattle.std.proofs.lemmas.List.Elements.{filter_map-append}
 use Rattle.deny_text.specs.declared.span.Span.{Span}
 use Rattle.diag_core.specs.declared.pack.Diag.{Diag}
 use Rattle.gather_core.specs.findings.Findings.{failure}
-use Rattle.gather_core.specs.findings.Views.{behind}
+use Rattle.gather_core.specs.findings.Views.{lent_text}
 
 as_list : {B : Type 0} (o : Option B) → cons_option o [] ≡ option_to_list o
 as_list None = refl
@@ -58,9 +58,9 @@ zip_more {A} {B} {C} {D} g f front items others i d inside =
 -- one failure more, where the synthetic manifest writes it
 pub failure_more : (file : ℕ) (front so_far new : List Diag) (words : List (Bor (List ℕ))) (spans : List Span) (i : ℕ) (d : Bor (List ℕ)) (found : Option Span)
     → new ≡ so_far ++ option_to_list (option_map (λ (place : Span). failure file ((get_or words i d).now, place)) found) → found ≡ slice_get spans i → i < length words
-    → so_far ≡ front ++ map (failure file) (zip (map behind (take i words)) spans) → new ≡ front ++ map (failure file) (zip (map behind (take (i + 1) words)) spans)
+    → so_far ≡ front ++ map (failure file) (zip (map lent_text (take i words)) spans) → new ≡ front ++ map (failure file) (zip (map lent_text (take (i + 1) words)) spans)
 failure_more file front so_far new words spans i d found adds is inside before =
     adds
     ∙ ap (λ (o : Option Span). so_far ++ option_to_list (option_map (λ (place : Span). failure file ((get_or words i d).now, place)) o)) is
     ∙ ap (λ (l : List Diag). l ++ option_to_list (option_map (λ (place : Span). failure file ((get_or words i d).now, place)) (slice_get spans i))) before
-    ∙ zip_more behind (failure file) front words spans i d inside
+    ∙ zip_more lent_text (failure file) front words spans i d inside

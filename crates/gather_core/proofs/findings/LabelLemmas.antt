@@ -13,14 +13,14 @@ use Rattle.diag_core.specs.declared.label.Coord.{Coord}
 use Rattle.diag_core.specs.declared.label.LabelStyle.TheVariants.{Secondary}
 use Rattle.diag_core.specs.declared.pack.Diag.{Diag}
 use Rattle.diag_core.specs.File.{File, source_of_file}
-use Rattle.graph_core.specs.Krate.{Record}
+use Rattle.graph_core.specs.Krate.{CrateRecord}
 use Rattle.diag_core.specs.texts.Manifest.{closing_pieces, opening_pieces}
 use Rattle.deny_text.specs.Spans.{LiesBetween}
-use Rattle.diag_core.specs.texts.Synthetic.{cut, marked_of}
-use Rattle.gather_licence.specs.location.Location.{PointsAt}
-use Rattle.gather_licence.specs.declared.expression.files.FileResult.{FileResult}
-use Rattle.gather_licence.specs.declared.expression.files.FileResult.TheVariants.{Bad, Unnamed, Low, Unknown, Joined}
-use Rattle.gather_licence.specs.declared.expression.files.ScannedFile.{ScannedFile}
+use Rattle.diag_core.specs.texts.Synthetic.{text_at, marked_of}
+use Rattle.gather_license.specs.location.Location.{PointsAt}
+use Rattle.gather_license.specs.declared.expression.files.FileResult.{FileResult}
+use Rattle.gather_license.specs.declared.expression.files.FileResult.TheVariants.{Bad, Unnamed, Low, Unknown, Joined}
+use Rattle.gather_license.specs.declared.expression.files.ScannedFile.{ScannedFile}
 use Rattle.gather_core.specs.findings.Cuts.{LabelLies, empty_texts, field_texts, labels_of, text_under}
 use Rattle.gather_core.specs.findings.Findings.{empty_findings, failure, failure_of, failures_of, fault_findings, fault_place, field_fault, field_findings, label_of}
 use Rattle.gather_core.specs.findings.Pieces.{SeenFilesView, unlisted, listed, file_pieces, list_pieces, seen_pieces}
@@ -45,14 +45,14 @@ lie-append files first second one two =
 -- ---- the faults of a field that stands in a file
 
 fault_cuts : (files : List File) (at : Coord) (field : List ℕ) → PointsAt files at field → (faults : List ParseError) → FaultsLie field faults
-    → map (text_under files) (labels_of (map (field_fault at) faults)) ≡ map (λ (fault : ParseError). cut field fault.span) faults
+    → map (text_under files) (labels_of (map (field_fault at) faults)) ≡ map (λ (fault : ParseError). text_at field fault.span) faults
 fault_cuts files at field stands [] lie = refl
 fault_cuts files at field stands (fault ∷ faults) lie =
     let here = All-head (λ (one : ParseError). LiesBetween field one.span) fault faults lie in
     let rest = fault_cuts files at field stands faults (All-tail (λ (one : ParseError). LiesBetween field one.span) fault faults lie) in
-    let first = points_cut files (fault_place at fault.span) (cut field fault.span) (fault_points files at field fault.span stands here) in
+    let first = points_cut files (fault_place at fault.span) (text_at field fault.span) (fault_points files at field fault.span stands here) in
     ap (λ (text : List ℕ). text ∷ map (text_under files) (labels_of (map (field_fault at) faults))) first
-    ∙ ap (λ (texts : List (List ℕ)). cut field fault.span ∷ texts) rest
+    ∙ ap (λ (texts : List (List ℕ)). text_at field fault.span ∷ texts) rest
 
 fault_lies : (files : List File) (at : Coord) (field : List ℕ) → PointsAt files at field → (faults : List ParseError) → FaultsLie field faults
     → All (LabelLies files) (labels_of (map (field_fault at) faults))
@@ -61,20 +61,20 @@ fault_lies files at field stands (fault ∷ faults) lie =
     let here = All-head (λ (one : ParseError). LiesBetween field one.span) fault faults lie in
     let rest = fault_lies files at field stands faults (All-tail (λ (one : ParseError). LiesBetween field one.span) fault faults lie) in
     All-cons (LabelLies files) (label_of (fault_place at fault.span) (reason_text fault.reason)) (labels_of (map (field_fault at) faults))
-    (points_lie files (fault_place at fault.span) (cut field fault.span) Secondary (reason_text fault.reason) (fault_points files at field fault.span stands here)) rest
+    (points_lie files (fault_place at fault.span) (text_at field fault.span) Secondary (reason_text fault.reason) (fault_points files at field fault.span stands here)) rest
 
 -- ---- what failed
 
 -- as many marks as failures
 pub failure_cuts : (files : List File) (id : ℕ) (source : List ℕ) → source_of_file files id ≡ Some source → (words : List (List ℕ)) (spans : List Span) → length words ≡ length spans
-    → map (text_under files) (labels_of (map (failure id) (zip words spans))) ≡ map (cut source) spans
+    → map (text_under files) (labels_of (map (failure id) (zip words spans))) ≡ map (text_at source) spans
 failure_cuts files id source is [] [] same = refl
 failure_cuts files id source is [] (span ∷ spans) same = absurd (omega arith)
 failure_cuts files id source is (word ∷ words) [] same = absurd (omega arith)
 failure_cuts files id source is (word ∷ words) (span ∷ spans) same =
     let fewer : length words ≡ length spans = omega arith in
-    ap (λ (text : List ℕ). text ∷ map (text_under files) (labels_of (map (failure id) (zip words spans)))) (ap (λ (o : Option (List ℕ)). cut (unwrap_or o []) span) is)
-    ∙ ap (λ (texts : List (List ℕ)). cut source span ∷ texts) (failure_cuts files id source is words spans fewer)
+    ap (λ (text : List ℕ). text ∷ map (text_under files) (labels_of (map (failure id) (zip words spans)))) (ap (λ (o : Option (List ℕ)). text_at (unwrap_or o []) span) is)
+    ∙ ap (λ (texts : List (List ℕ)). text_at source span ∷ texts) (failure_cuts files id source is words spans fewer)
 
 pub failure_lies : (files : List File) (id : ℕ) (source : List ℕ) → source_of_file files id ≡ Some source → (words : List (List ℕ)) (spans : List Span) → All (LiesBetween source) spans
     → All (LabelLies files) (labels_of (map (failure id) (zip words spans)))
@@ -84,7 +84,7 @@ failure_lies files id source is (word ∷ words) (span ∷ spans) lie =
     let here = All-head (LiesBetween source) span spans lie in
     let at : Coord = record { file = id; span = span } in
     All-cons (LabelLies files) (label_of at word) (labels_of (map (failure id) (zip words spans)))
-    (points_lie files at (cut source span) Secondary word (points files id source span (cut source span) is here refl))
+    (points_lie files at (text_at source span) Secondary word (points files id source span (text_at source span) is here refl))
     (failure_lies files id source is words spans (All-tail (LiesBetween source) span spans lie))
 
 one_mark : (folder : List ℕ) (path : List ℕ) (scanned : FileResult)
@@ -135,12 +135,12 @@ nothing_in : (field : List ℕ) → length field ≡ 0 → field ≡ []
 nothing_in [] none = refl
 nothing_in (byte ∷ field) none = absurd (omega arith)
 
-empty_cuts : (files : List File) (krate : Record) (location : Option Coord) (field : List ℕ) → IfSome location (λ at. PointsAt files at field) → field ≡ []
+empty_cuts : (files : List File) (krate : CrateRecord) (location : Option Coord) (field : List ℕ) → IfSome location (λ at. PointsAt files at field) → field ≡ []
     → map (text_under files) (labels_of (empty_findings krate location)) ≡ empty_texts location
 empty_cuts files krate None field located is = refl
 empty_cuts files krate (Some at) field located is = ap (λ (text : List ℕ). text ∷ []) (points_cut files at field located ∙ is)
 
-empty_lies : (files : List File) (krate : Record) (location : Option Coord) (field : List ℕ) → IfSome location (λ at. PointsAt files at field)
+empty_lies : (files : List File) (krate : CrateRecord) (location : Option Coord) (field : List ℕ) → IfSome location (λ at. PointsAt files at field)
     → All (LabelLies files) (labels_of (empty_findings krate location))
 empty_lies files krate None field located = All-nil (LabelLies files)
 empty_lies files krate (Some at) field located =
@@ -148,19 +148,19 @@ empty_lies files krate (Some at) field located =
     All-cons (LabelLies files) (label_of at said) [] (points_lie files at field Secondary said located) (All-nil (LabelLies files))
 
 -- the findings of a field that stands at a place, and at its location where it has one
-pub field_cuts : (files : List File) (krate : Record) (location : Option Coord) (faults : List ParseError) (place : Coord) (license : Option (List ℕ))
+pub field_cuts : (files : List File) (krate : CrateRecord) (location : Option Coord) (faults : List ParseError) (place : Coord) (license : Option (List ℕ))
     → IfSome location (λ at. PointsAt files at (unwrap_or license [])) → PointsAt files place (unwrap_or license []) → FaultsLie (unwrap_or license []) faults
     → map (text_under files) (labels_of (field_findings krate location faults (Some place) license)) ≡ field_texts location faults license
 field_cuts files krate location faults place None located stands lie = refl
 field_cuts files krate location faults place (Some field) located stands lie =
     elim (eqb (length field) 0) as (λ b. eqb (length field) 0 ≡ b
     → map (text_under files) (labels_of (cond b (empty_findings krate location) (fault_findings (Some place) faults)))
-    ≡ cond b (empty_texts location) (map (λ (fault : ParseError). cut field fault.span) faults)) [
+    ≡ cond b (empty_texts location) (map (λ (fault : ParseError). text_at field fault.span) faults)) [
       | true ↦ λ none. empty_cuts files krate location field located (nothing_in field (eqb-true (length field) 0 none))
       | false ↦ λ _. fault_cuts files place field stands faults lie
     ] refl
 
-pub field_lies : (files : List File) (krate : Record) (location : Option Coord) (faults : List ParseError) (place : Coord) (license : Option (List ℕ))
+pub field_lies : (files : List File) (krate : CrateRecord) (location : Option Coord) (faults : List ParseError) (place : Coord) (license : Option (List ℕ))
     → IfSome location (λ at. PointsAt files at (unwrap_or license [])) → PointsAt files place (unwrap_or license []) → FaultsLie (unwrap_or license []) faults
     → All (LabelLies files) (labels_of (field_findings krate location faults (Some place) license))
 field_lies files krate location faults place None located stands lie = All-nil (LabelLies files)

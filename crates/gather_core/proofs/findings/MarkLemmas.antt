@@ -9,11 +9,11 @@ use Rattle.deny_text.specs.Spans.{LiesBetween}
 use Rattle.spdx_terms.specs.declared.error.ParseError.{ParseError}
 use Rattle.diag_core.specs.declared.label.Coord.{Coord}
 use Rattle.diag_core.specs.File.{File}
-use Rattle.graph_core.specs.Krate.{Record}
+use Rattle.graph_core.specs.Krate.{CrateRecord}
 use Rattle.semver.specs.Identifiers.{parts_text}
-use Rattle.diag_core.specs.texts.Synthetic.{Bit, plain, marked, PlacedText, cut, marked_of, nothing_kept, place_behind, with_piece, written_all}
+use Rattle.diag_core.specs.texts.Synthetic.{Bit, plain, marked, PlacedText, text_at, marked_of, nothing_kept, place_behind, with_piece, written_all}
 use Rattle.diag_core.proofs.texts.PlaceLemmas.{places_cut_out}
-use Rattle.gather_licence.specs.location.Location.{PointsAt}
+use Rattle.gather_license.specs.location.Location.{PointsAt}
 use Rattle.gather_core.specs.findings.Findings.{FaultFits, field_mark, field_place}
 use Rattle.gather_core.specs.findings.Pieces.{SeenFilesView, crate_kept, crate_pieces, head_pieces, joined_pieces, seen_pieces}
 use Rattle.gather_core.specs.findings.Premises.{FaultsLie}
@@ -28,7 +28,7 @@ spans_grow kept (marked bytes ∷ pieces) =
     let rest = spans_grow (with_piece kept (marked bytes)) pieces in
     (place_behind kept.text bytes ∷ rest.0, rest.1 ∙ append_assoc kept.spans (place_behind kept.text bytes ∷ []) rest.0)
 
-head_spans : (krate : Record) (folder : List ℕ) (joined : Option (List ℕ)) (seen : SeenFilesView)
+head_spans : (krate : CrateRecord) (folder : List ℕ) (joined : Option (List ℕ)) (seen : SeenFilesView)
     → (more : List Span) × ((crate_kept krate folder joined seen).spans ≡ (written_all nothing_kept (head_pieces krate)).spans ++ more)
 head_spans krate folder joined seen =
     let head = written_all nothing_kept (head_pieces krate) in
@@ -45,36 +45,36 @@ marked_of-append (plain bytes ∷ first) second = marked_of-append first second
 marked_of-append (marked bytes ∷ first) second = ap (λ (rest : List (List ℕ)). bytes ∷ rest) (marked_of-append first second)
 
 -- the name, the field, and what is marked behind them
-pub record AreMarks (krate : Record) (folder : List ℕ) (joined : Option (List ℕ)) (seen : SeenFilesView) : Type 0 where
+pub record AreMarks (krate : CrateRecord) (folder : List ℕ) (joined : Option (List ℕ)) (seen : SeenFilesView) : Type 0 where
   pub name : Span
   pub field : Span
   pub more : List Span
   pub spans : (crate_kept krate folder joined seen).spans ≡ name ∷ field ∷ more
-  pub name_cut : cut (crate_kept krate folder joined seen).text name ≡ krate.name
-  pub field_cut : cut (crate_kept krate folder joined seen).text field ≡ unwrap_or krate.license []
-  pub more_cut : map (cut (crate_kept krate folder joined seen).text) more ≡ marked_of (joined_pieces joined) ++ marked_of (seen_pieces folder seen)
+  pub name_cut : text_at (crate_kept krate folder joined seen).text name ≡ krate.name
+  pub field_cut : text_at (crate_kept krate folder joined seen).text field ≡ unwrap_or krate.license []
+  pub more_cut : map (text_at (crate_kept krate folder joined seen).text) more ≡ marked_of (joined_pieces joined) ++ marked_of (seen_pieces folder seen)
 
 record Two : Type 0 where
   name : Span
   field : Span
 
 -- the places of the name and of the field
-abbrev head_two : Record → Two
+abbrev head_two : CrateRecord → Two
 head_two krate = record {
   name = place_behind (codes "[package]\nname = \"") krate.name;
   field = place_behind ((((codes "[package]\nname = \"" ++ krate.name) ++ codes "\"\nversion = \"") ++ parts_text krate.version) ++ codes "\"\nlicense = \"") (unwrap_or krate.license []);
 }
 
-pub marks : (krate : Record) (folder : List ℕ) (joined : Option (List ℕ)) (seen : SeenFilesView) → AreMarks krate folder joined seen
+pub marks : (krate : CrateRecord) (folder : List ℕ) (joined : Option (List ℕ)) (seen : SeenFilesView) → AreMarks krate folder joined seen
 marks krate folder joined seen =
     let kept = crate_kept krate folder joined seen in
     let head = head_spans krate folder joined seen in
     let spans = head_two krate in
     let whole : kept.spans ≡ spans.name ∷ spans.field ∷ head.0 = head.1 in
     let cuts = places_cut_out (crate_pieces krate folder joined seen) in
-    let out : cut kept.text spans.name ∷ cut kept.text spans.field ∷ map (cut kept.text) head.0
+    let out : text_at kept.text spans.name ∷ text_at kept.text spans.field ∷ map (text_at kept.text) head.0
     ≡ krate.name ∷ unwrap_or krate.license [] ∷ marked_of (joined_pieces joined ++ seen_pieces folder seen) =
-    ap (map (cut kept.text)) (sym whole) ∙ cuts.cut_out in
+    ap (map (text_at kept.text)) (sym whole) ∙ cuts.cut_out in
     record {
       name = spans.name;
       field = spans.field;
@@ -82,14 +82,14 @@ marks krate folder joined seen =
       spans = whole;
       name_cut = cc;
       field_cut = cc;
-      more_cut = (let rest : map (cut kept.text) head.0 ≡ marked_of (joined_pieces joined ++ seen_pieces folder seen) = cc in rest)
+      more_cut = (let rest : map (text_at kept.text) head.0 ≡ marked_of (joined_pieces joined ++ seen_pieces folder seen) = cc in rest)
           ∙ marked_of-append (joined_pieces joined) (seen_pieces folder seen);
     }
 
 -- ---- places that fit
 
 -- the field's mark is as long as the field
-pub field_mark_long : (krate : Record) (folder : List ℕ) (joined : Option (List ℕ)) (seen : SeenFilesView) (file : ℕ)
+pub field_mark_long : (krate : CrateRecord) (folder : List ℕ) (joined : Option (List ℕ)) (seen : SeenFilesView) (file : ℕ)
     → IfSome (field_mark (record { file = file; spans = (crate_kept krate folder joined seen).spans }))
     (λ at. at.span.end ≡ at.span.start + length (unwrap_or krate.license []))
 field_mark_long krate folder joined seen file =
@@ -117,7 +117,7 @@ pub location_fits : (files : List File) (at : Coord) (field : List ℕ) (faults 
     → FaultsLie field faults → All (FaultFits at) faults
 location_fits files at field faults points fits lie = all_fit at field faults (points_long files at field points) fits lie
 
-pub mark_fits : (krate : Record) (folder : List ℕ) (joined : Option (List ℕ)) (seen : SeenFilesView) (file : ℕ) (faults : List ParseError) (place : Option Coord)
+pub mark_fits : (krate : CrateRecord) (folder : List ℕ) (joined : Option (List ℕ)) (seen : SeenFilesView) (file : ℕ) (faults : List ParseError) (place : Option Coord)
     → place ≡ field_mark (record { file = file; spans = (crate_kept krate folder joined seen).spans }) → IfSome place (λ at. at.span.end < 2 ^ 64)
     → FaultsLie (unwrap_or krate.license []) faults → IfSome place (λ at. All (FaultFits at) faults)
 mark_fits krate folder joined seen file faults None is fits lie = tt
@@ -128,7 +128,7 @@ mark_fits krate folder joined seen file faults (Some at) is fits lie =
     all_fit at (unwrap_or krate.license []) faults long fits lie
 
 -- the location, where there is one, or else the mark
-pub place_fits : (krate : Record) (folder : List ℕ) (joined : Option (List ℕ)) (seen : SeenFilesView) (files : List File) (file : ℕ) (faults : List ParseError) (location place : Option Coord)
+pub place_fits : (krate : CrateRecord) (folder : List ℕ) (joined : Option (List ℕ)) (seen : SeenFilesView) (files : List File) (file : ℕ) (faults : List ParseError) (location place : Option Coord)
     → place ≡ field_place location (field_mark (record { file = file; spans = (crate_kept krate folder joined seen).spans })) → IfSome place (λ at. at.span.end < 2 ^ 64)
     → IfSome location (λ at. PointsAt files at (unwrap_or krate.license [])) → FaultsLie (unwrap_or krate.license []) faults → IfSome place (λ at. All (FaultFits at) faults)
 place_fits krate folder joined seen files file faults None place is fits points lie = mark_fits krate folder joined seen file faults place is fits lie

@@ -4,7 +4,7 @@ use Rattle.std.specs.List.{flat_map}
 use Rattle.std.proofs.lemmas.List.{take_more}
 use Rattle.std.proofs.lemmas.List.Concat.{flat_map-append}
 use Rattle.std.proofs.lemmas.List.Sums.{fold-append}
-use Rattle.graph_core.specs.Krate.{Record}
+use Rattle.graph_core.specs.Krate.{CrateRecord}
 use Rattle.diag_core.specs.texts.Synthetic.{Bit, PlacedText, nothing_kept, with_piece, written_all}
 use Rattle.gather_core.specs.findings.Pieces.{SeenFilesView, crate_kept, head_pieces, joined_pieces, seen_pieces}
 
@@ -22,7 +22,7 @@ three_written kept first second third =
     sym (fold-append with_piece kept (first ++ second) third ∙ ap (λ (so_far : PlacedText). written_all so_far third) (fold-append with_piece kept first second))
 
 -- the pieces of a crate, in three steps
-pub crate_written : (krate : Record) (folder : List ℕ) (joined : Option (List ℕ)) (seen : SeenFilesView) (first second third : PlacedText) → first ≡ written_all nothing_kept (head_pieces krate)
+pub crate_written : (krate : CrateRecord) (folder : List ℕ) (joined : Option (List ℕ)) (seen : SeenFilesView) (first second third : PlacedText) → first ≡ written_all nothing_kept (head_pieces krate)
     → second ≡ written_all first (joined_pieces joined) → third ≡ written_all second (seen_pieces folder seen) → third ≡ crate_kept krate folder joined seen
 crate_written krate folder joined seen first second third head middle last =
     last ∙ ap (λ (kept : PlacedText). written_all kept (seen_pieces folder seen)) (middle ∙ ap (λ (kept : PlacedText). written_all kept (joined_pieces joined)) head)

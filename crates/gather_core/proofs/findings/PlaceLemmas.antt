@@ -10,16 +10,16 @@ use Rattle.diag_core.specs.declared.label.LabelStyle.{LabelStyle}
 use Rattle.diag_core.specs.File.{File, source_of_file}
 use Rattle.diag_core.specs.Label.{label_at}
 use Rattle.deny_text.specs.Spans.{LiesBetween}
-use Rattle.diag_core.specs.texts.Synthetic.{cut}
-use Rattle.gather_licence.specs.location.Location.{PointsAt}
+use Rattle.diag_core.specs.texts.Synthetic.{text_at}
+use Rattle.gather_license.specs.location.Location.{PointsAt}
 use Rattle.gather_core.specs.findings.Cuts.{LabelLies}
 use Rattle.gather_core.specs.findings.Findings.{fault_place}
 
 -- ---- in a text
 
 -- what a place in a field cuts out, where the field stands in a text
-cut_inside : (text field : List ℕ) (at fault : Span) → cut text at ≡ field → at.start ≤ at.end → at.end ≤ length text → fault.start ≤ fault.end → fault.end ≤ length field
-    → cut text (record { start = at.start + fault.start; end = at.start + fault.end }) ≡ cut field fault
+cut_inside : (text field : List ℕ) (at fault : Span) → text_at text at ≡ field → at.start ≤ at.end → at.end ≤ length text → fault.start ≤ fault.end → fault.end ≤ length field
+    → text_at text (record { start = at.start + fault.start; end = at.start + fault.end }) ≡ text_at field fault
 cut_inside text field at fault same ordered inside first last =
     let size = at.end - at.start in
     let tail = drop at.start text in
@@ -34,12 +34,12 @@ cut_inside text field at fault same ordered inside first last =
     ∙ take-take width (size - fault.start) (drop fault.start tail) (omega arith)
     ∙ ap (take width) (drop-drop fault.start at.start text))
 
-part_byte : (text : List ℕ) (at : Span) (i : ℕ) → i < at.end - at.start → get_or (cut text at) i 0 ≡ get_or text (at.start + i) 0
+part_byte : (text : List ℕ) (at : Span) (i : ℕ) → i < at.end - at.start → get_or (text_at text at) i 0 ≡ get_or text (at.start + i) 0
 part_byte text at i below = get_or-take (at.end - at.start) (drop at.start text) i 0 below ∙ get_or-drop at.start text i 0
 
 -- a border of a part is one of the text
-inner_by : (text : List ℕ) (at : Span) → at.start ≤ at.end → IsCharBoundary text at.end → (i : ℕ) → IsCharBoundary (cut text at) i
-    → length (cut text at) ≡ at.end - at.start → ((i ≡ at.end - at.start) ⊎ (i < at.end - at.start)) → IsCharBoundary text (at.start + i)
+inner_by : (text : List ℕ) (at : Span) → at.start ≤ at.end → IsCharBoundary text at.end → (i : ℕ) → IsCharBoundary (text_at text at) i
+    → length (text_at text at) ≡ at.end - at.start → ((i ≡ at.end - at.start) ⊎ (i < at.end - at.start)) → IsCharBoundary text (at.start + i)
 inner_by text at ordered ends i border long (inl at_end) =
     let is : at.end ≡ at.start + i = omega arith in
     subst (IsCharBoundary text) is ends
@@ -51,17 +51,17 @@ inner_by text at ordered ends i border long (inr below) =
           subst (λ (n : ℕ). 192 ≤ n) (part_byte text at i below) lead,
     )
 
-inner_border : (text : List ℕ) (at : Span) → at.start ≤ at.end → IsCharBoundary text at.end → (i : ℕ) → IsCharBoundary (cut text at) i → IsCharBoundary text (at.start + i)
+inner_border : (text : List ℕ) (at : Span) → at.start ≤ at.end → IsCharBoundary text at.end → (i : ℕ) → IsCharBoundary (text_at text at) i → IsCharBoundary text (at.start + i)
 inner_border text at ordered ends i border =
     let within : at.end ≤ length text = ends.0 in
-    let long : length (cut text at) ≡ at.end - at.start = length-take-le (at.end - at.start) (drop at.start text) (omega (arith, length-drop at.start text)) in
+    let long : length (text_at text at) ≡ at.end - at.start = length-take-le (at.end - at.start) (drop at.start text) (omega (arith, length-drop at.start text)) in
     let low : i ≤ at.end - at.start = (let b = border.0 in omega arith) in
     inner_by text at ordered ends i border long (eq-or-lt_of_le low)
 
 -- ---- in a file
 
 -- a place of a file's text
-pub points : (files : List File) (id : ℕ) (source : List ℕ) (span : Span) (bytes : List ℕ) → source_of_file files id ≡ Some source → LiesBetween source span → cut source span ≡ bytes
+pub points : (files : List File) (id : ℕ) (source : List ℕ) (span : Span) (bytes : List ℕ) → source_of_file files id ≡ Some source → LiesBetween source span → text_at source span ≡ bytes
     → PointsAt files (record { file = id; span = span }) bytes
 points files id source span bytes is lies same = record {
   source = source;
@@ -71,7 +71,7 @@ points files id source span bytes is lies same = record {
 
 -- a fault in a field that stands in a file
 pub fault_points : (files : List File) (at : Coord) (field : List ℕ) (fault : Span) → PointsAt files at field → LiesBetween field fault
-    → PointsAt files (fault_place at fault) (cut field fault)
+    → PointsAt files (fault_place at fault) (text_at field fault)
 fault_points files at field fault stands lies =
     let border : (i : ℕ) → IsCharBoundary field i → IsCharBoundary stands.source (at.span.start + i) = λ i there.
     inner_border stands.source at.span stands.cuts.ordered stands.cuts.ends i (subst (λ (l : List ℕ). IsCharBoundary l i) (sym stands.cuts.cut_out) there) in
@@ -87,8 +87,8 @@ fault_points files at field fault stands lies =
     }
 
 -- what a label at the place cuts out
-pub points_cut : (files : List File) (at : Coord) (bytes : List ℕ) → PointsAt files at bytes → cut (unwrap_or (source_of_file files at.file) []) at.span ≡ bytes
-points_cut files at bytes stands = ap (λ (o : Option (List ℕ)). cut (unwrap_or o []) at.span) stands.is_source ∙ stands.cuts.cut_out
+pub points_cut : (files : List File) (at : Coord) (bytes : List ℕ) → PointsAt files at bytes → text_at (unwrap_or (source_of_file files at.file) []) at.span ≡ bytes
+points_cut files at bytes stands = ap (λ (o : Option (List ℕ)). text_at (unwrap_or o []) at.span) stands.is_source ∙ stands.cuts.cut_out
 
 no_some : {A G : Type 0} (x : A) → None ≡ Some x → G
 no_some x e = cc

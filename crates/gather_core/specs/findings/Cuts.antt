@@ -4,14 +4,14 @@ use Rattle.std.specs.Bool.{OnTrue}
 use Rattle.std.specs.List.{flat_map}
 use Rattle.std.specs.Str.{IsCharBoundary}
 use Rattle.spdx_terms.specs.declared.error.ParseError.{ParseError}
-use Rattle.graph_core.specs.Krate.{Record}
+use Rattle.graph_core.specs.Krate.{CrateRecord}
 use Rattle.diag_core.specs.declared.label.Coord.{Coord}
 use Rattle.diag_core.specs.declared.label.Label.{Label}
 use Rattle.diag_core.specs.declared.pack.Diag.{Diag}
 use Rattle.diag_core.specs.File.{File, source_of_file}
 use Rattle.deny_text.specs.Spans.{LiesBetween}
-use Rattle.diag_core.specs.texts.Synthetic.{cut, marked_of}
-use Rattle.gather_licence.specs.location.Location.{PointsAt}
+use Rattle.diag_core.specs.texts.Synthetic.{text_at, marked_of}
+use Rattle.gather_license.specs.location.Location.{PointsAt}
 use Rattle.gather_core.specs.findings.Findings.{UnclarifiedCrateView, ExpressionBasisView, by_field, by_files, files_for, is_made, synthetic_of, marks_by, points_by}
 use Rattle.gather_core.specs.findings.Pieces.{SeenFilesView, seen_pieces}
 use Rattle.gather_core.specs.findings.Premises.{field_text_of}
@@ -22,7 +22,7 @@ labels_of findings = flat_map (λ (finding : Diag). finding.diag.labels) finding
 
 -- the text that a label cuts out of its file
 abbrev pub text_under : List File → Label → List ℕ
-text_under files label = cut (unwrap_or (source_of_file files label.file_id) []) label.range
+text_under files label = text_at (unwrap_or (source_of_file files label.file_id) []) label.range
 
 -- of an empty field that has a location: the empty text
 abbrev pub empty_texts : Option Coord → List (List ℕ)
@@ -32,14 +32,14 @@ empty_texts (Some at) = [] ∷ []
 -- each fault of the field; nothing where there is no field
 abbrev pub field_texts : Option Coord → List ParseError → Option (List ℕ) → List (List ℕ)
 field_texts location faults None = []
-field_texts location faults (Some field) = if length field == 0 then empty_texts location else map (λ (fault : ParseError). cut field fault.span) faults
+field_texts location faults (Some field) = if length field == 0 then empty_texts location else map (λ (fault : ParseError). text_at field fault.span) faults
 
 -- what is marked of the files: a score, a name, or why there is no text or no listing
 abbrev pub failed_texts : List ℕ → SeenFilesView → List (List ℕ)
 failed_texts folder seen = marked_of (seen_pieces folder seen)
 
 -- the crate's name, where there is no expression
-abbrev pub name_texts : Record → Option (List ℕ) → List (List ℕ)
+abbrev pub name_texts : CrateRecord → Option (List ℕ) → List (List ℕ)
 name_texts krate None = krate.name ∷ []
 name_texts krate (Some expression) = []
 

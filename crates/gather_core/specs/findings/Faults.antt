@@ -4,7 +4,7 @@ use Rattle.deny_text.specs.declared.span.Span.{Span}
 use Rattle.spdx_terms.specs.catalog.Catalog.{CatalogLists}
 use Rattle.spdx_terms.specs.declared.error.ParseError.{ParseError}
 use Rattle.spdx_terms.specs.Faults.{first_fault}
-use Rattle.gather_licence.specs.expression.Taken.{lax, strict_with_slash}
+use Rattle.gather_license.specs.expression.Taken.{lax_mode, strict_with_slash}
 
 abbrev pub same_span : Span → Span → Bool
 same_span one other = one.start == other.start && one.end == other.end
@@ -17,4 +17,4 @@ faults_by (Some fault) (Some other) = if same_span fault.span other.span then fa
 
 -- an empty field is not read
 abbrev pub field_faults : CatalogLists → List ℕ → List ParseError
-field_faults lists field = if length field == 0 then [] else faults_by (first_fault strict_with_slash lists field) (first_fault lax lists field)
+field_faults lists field = if length field == 0 then [] else faults_by (first_fault strict_with_slash lists field) (first_fault lax_mode lists field)

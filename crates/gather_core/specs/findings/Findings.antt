@@ -5,7 +5,7 @@ use Rattle.std.specs.Option.{option_map, option_map_or, option_to_list}
 use Rattle.deny_text.specs.declared.span.Span.{Span}
 use Rattle.spdx_terms.specs.declared.error.ParseError.{ParseError}
 use Rattle.spdx_terms.specs.Reasons.{reason_text}
-use Rattle.graph_core.specs.Krate.{Record, title_of}
+use Rattle.graph_core.specs.Krate.{CrateRecord, title_of}
 use Rattle.diag_core.specs.declared.code.DiagnosticCode.TheVariants.{License}
 use Rattle.diag_core.specs.declared.label.Coord.{Coord}
 use Rattle.diag_core.specs.declared.label.Label.{Label}
@@ -18,9 +18,9 @@ use Rattle.diag_core.specs.File.{File}
 use Rattle.diag_core.specs.Code.{code_name}
 use Rattle.diag_core.specs.Label.{heap, label_at}
 use Rattle.diag_core.specs.texts.Synthetic.{PlacedText}
-use Rattle.gather_licence.specs.declared.expression.files.FileResult.{FileResult}
-use Rattle.gather_licence.specs.declared.expression.files.FileResult.TheVariants.{Bad, Unnamed, Low, Unknown, Joined}
-use Rattle.gather_licence.specs.declared.expression.files.ScannedFile.{ScannedFile}
+use Rattle.gather_license.specs.declared.expression.files.FileResult.{FileResult}
+use Rattle.gather_license.specs.declared.expression.files.FileResult.TheVariants.{Bad, Unnamed, Low, Unknown, Joined}
+use Rattle.gather_license.specs.declared.expression.files.ScannedFile.{ScannedFile}
 use Rattle.gather_core.specs.declared.findings.outcome.PlacedFindings.{PlacedFindings}
 use Rattle.gather_core.specs.findings.Pieces.{SeenFilesView, unlisted, listed, crate_kept, synthetic_file}
 
@@ -57,15 +57,15 @@ field_fault field fault =
 abbrev pub empty_field : Coord → Diag
 empty_field at = warning EmptyLicenseField (codes "license field was present but empty") (label_of at (codes "empty field") ∷ [])
 
-abbrev pub no_field : Record → Diag
+abbrev pub no_field : CrateRecord → Diag
 no_field krate = warning NoLicenseField (codes "license expression was not specified in manifest for crate '" ++ title_of krate ++ codes "'") []
 
 -- one failure: its words, and where the synthetic manifest writes it
 abbrev pub failure : ℕ → List ℕ × Span → Diag
 failure file one = warning GatherFailure [] (label_of (record { file = file; span = one.1 }) one.0 ∷ [])
 
-abbrev pub unlicensed : Coord → Diag
-unlicensed name =
+abbrev pub unlicensed_finding : Coord → Diag
+unlicensed_finding name =
     warning Unlicensed (codes "a valid license expression could not be retrieved for the crate") (label_at Primary name.file name.span [] ∷ [])
 
 -- ---- what failed
@@ -118,7 +118,7 @@ abbrev pub field_place : Option Coord → Option Coord → Option Coord
 field_place (Some location) synthetic = Some location
 field_place None synthetic = synthetic
 
-abbrev pub empty_findings : Record → Option Coord → List Diag
+abbrev pub empty_findings : CrateRecord → Option Coord → List Diag
 empty_findings krate None = no_field krate ∷ []
 empty_findings krate (Some location) = empty_field location ∷ []
 
@@ -127,7 +127,7 @@ abbrev pub fault_findings : Option Coord → List ParseError → List Diag
 fault_findings place faults = option_map_or (λ at. map (field_fault at) faults) place []
 
 -- by the field: its faults, or that it is empty, or missing
-abbrev pub field_findings : Record → Option Coord → List ParseError → Option Coord → Option (List ℕ) → List Diag
+abbrev pub field_findings : CrateRecord → Option Coord → List ParseError → Option Coord → Option (List ℕ) → List Diag
 field_findings krate location faults place None = no_field krate ∷ []
 field_findings krate location faults place (Some field) = if length field == 0 then empty_findings krate location else fault_findings place faults
 
@@ -137,7 +137,7 @@ failure_findings seen joined marks = map (failure marks.file) (zip (failures_of 
 
 -- there is no expression
 abbrev pub unlicensed_findings : Option (List ℕ) → MarksView → List Diag
-unlicensed_findings None marks = option_to_list (option_map unlicensed (name_mark marks))
+unlicensed_findings None marks = option_to_list (option_map unlicensed_finding (name_mark marks))
 unlicensed_findings (Some expression) marks = []
 
 -- ---- a crate whose licence no clarification settles
@@ -150,7 +150,7 @@ pub data ExpressionBasisView : Type 0 where
 
 -- the crate, the folder of its manifest, the location of its field where that counts, the field's faults, and what settles it
 pub record UnclarifiedCrateView : Type 0 where
-  pub krate : Record
+  pub krate : CrateRecord
   pub folder : List ℕ
   pub location : Option Coord
   pub faults : List ParseError

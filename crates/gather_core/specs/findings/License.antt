@@ -4,7 +4,7 @@ use Rattle.std.specs.Str.{IsCharBoundary}
 use Rattle.deny_text.specs.declared.span.Span.{Span}
 use Rattle.spdx_core.specs.Reading.{ExpressionView}
 use Rattle.diag_core.specs.File.{File, source_of_file}
-use Rattle.gather_licence.specs.location.Location.{PointsAt}
+use Rattle.gather_license.specs.location.Location.{PointsAt}
 use Rattle.gather_core.specs.declared.findings.license.LicenseExprInfo.{LicenseExprInfo}
 use Rattle.gather_core.specs.declared.findings.license.LicenseInfo.{LicenseInfo}
 use Rattle.gather_core.specs.declared.findings.license.LicenseInfo.TheVariants.{SpdxExpression, Unlicensed}

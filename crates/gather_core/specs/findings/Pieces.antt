@@ -3,15 +3,15 @@ use Rattle.std.specs.Prelude.{ℕ, ◌==◌, false, List, [], ◌∷◌, ◌++�
 use Rattle.std.specs.List.{flat_map}
 use Rattle.semver.specs.Identifiers.{parts_text}
 use Rattle.deny_text.specs.Path.{join_of}
-use Rattle.graph_core.specs.Krate.{Record}
+use Rattle.graph_core.specs.Krate.{CrateRecord}
 use Rattle.tree_core.specs.declared.file_reads.bad_read.BadRead.{BadRead}
 use Rattle.tree_core.specs.declared.file_reads.bad_read.BadRead.TheVariants.{Absent, WrongKind, NotUtf8, Failed}
 use Rattle.diag_core.specs.File.{File}
 use Rattle.diag_core.specs.texts.Manifest.{closing_pieces, expression_pieces, hash_pieces, listing_pieces, manifest_pieces, opening_pieces, score_text}
 use Rattle.diag_core.specs.texts.Synthetic.{Bit, PlacedText, marked, nothing_kept, plain, written_all}
-use Rattle.gather_licence.specs.declared.expression.files.FileResult.{FileResult}
-use Rattle.gather_licence.specs.declared.expression.files.FileResult.TheVariants.{Bad, Unnamed, Low, Unknown, Joined}
-use Rattle.gather_licence.specs.declared.expression.files.ScannedFile.{ScannedFile}
+use Rattle.gather_license.specs.declared.expression.files.FileResult.{FileResult}
+use Rattle.gather_license.specs.declared.expression.files.FileResult.TheVariants.{Bad, Unnamed, Low, Unknown, Joined}
+use Rattle.gather_license.specs.declared.expression.files.ScannedFile.{ScannedFile}
 
 -- why a file is no text, or a folder was not listed
 abbrev pub bad_read_text : BadRead → List ℕ
@@ -58,16 +58,16 @@ joined_pieces None = []
 joined_pieces (Some expression) = expression_pieces expression
 
 -- name, version and field, as they are
-abbrev pub head_pieces : Record → List Bit
+abbrev pub head_pieces : CrateRecord → List Bit
 head_pieces krate = manifest_pieces krate.name (parts_text krate.version) (unwrap_or krate.license [])
 
 -- the manifest, the expression of joined names, and the list of the files
-abbrev pub crate_pieces : Record → List ℕ → Option (List ℕ) → SeenFilesView → List Bit
+abbrev pub crate_pieces : CrateRecord → List ℕ → Option (List ℕ) → SeenFilesView → List Bit
 crate_pieces krate folder joined seen = head_pieces krate ++ joined_pieces joined ++ seen_pieces folder seen
 
-abbrev pub crate_kept : Record → List ℕ → Option (List ℕ) → SeenFilesView → PlacedText
+abbrev pub crate_kept : CrateRecord → List ℕ → Option (List ℕ) → SeenFilesView → PlacedText
 crate_kept krate folder joined seen = written_all nothing_kept (crate_pieces krate folder joined seen)
 
 -- the file of the table, which no path finds
-abbrev pub synthetic_file : Record → PlacedText → File
+abbrev pub synthetic_file : CrateRecord → PlacedText → File
 synthetic_file krate kept = record { name = krate.id ++ codes "-synthesized.toml"; source = kept.text; has_path = false }

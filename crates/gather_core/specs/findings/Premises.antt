@@ -2,7 +2,7 @@
 use Rattle.std.specs.Prelude.{ℕ, List, [], IfSome, All, unwrap_or}
 use Rattle.spdx_terms.specs.declared.error.ParseError.{ParseError}
 use Rattle.diag_core.specs.File.{File}
-use Rattle.gather_licence.specs.location.Location.{PointsAt}
+use Rattle.gather_license.specs.location.Location.{PointsAt}
 use Rattle.deny_text.specs.Spans.{LiesBetween}
 use Rattle.gather_core.specs.findings.Findings.{UnclarifiedCrateView}
 

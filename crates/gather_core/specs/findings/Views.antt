@@ -28,5 +28,5 @@ case_view case = record {
 }
 
 -- a text that is lent
-abbrev pub behind : Bor (List ℕ) → List ℕ
-behind text = text.now
+abbrev pub lent_text : Bor (List ℕ) → List ℕ
+lent_text text = text.now

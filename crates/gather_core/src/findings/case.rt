@@ -1,6 +1,6 @@
 //! Crates whose licence no clarification settles.
 use diag_core::Coord;
-use gather_licence::expression::ScannedFile;
+use gather_license::expression::ScannedFile;
 use graph_core::Krate;
 use spdx_core::ParseError;
 use tree_core::file_reads::BadRead;

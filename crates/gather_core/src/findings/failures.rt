@@ -4,10 +4,10 @@ ghost use Rattle.std.specs.List.{filter_map};
 ghost use Rattle.std.specs.Option.{option_to_list};
 ghost use Rattle.gather_core.specs.findings.Findings as spec;
 ghost use Rattle.gather_core.specs.findings.Findings.{failure_of};
-ghost use Rattle.gather_core.specs.findings.Views.{behind, seen_view};
+ghost use Rattle.gather_core.specs.findings.Views.{lent_text, seen_view};
 
 use crate::findings::case::SeenFiles;
-use gather_licence::expression::{FileResult, ScannedFile};
+use gather_license::expression::{FileResult, ScannedFile};
 use std::alloc::{AllocError, Global};
 
 /// What is said of failures, in order.
@@ -28,7 +28,7 @@ fn failure_of(scanned: &FileResult) -> Option<&'static str>
 
 /// Appends why a file gives no name.
 fn push_failure(words: &mut Words, file: &ScannedFile) -> Result<(), AllocError>
-    ensures { OnOk result (map behind words.new.items ≡ map behind words.old.items
+    ensures { OnOk result (map lent_text words.new.items ≡ map lent_text words.old.items
         ++ option_to_list (failure_of file.now.scanned)) }
 {
     match failure_of(&file.scanned) {
@@ -42,7 +42,7 @@ fn push_failure(words: &mut Words, file: &ScannedFile) -> Result<(), AllocError>
 
 /// What is said of the files that give no name, in order.
 fn file_failures(alloc: Global, files: &[ScannedFile]) -> Result<Words, AllocError>
-    ensures { IfOk result (λ words. map behind words.items
+    ensures { IfOk result (λ words. map lent_text words.items
         ≡ filter_map (λ file. failure_of file.scanned) files.now) }
 {
     let mut words = Vec::new(alloc);
@@ -54,7 +54,7 @@ fn file_failures(alloc: Global, files: &[ScannedFile]) -> Result<Words, AllocErr
 
 /// What failed, in path order.
 pub(crate) fn failures_of(alloc: Global, seen: SeenFiles<'_>) -> Result<Words, AllocError>
-    ensures { IfOk result (λ words. map behind words.items ≡ spec.failures_of (seen_view seen.entry)) }
+    ensures { IfOk result (λ words. map lent_text words.items ≡ spec.failures_of (seen_view seen.entry)) }
 {
     match seen {
         SeenFiles::Unlisted(_) => {

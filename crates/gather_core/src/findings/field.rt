@@ -2,7 +2,7 @@
 ghost use Rattle.std.specs.Prelude.{◌≡◌, IfOk, Some};
 ghost use Rattle.spdx_terms.specs.Faults.{first_fault};
 ghost use Rattle.spdx_core.specs.Reading.{expression_of_text};
-ghost use Rattle.gather_licence.specs.expression.Taken.{field_read};
+ghost use Rattle.gather_license.specs.expression.Taken.{field_read};
 ghost use Rattle.gather_core.specs.findings.Faults as spec;
 ghost use Rattle.gather_core.specs.findings.Faults.{faults_by, field_faults};
 ghost use Rattle.gather_core.specs.findings.Premises.{FaultsLie};

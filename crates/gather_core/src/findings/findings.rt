@@ -5,7 +5,7 @@ ghost use Rattle.std.specs.Option.{option_map, option_to_list};
 ghost use Rattle.graph_core.specs.Krate.{record_of};
 ghost use Rattle.gather_core.specs.findings.Findings as spec;
 ghost use Rattle.gather_core.specs.findings.Findings.{FaultFits, failure, label_of};
-ghost use Rattle.gather_core.specs.findings.Views.{behind};
+ghost use Rattle.gather_core.specs.findings.Views.{lent_text};
 
 use crate::findings::marks::span_at;
 use deny_text::{ListOf, Span};
@@ -116,7 +116,7 @@ fn failure(alloc: Global, file: FileId, words: &str, span: Span) -> Result<Diag,
 }
 
 fn unlicensed(alloc: Global, name: Coord) -> Result<Diag, AllocError>
-    ensures { IfOk result (λ finding. finding ≡ spec.unlicensed name) }
+    ensures { IfOk result (λ finding. finding ≡ spec.unlicensed_finding name) }
 {
     let label = Label::primary(alloc, name.file, name.span);
     warning(
@@ -248,7 +248,7 @@ pub(crate) fn push_failures(
     spans: &[Span],
 ) -> Result<(), AllocError>
     ensures { OnOk result (diags.new
-        ≡ diags.old ++ map (failure file) (zip (map behind words.now) spans.now)) }
+        ≡ diags.old ++ map (failure file) (zip (map lent_text words.now) spans.now)) }
 {
     'words: for (place, said) in words.iter().enumerate() {
         push_failure(alloc, diags, file, said, span_at(spans, place))?;
@@ -262,7 +262,7 @@ pub(crate) fn push_unlicensed(
     diags: &mut Diags,
     name: Option<Coord>,
 ) -> Result<(), AllocError>
-    ensures { OnOk result (diags.new ≡ diags.old ++ option_to_list (option_map spec.unlicensed name)) }
+    ensures { OnOk result (diags.new ≡ diags.old ++ option_to_list (option_map spec.unlicensed_finding name)) }
 {
     match name {
         Some(at) => {

@@ -17,7 +17,7 @@ use deny_text::Text;
 use deny_text::path::join;
 use diag_core::Files;
 use diag_core::texts::{FileNote, Synthetic};
-use gather_licence::expression::{FileResult, ScannedFile};
+use gather_license::expression::{FileResult, ScannedFile};
 use graph_core::Krate;
 use std::alloc::{AllocError, Global};
 use tree_core::file_reads::BadRead;

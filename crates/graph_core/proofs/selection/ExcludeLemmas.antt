@@ -11,7 +11,7 @@ use Rattle.std.specs.declared.cmp.Ordering.TheVariants.{Less, Equal, Greater}
 use Rattle.std.proofs.lemmas.Bool.Decides.{nat_tests}
 use Rattle.std.proofs.lemmas.Cmp.{same_from_slice_cmp}
 use Rattle.std.proofs.lemmas.List.Sorted.{searchable_from_sorted}
-use Rattle.graph_core.specs.Krate.{Record, Version}
+use Rattle.graph_core.specs.Krate.{CrateRecord, Version}
 use Rattle.graph_core.specs.declared.selection.exclude.ExcludeSpec.{ExcludeSpec}
 use Rattle.graph_core.specs.selection.Choice.{ExcludeSpecView, exclude_spec_of, excludes, is_excluded, same_version, fits}
 use Rattle.graph_core.specs.selection.ExcludeOrder.{version_key, key_with, key_of, key_order, key_behind, AreSorted, AreInSearchOrder}
@@ -139,7 +139,7 @@ pub any_map : {A B : Type 0} (f : A → B) (test : B → Bool) (xs : List A) →
 any_map f test [] = refl
 any_map f test (x ∷ xs) = ap (λ b. test (f x) || b) (any_map f test xs)
 
-pub excluded_from_finds : (specs : List ExcludeSpec) (refs : List (Bor ExcludeSpec)) (krate : Record) → AreInSearchOrder specs refs
+pub excluded_from_finds : (specs : List ExcludeSpec) (refs : List (Bor ExcludeSpec)) (krate : CrateRecord) → AreInSearchOrder specs refs
     → (list_any (λ spec. is_eq (key_order (key_behind spec) (key_with krate.name None))) refs || list_any (λ spec. is_eq (key_order (key_behind spec) (key_with krate.name (Some krate.version)))) refs) ≡ is_excluded (map exclude_spec_of specs) krate
 excluded_from_finds specs refs krate ordered =
     let any : Bor ExcludeSpec → Bool = λ spec. is_eq (key_order (key_behind spec) (key_with krate.name None)) in

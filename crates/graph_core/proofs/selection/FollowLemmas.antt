@@ -4,7 +4,7 @@ use Rattle.std.specs.List.{AllByRecursion}
 use Rattle.graph_core.specs.declared.edge.Edge.{Edge}
 use Rattle.graph_core.specs.declared.edge.Kinds.{Kinds}
 use Rattle.graph_core.specs.declared.selection.standing.Standing.{Standing}
-use Rattle.graph_core.specs.selection.Places.{FrontierView, is_marked, passes, put, follow}
+use Rattle.graph_core.specs.selection.Places.{FrontierView, is_marked, passes, frontier_with, follow}
 use Rattle.graph_core.proofs.selection.PutLemmas.{left_to_do, put-counted, put-left, put-keeps, put-waits, put-waiting, put-new, put-found, put-within}
 
 -- one of the edges, which passes, leads to the place
@@ -25,7 +25,7 @@ module _ (standings : List Standing) (counting : Kinds) (n : ℕ) where
   Within edges = AllByRecursion (λ edge. edge.to < n) edges
 
   abbrev next : Edge → FrontierView → FrontierView
-  next edge seen = put edge.to (passes standings counting edge) seen
+  next edge seen = frontier_with edge.to (passes standings counting edge) seen
 
   below : (edge : Edge) (seen : FrontierView) → length seen.marks ≡ n → edge.to < n → edge.to < length seen.marks
   below edge seen counted within = subst (λ m. edge.to < m) (sym counted) within

@@ -3,11 +3,11 @@ use Rattle.std.proofs.Common.{◌≡◌, ℕ, zero, suc, ◌<◌, Bool, true, Li
 use Rattle.std.specs.Option.{option_map_or}
 use Rattle.std.proofs.lemmas.List.{length-map}
 use Rattle.std.proofs.lemmas.Option.{slice_get-map, slice_get-get_or, slice_get_within, get_or_from_slice_get}
-use Rattle.graph_core.specs.Krate.{Record}
+use Rattle.graph_core.specs.Krate.{CrateRecord}
 use Rattle.graph_core.specs.Metadata.{Graph, CrateNode, AreRising, ids_of, id_of_node, edges_at}
 use Rattle.graph_core.specs.selection.Choice.{Choice}
 use Rattle.graph_core.specs.selection.Roots.{crates_of, IsCrateWith}
-use Rattle.graph_core.specs.selection.Places.{nobody, standing_at, standing_of, standings_in}
+use Rattle.graph_core.specs.selection.Places.{no_standing, standing_at, standing_of, standings_in}
 use Rattle.graph_core.proofs.selection.Rising.{id-at, one-place, some_same}
 
 pub within-some : {A : Type 0} (xs : List A) (i : ℕ) → i < length xs → (x : A) × (slice_get xs i ≡ Some x)
@@ -35,7 +35,7 @@ module _ (graph : Graph) (rising : AreRising (ids_of graph)) where
       (place, slice_get_within graph.nodes place node at, get_or_from_slice_get graph.nodes place node node at)
 
   -- the place of a crate
-  place-of : (krate : Record) → Contains (crates_of graph) krate
+  place-of : (krate : CrateRecord) → Contains (crates_of graph) krate
       → (place : ℕ) × (node : CrateNode) × (slice_get graph.nodes place ≡ Some node) × (node.krate ≡ krate)
   place-of krate (place, within, at) =
       let found = node-at place (subst (λ n. place < n) (length-map graph.nodes (λ (n : CrateNode). n.krate)) within) in (
@@ -47,18 +47,18 @@ module _ (graph : Graph) (rising : AreRising (ids_of graph)) where
       )
 
   -- what passes a test at an id passes it at the place of the id
-  pub with-place : (test : Record → Bool) (id : List ℕ) → IsCrateWith graph test id
+  pub with-place : (test : CrateRecord → Bool) (id : List ℕ) → IsCrateWith graph test id
       → (place : ℕ) × (node : CrateNode) × (slice_get graph.nodes place ≡ Some node) × (id_of_node graph place ≡ id) × (test node.krate ≡ true)
   with-place test id found =
       let here = place-of found.krate found.stands in (
         here.0,
         here.1,
         here.2,
-        id-at graph rising here.0 here.1 here.2 ∙ (ap (λ (krate : Record). krate.id) here.3 ∙ found.named),
+        id-at graph rising here.0 here.1 here.2 ∙ (ap (λ (krate : CrateRecord). krate.id) here.3 ∙ found.named),
         ap test here.3 ∙ found.passes,
       )
 
-  pub with-at : (test : Record → Bool) (place : ℕ) (node : CrateNode) → slice_get graph.nodes place ≡ Some node
+  pub with-at : (test : CrateRecord → Bool) (place : ℕ) (node : CrateNode) → slice_get graph.nodes place ≡ Some node
       → test node.krate ≡ true → IsCrateWith graph test (id_of_node graph place)
   with-at test place node at passes = record {
     krate = node.krate;
@@ -68,7 +68,7 @@ module _ (graph : Graph) (rising : AreRising (ids_of graph)) where
   }
 
   -- and at no other
-  pub with-not : (test : Record → Bool) (place : ℕ) (node : CrateNode) → slice_get graph.nodes place ≡ Some node
+  pub with-not : (test : CrateRecord → Bool) (place : ℕ) (node : CrateNode) → slice_get graph.nodes place ≡ Some node
       → IsCrateWith graph test (id_of_node graph place) → test node.krate ≡ true
   with-not test place node at found =
       let other = with-place test (id_of_node graph place) found in
@@ -80,7 +80,7 @@ module _ (graph : Graph) (rising : AreRising (ids_of graph)) where
   pub standing-is : (choice : Choice) (place : ℕ) (node : CrateNode) → slice_get graph.nodes place ≡ Some node
       → standing_at (standings_in graph choice) place ≡ standing_of graph choice node.krate
   standing-is choice place node at =
-      get_or_from_slice_get (standings_in graph choice) place (standing_of graph choice node.krate) nobody
+      get_or_from_slice_get (standings_in graph choice) place (standing_of graph choice node.krate) no_standing
       (slice_get-map (standing_of graph choice) (crates_of graph) place
       ∙ ap (option_map (standing_of graph choice)) (crate-at place node at))
 

@@ -9,10 +9,10 @@ use Rattle.std.proofs.lemmas.List.Elements.{All-from_recursion}
 use Rattle.std.proofs.lemmas.Option.{slice_get_within, unwrap_or-slice_get, get_or_from_slice_get}
 use Rattle.graph_core.specs.declared.krate.Krate.{Krate}
 use Rattle.graph_core.specs.declared.edge.Kinds.{Kinds}
-use Rattle.graph_core.specs.Krate.{Record, record_of, ids_in}
+use Rattle.graph_core.specs.Krate.{CrateRecord, record_of, ids_in}
 use Rattle.graph_core.specs.Metadata.{Graph, CrateNode, AreRising, ids_of, id_of_node}
 use Rattle.graph_core.specs.selection.Roots.{crates_of}
-use Rattle.graph_core.specs.selection.Listed.{IsListOf, ListedCrate, crates_in, listed_crates}
+use Rattle.graph_core.specs.selection.Listed.{IsListOf, ReachedCrate, crates_in, listed_crates}
 use Rattle.graph_core.specs.selection.Places.{AreMarksOf, is_marked, marked_items, kinds_at, kinds_kept}
 use Rattle.graph_core.proofs.selection.GraphPlaces.{within-some}
 use Rattle.graph_core.proofs.selection.PutLemmas.{true-false}
@@ -84,7 +84,7 @@ kept-rising (id ∷ ids) (mark ∷ marks) h =
 
 -- ---- of a graph
 
-ids-crates : {A : Type 0} (f : A → Record) (xs : List A) → ids_in (map f xs) ≡ map (λ x. (f x).id) xs
+ids-crates : {A : Type 0} (f : A → CrateRecord) (xs : List A) → ids_in (map f xs) ≡ map (λ x. (f x).id) xs
 ids-crates f [] = refl
 ids-crates f (x ∷ xs) = ap (λ rest. (f x).id ∷ rest) (ids-crates f xs)
 
@@ -94,7 +94,7 @@ module _ (graph : Graph) (rising : AreRising (ids_of graph)) (Has : List ℕ →
   ids-are = ids-crates (λ (node : CrateNode). node.krate) graph.nodes
 
   ids-kept : ids_in (marked_items (crates_of graph) marks) ≡ marked_items (ids_of graph) marks
-  ids-kept = kept-map (λ (krate : Record). krate.id) (crates_of graph) marks ∙ ap (λ ids. marked_items ids marks) ids-are
+  ids-kept = kept-map (λ (krate : CrateRecord). krate.id) (crates_of graph) marks ∙ ap (λ ids. marked_items ids marks) ids-are
 
   id-is : (place : ℕ) (id : List ℕ) → slice_get (ids_of graph) place ≡ Some id → id_of_node graph place ≡ id
   id-is place id at = unwrap_or-slice_get (ids_of graph) place [] ∙ get_or_from_slice_get (ids_of graph) place id [] at
@@ -107,7 +107,7 @@ module _ (graph : Graph) (rising : AreRising (ids_of graph)) (Has : List ℕ →
       subst (λ ids. Contains ids id) (sym ids-kept)
       (subst (Contains (marked_items (ids_of graph) marks)) same (kept-contains (ids_of graph) marks found.0 there.0 there.1 found.2))
 
-  stands : (place : ℕ) (krate : Record) → slice_get (crates_of graph) place ≡ Some krate → Contains (crates_of graph) krate
+  stands : (place : ℕ) (krate : CrateRecord) → slice_get (crates_of graph) place ≡ Some krate → Contains (crates_of graph) krate
   stands place krate at =
       (place, slice_get_within (crates_of graph) place krate at, get_or_from_slice_get (crates_of graph) place krate krate at)
 
@@ -131,19 +131,19 @@ passing test normal dev build place (mark ∷ marks) =
     (mark && test (kinds_at normal dev build place)) ∷ passing test normal dev build (suc place) marks
 
 module _ (test : Kinds → Bool) (normal dev build : List Bool) where
-  one-item : (b : Bool) (krate : Krate) (kinds : Kinds) (items : List ListedCrate) (rest : List Record) → test kinds ≡ b
-      → crates_in (filter (λ (item : ListedCrate). test item.without) items) ≡ rest
-      → crates_in (filter (λ (item : ListedCrate). test item.without) (record { krate = record_of krate; without = kinds } ∷ items))
+  one-item : (b : Bool) (krate : Krate) (kinds : Kinds) (items : List ReachedCrate) (rest : List CrateRecord) → test kinds ≡ b
+      → crates_in (filter (λ (item : ReachedCrate). test item.without) items) ≡ rest
+      → crates_in (filter (λ (item : ReachedCrate). test item.without) (record { krate = record_of krate; without = kinds } ∷ items))
       ≡ cond b (record_of krate ∷ rest) rest
   one-item true krate kinds items rest is e =
-      ap (λ b. crates_in (cond b (record { krate = record_of krate; without = kinds } ∷ filter (λ (item : ListedCrate). test item.without) items) (filter (λ (item : ListedCrate). test item.without) items))) is
+      ap (λ b. crates_in (cond b (record { krate = record_of krate; without = kinds } ∷ filter (λ (item : ReachedCrate). test item.without) items) (filter (λ (item : ReachedCrate). test item.without) items))) is
       ∙ ap (λ more. record_of krate ∷ more) e
   one-item false krate kinds items rest is e =
-      ap (λ b. crates_in (cond b (record { krate = record_of krate; without = kinds } ∷ filter (λ (item : ListedCrate). test item.without) items) (filter (λ (item : ListedCrate). test item.without) items))) is
+      ap (λ b. crates_in (cond b (record { krate = record_of krate; without = kinds } ∷ filter (λ (item : ReachedCrate). test item.without) items) (filter (λ (item : ReachedCrate). test item.without) items))) is
       ∙ e
 
   pub items-passing : (crates : List Krate) (place : ℕ) (marks : List Bool)
-      → crates_in (filter (λ (item : ListedCrate). test item.without) (listed_crates (marked_items crates marks) (kinds_kept normal dev build place marks)))
+      → crates_in (filter (λ (item : ReachedCrate). test item.without) (listed_crates (marked_items crates marks) (kinds_kept normal dev build place marks)))
       ≡ marked_items (map record_of crates) (passing test normal dev build place marks)
   items-passing [] place [] = refl
   items-passing [] place (true ∷ marks) = refl

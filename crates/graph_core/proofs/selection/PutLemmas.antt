@@ -3,7 +3,7 @@ use Rattle.std.proofs.Common.{◌≡◌, ℕ, zero, suc, ◌+◌, ◌<◌, ◌�
 use Rattle.std.proofs.lemmas.Bool.{cases_eq}
 use Rattle.std.proofs.lemmas.List.{length-set, length-append, get_or-set_same, get_or-set_other}
 use Rattle.std.proofs.lemmas.List.Elements.{Contains-append_left, Contains-push, Contains-push_cases, All-push}
-use Rattle.graph_core.specs.selection.Places.{FrontierView, is_marked, put, put_if}
+use Rattle.graph_core.specs.selection.Places.{FrontierView, is_marked, frontier_with, put_if}
 
 pub true-false : true ≡ false → ⊥
 true-false e = subst T e tt
@@ -47,7 +47,7 @@ module _ (place : ℕ) (wanted : Bool) (seen : FrontierView) where
   counted-if true = length-set seen.marks place true
   counted-if false = refl
 
-  pub put-counted : length (put place wanted seen).marks ≡ length seen.marks
+  pub put-counted : length (frontier_with place wanted seen).marks ≡ length seen.marks
   put-counted = counted-if (wanted && not (is_marked seen.marks place))
 
   left-if : (b : Bool) → place < length seen.marks → (b ≡ true → is_marked seen.marks place ≡ false)
@@ -58,7 +58,7 @@ module _ (place : ℕ) (wanted : Bool) (seen : FrontierView) where
   left-if false below free = refl
 
   -- what is left to do stays as much
-  pub put-left : place < length seen.marks → left_to_do (put place wanted seen) ≡ left_to_do seen
+  pub put-left : place < length seen.marks → left_to_do (frontier_with place wanted seen) ≡ left_to_do seen
   put-left below =
       left-if (wanted && not (is_marked seen.marks place)) below
       (λ is. not-true (is_marked seen.marks place) (both-right wanted (not (is_marked seen.marks place)) is))
@@ -74,14 +74,14 @@ module _ (place : ℕ) (wanted : Bool) (seen : FrontierView) where
   keeps-if true q below marked = keeps-set q below marked
   keeps-if false q below marked = marked
 
-  pub put-keeps : (q : ℕ) → place < length seen.marks → is_marked seen.marks q ≡ true → is_marked (put place wanted seen).marks q ≡ true
+  pub put-keeps : (q : ℕ) → place < length seen.marks → is_marked seen.marks q ≡ true → is_marked (frontier_with place wanted seen).marks q ≡ true
   put-keeps q below marked = keeps-if (wanted && not (is_marked seen.marks place)) q below marked
 
   waits-if : (b : Bool) (q : ℕ) → Contains seen.waiting q → Contains (put_if b place seen).waiting q
   waits-if true q waits = Contains-append_left seen.waiting (place ∷ []) q waits
   waits-if false q waits = waits
 
-  pub put-waits : (q : ℕ) → Contains seen.waiting q → Contains (put place wanted seen).waiting q
+  pub put-waits : (q : ℕ) → Contains seen.waiting q → Contains (frontier_with place wanted seen).waiting q
   put-waits q waits = waits-if (wanted && not (is_marked seen.marks place)) q waits
 
   -- a place that is marked then was marked before, or it is this one, was wanted and waits
@@ -98,8 +98,8 @@ module _ (place : ℕ) (wanted : Bool) (seen : FrontierView) where
   new-if true q want marked = elim (new-set q marked) [ inl before ↦ inl before | inr found ↦ inr (found.0, want refl, found.1) ]
   new-if false q want marked = inl marked
 
-  pub put-new : (q : ℕ) → is_marked (put place wanted seen).marks q ≡ true
-      → (is_marked seen.marks q ≡ true) ⊎ ((q ≡ place) × (wanted ≡ true) × Contains (put place wanted seen).waiting q)
+  pub put-new : (q : ℕ) → is_marked (frontier_with place wanted seen).marks q ≡ true
+      → (is_marked seen.marks q ≡ true) ⊎ ((q ≡ place) × (wanted ≡ true) × Contains (frontier_with place wanted seen).waiting q)
   put-new q marked =
       new-if (wanted && not (is_marked seen.marks place)) q (both-left wanted (not (is_marked seen.marks place))) marked
 
@@ -112,14 +112,14 @@ module _ (place : ℕ) (wanted : Bool) (seen : FrontierView) where
   wanted-before true e is = not-false (is_marked seen.marks place) is
   wanted-before false e is = absurd (true-false (sym e))
 
-  pub put-found : place < length seen.marks → wanted ≡ true → is_marked (put place wanted seen).marks place ≡ true
+  pub put-found : place < length seen.marks → wanted ≡ true → is_marked (frontier_with place wanted seen).marks place ≡ true
   put-found below want = found-if (wanted && not (is_marked seen.marks place)) below (wanted-before wanted want)
 
   within-if : (b : Bool) (n : ℕ) → place < n → All (λ q. q < n) seen.waiting → All (λ q. q < n) (put_if b place seen).waiting
   within-if true n below within = All-push (λ q. q < n) seen.waiting place within below
   within-if false n below within = within
 
-  pub put-within : (n : ℕ) → place < n → All (λ q. q < n) seen.waiting → All (λ q. q < n) (put place wanted seen).waiting
+  pub put-within : (n : ℕ) → place < n → All (λ q. q < n) seen.waiting → All (λ q. q < n) (frontier_with place wanted seen).waiting
   put-within n below within = within-if (wanted && not (is_marked seen.marks place)) n below within
 
   -- what waits then waited before, or it is this place, and is marked
@@ -132,6 +132,6 @@ module _ (place : ℕ) (wanted : Bool) (seen : FrontierView) where
       ]
   waiting-if false q below waits = inl waits
 
-  pub put-waiting : (q : ℕ) → place < length seen.marks → Contains (put place wanted seen).waiting q
-      → Contains seen.waiting q ⊎ (is_marked (put place wanted seen).marks q ≡ true)
+  pub put-waiting : (q : ℕ) → place < length seen.marks → Contains (frontier_with place wanted seen).waiting q
+      → Contains seen.waiting q ⊎ (is_marked (frontier_with place wanted seen).marks q ≡ true)
   put-waiting q below waits = waiting-if (wanted && not (is_marked seen.marks place)) q below waits

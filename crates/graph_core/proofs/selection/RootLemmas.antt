@@ -8,7 +8,7 @@ use Rattle.graph_core.specs.Metadata.{Graph, CrateNode, AreRising, ids_of, id_of
 use Rattle.graph_core.specs.declared.selection.standing.Standing.{Standing}
 use Rattle.graph_core.specs.selection.Choice.{Choice}
 use Rattle.graph_core.specs.selection.Roots.{IsRoot, crates_of, is_root}
-use Rattle.graph_core.specs.selection.Places.{FrontierView, is_marked, is_root_standing, nobody, nothing_seen, put, put_roots, standing_of, standings_in}
+use Rattle.graph_core.specs.selection.Places.{FrontierView, is_marked, is_root_standing, no_standing, nothing_seen, frontier_with, put_roots, standing_of, standings_in}
 use Rattle.graph_core.proofs.selection.WalkLemmas.{reached-root}
 use Rattle.graph_core.proofs.selection.PutLemmas.{put-counted, put-keeps, put-new, put-found, put-waits, put-waiting, put-within, true-false}
 use Rattle.graph_core.proofs.selection.GraphPlaces.{node-at, standing-is, with-at, with-place}
@@ -18,12 +18,12 @@ use Rattle.graph_core.proofs.selection.UnderWay.{IdMarked, IsUnderWay}
 pub record IsRootFrom (first : ℕ) (standings : List Standing) (place : ℕ) : Type 0 where
   pub index : ℕ
   pub within : index < length standings
-  pub is_root : is_root_standing (slice_index_or standings index nobody) ≡ true
+  pub is_root : is_root_standing (slice_index_or standings index no_standing) ≡ true
   pub at : first + index ≡ place
 
 module _ (n : ℕ) where
   abbrev next : ℕ → Standing → FrontierView → FrontierView
-  next place standing seen = put place (is_root_standing standing) seen
+  next place standing seen = frontier_with place (is_root_standing standing) seen
 
   below : (place count : ℕ) (seen : FrontierView) → length seen.marks ≡ n → place + suc count ≡ n → place < length seen.marks
   below place count seen counted fits = omega arith
@@ -67,7 +67,7 @@ module _ (n : ℕ) where
       waits
 
   pub roots-found : (place : ℕ) (standings : List Standing) (seen : FrontierView) (index : ℕ) → length seen.marks ≡ n → place + length standings ≡ n
-      → index < length standings → is_root_standing (slice_index_or standings index nobody) ≡ true
+      → index < length standings → is_root_standing (slice_index_or standings index no_standing) ≡ true
       → is_marked (put_roots place standings seen).marks (place + index) ≡ true
   roots-found place [] seen index counted fits within root = absurd (omega arith)
   roots-found place (standing ∷ standings) seen zero counted fits within root =

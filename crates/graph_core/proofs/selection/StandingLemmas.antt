@@ -11,11 +11,11 @@ use Rattle.std.proofs.lemmas.List.Elements.{recursion_from_All}
 use Rattle.std.proofs.lemmas.Option.{get_or_from_slice_get, slice_get-get_or, slice_get-map}
 use Rattle.std.proofs.lemmas.Slice.Eq.{bytes_eq-Decides}
 use Rattle.graph_core.specs.declared.krate.Krate.{Krate}
-use Rattle.graph_core.specs.Krate.{Record, has_text, record_of}
+use Rattle.graph_core.specs.Krate.{CrateRecord, has_text, record_of}
 use Rattle.graph_core.specs.Metadata.{Graph, CrateNode, ArePlaces, AreRising, ids_of, id_of_node}
 use Rattle.graph_core.specs.selection.Choice.{Choice}
 use Rattle.graph_core.specs.selection.Roots.{crates_of, is_base, is_base_of, is_member}
-use Rattle.graph_core.specs.selection.Places.{is_marked, marked_at, marks_at, nobody, standing_of, standing_with, standings_in}
+use Rattle.graph_core.specs.selection.Places.{is_marked, marked_at, marks_at, no_standing, standing_of, standing_with, standings_in}
 use Rattle.graph_core.proofs.selection.GraphPlaces.{crate-at, node-at}
 use Rattle.graph_core.proofs.selection.Rising.{id-at, one-place, some_same}
 
@@ -61,7 +61,7 @@ same-marks (x ∷ xs) (y ∷ ys) e h =
     ∙ ap (λ rest. y ∷ rest) (same-marks xs ys (omega arith) (λ k below. h (suc k) (omega arith)))
 
 module _ (graph : Graph) (rising : AreRising (ids_of graph)) where
-  pub said-at : {A : Type 0} (f : Record → A) (place : ℕ) (node : CrateNode) (d : A) → slice_get graph.nodes place ≡ Some node
+  pub said-at : {A : Type 0} (f : CrateRecord → A) (place : ℕ) (node : CrateNode) (d : A) → slice_get graph.nodes place ≡ Some node
       → slice_index_or (map f (crates_of graph)) place d ≡ f node.krate
   said-at f place node d at =
       get_or_from_slice_get (map f (crates_of graph)) place (f node.krate) d
@@ -99,10 +99,10 @@ module _ (graph : Graph) (rising : AreRising (ids_of graph)) where
     count-marks =
         marked-length places (replicate (length graph.nodes) false) ∙ length-replicate (length graph.nodes) false
 
-    count-crates : {A : Type 0} (f : Record → A) → length (map f (crates_of graph)) ≡ length graph.nodes
+    count-crates : {A : Type 0} (f : CrateRecord → A) → length (map f (crates_of graph)) ≡ length graph.nodes
     count-crates f = length-map (crates_of graph) f ∙ length-map graph.nodes (λ (node : CrateNode). node.krate)
 
-    pub marks-say : (f : Record → Bool) → ((krate : Record) → has_text (map (id_of_node graph) places) krate.id ≡ f krate)
+    pub marks-say : (f : CrateRecord → Bool) → ((krate : CrateRecord) → has_text (map (id_of_node graph) places) krate.id ≡ f krate)
         → marks_at (length graph.nodes) places ≡ map f (crates_of graph)
     marks-say f says =
         same-marks (marks_at (length graph.nodes) places) (map f (crates_of graph)) (count-marks ∙ sym (count-crates f))
@@ -115,9 +115,9 @@ module _ (graph : Graph) (rising : AreRising (ids_of graph)) where
 
     -- of the members
     pub marks-members : map (id_of_node graph) places ≡ graph.members
-        → marks_at (length graph.nodes) places ≡ map (λ (krate : Record). is_member graph krate.id) (crates_of graph)
+        → marks_at (length graph.nodes) places ≡ map (λ (krate : CrateRecord). is_member graph krate.id) (crates_of graph)
     marks-members told =
-        marks-say (λ (krate : Record). is_member graph krate.id) (λ krate. ap (λ ids. has_text ids krate.id) told)
+        marks-say (λ (krate : CrateRecord). is_member graph krate.id) (λ krate. ap (λ ids. has_text ids krate.id) told)
 
     base-all : (workspace : Bool) (root : Option (List ℕ)) → workspace ≡ true → (id : List ℕ)
         → is_member graph id ≡ is_base_of graph workspace root id
@@ -174,7 +174,7 @@ module _ (graph : Graph) (rising : AreRising (ids_of graph)) where
     count-standings = length-map (crates_of graph) (standing_of graph choice) ∙ length-map graph.nodes (λ (node : CrateNode). node.krate)
 
     pub standings-more : (members bases : List Bool)
-        → members ≡ map (λ (k : Record). is_member graph k.id) (crates_of graph)
+        → members ≡ map (λ (k : CrateRecord). is_member graph k.id) (crates_of graph)
         → bases ≡ map (is_base graph choice) (crates_of graph)
         → take i (standings_in graph choice)
         ++ standing_with choice (record_of krate) (is_marked members i) (is_marked bases i) ∷ []
@@ -183,8 +183,8 @@ module _ (graph : Graph) (rising : AreRising (ids_of graph)) where
         ap (λ s. take i (standings_in graph choice) ++ s ∷ [])
         (ap (λ k. standing_with choice k (is_marked members i) (is_marked bases i)) same-krate
         ∙ (ap (λ x. standing_with choice there.0.krate x (is_marked bases i))
-        (ap (λ marks. is_marked marks i) m ∙ said-at (λ (k : Record). is_member graph k.id) i there.0 false there.1)
+        (ap (λ marks. is_marked marks i) m ∙ said-at (λ (k : CrateRecord). is_member graph k.id) i there.0 false there.1)
         ∙ (ap (standing_with choice there.0.krate (is_member graph there.0.krate.id))
         (ap (λ marks. is_marked marks i) b ∙ said-at (is_base graph choice) i there.0 false there.1)
-        ∙ sym (said-at (standing_of graph choice) i there.0 nobody there.1))))
-        ∙ sym (take_more (standings_in graph choice) i nobody (subst (λ n. i < n) (sym count-standings) in-graph))
+        ∙ sym (said-at (standing_of graph choice) i there.0 no_standing there.1))))
+        ∙ sym (take_more (standings_in graph choice) i no_standing (subst (λ n. i < n) (sym count-standings) in-graph))

@@ -5,7 +5,7 @@ use Rattle.std.proofs.lemmas.Option.{slice_get-get_or}
 use Rattle.std.proofs.lemmas.List.{length-append, take_all}
 use Rattle.std.proofs.Math.Seq.{get_or-append_seam}
 use Rattle.std.specs.List.{join_with_byte}
-use Rattle.graph_core.specs.source.Git.{Pair, names_spec, last_of, last_spec, later, is_master, is_kept, pair_text, with_pair, with_kept, query_text, text_without_master}
+use Rattle.graph_core.specs.source.Git.{Pair, names_spec, last_of, last_spec, last_spec_pair, is_master, is_kept, pair_text, with_pair, with_kept, query_text, text_without_master}
 
 last_of-append : (pairs : List Pair) (pair : Pair) → last_of (pairs ++ pair ∷ []) ≡ Some pair
 last_of-append pairs pair =
@@ -20,7 +20,7 @@ last_of-cond pairs pair true = last_of-append pairs pair
 last_of-cond pairs pair false = ap last_of (append-nil pairs)
 
 pub last_spec-more : (pairs : List Pair) (i : ℕ) (pair : Pair) → i < length pairs → get_or pairs i pair ≡ pair
-    → last_spec (take (i + 1) pairs) ≡ later (last_spec (take i pairs)) pair
+    → last_spec (take (i + 1) pairs) ≡ last_spec_pair (last_spec (take i pairs)) pair
 last_spec-more pairs i pair h e =
     ap last_of (filter_more names_spec pairs i pair h)
     ∙ (ap (λ p. last_of (filter names_spec (take i pairs) ++ cond (names_spec p) (p ∷ []) [])) e

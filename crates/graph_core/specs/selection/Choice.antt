@@ -6,7 +6,7 @@ use Rattle.deny_text.specs.Cut.{cut_at, is_at_sign, is_colon}
 use Rattle.semver.specs.Identifiers.{parts_of}
 use Rattle.semver.specs.Parse.{version_parts}
 use Rattle.semver.specs.declared.error.Error.{Error}
-use Rattle.graph_core.specs.Krate.{Record, Version}
+use Rattle.graph_core.specs.Krate.{CrateRecord, Version}
 use Rattle.graph_core.specs.declared.selection.exclude.ExcludeSpec.{ExcludeSpec}
 use Rattle.graph_core.specs.declared.selection.selection.Selection.{Selection}
 
@@ -47,10 +47,10 @@ abbrev pub fits : Option Version → Version → Bool
 fits None version = true
 fits (Some wanted) version = same_version wanted version
 
-abbrev pub excludes : ExcludeSpecView → Record → Bool
+abbrev pub excludes : ExcludeSpecView → CrateRecord → Bool
 excludes spec krate = bytes_eq spec.name krate.name && fits spec.version krate.version
 
-abbrev pub is_excluded : List ExcludeSpecView → Record → Bool
+abbrev pub is_excluded : List ExcludeSpecView → CrateRecord → Bool
 is_excluded specs krate = list_any (λ spec. excludes spec krate) specs
 
 -- ---- a readable spec: `name@version`, `name:version` or `name`
@@ -78,8 +78,8 @@ read_one text = option_to_list (spec_read text)
 
 -- ---- a spec that is not carried: it holds a `/` or a `#`
 
-abbrev pub is_uncarried_sign : ℕ → Bool
-is_uncarried_sign byte = (byte == 47) || (byte == 35)
+abbrev pub is_unsupported_sign : ℕ → Bool
+is_unsupported_sign byte = (byte == 47) || (byte == 35)
 
-abbrev pub is_uncarried : List ℕ → Bool
-is_uncarried text = list_any is_uncarried_sign text
+abbrev pub is_unsupported : List ℕ → Bool
+is_unsupported text = list_any is_unsupported_sign text

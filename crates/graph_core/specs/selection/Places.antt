@@ -5,7 +5,7 @@ use Rattle.graph_core.specs.declared.edge.DepKind.{DepKind}
 use Rattle.graph_core.specs.declared.edge.DepKind.TheVariants.{Normal, Dev, Build}
 use Rattle.graph_core.specs.declared.edge.Edge.{Edge}
 use Rattle.graph_core.specs.declared.edge.Kinds.{Kinds}
-use Rattle.graph_core.specs.Krate.{Record}
+use Rattle.graph_core.specs.Krate.{CrateRecord}
 use Rattle.graph_core.specs.Metadata.{Graph, id_of_node, no_kinds}
 use Rattle.graph_core.specs.declared.selection.selection.BuildError.{BuildError}
 use Rattle.graph_core.specs.declared.selection.selection.BuildError.TheVariants.{NoRoots}
@@ -43,7 +43,7 @@ pub record AreMarksOf (graph : Graph) (Has : List ℕ → Type 0) (marks : List 
 
 -- ---- what is said of a crate before any walk
 
-abbrev pub standing_of : Graph → Choice → Record → Standing
+abbrev pub standing_of : Graph → Choice → CrateRecord → Standing
 standing_of graph choice krate = record {
   member = is_member graph krate.id;
   base = is_base graph choice krate;
@@ -52,7 +52,7 @@ standing_of graph choice krate = record {
 }
 
 -- of a crate of which it is known whether it is a member and whether it would be a root
-abbrev pub standing_with : Choice → Record → Bool → Bool → Standing
+abbrev pub standing_with : Choice → CrateRecord → Bool → Bool → Standing
 standing_with choice krate member base = record {
   member = member;
   base = base;
@@ -78,11 +78,11 @@ root_needed standings =
     else Err (NoRoots (count_by (λ standing. standing.base) standings) (count_by is_excluded_standing standings)
     (count_by is_unpublished_standing standings))
 
-abbrev pub nobody : Standing
-nobody = record { member = false; base = false; excluded = false; unpublished = false }
+abbrev pub no_standing : Standing
+no_standing = record { member = false; base = false; excluded = false; unpublished = false }
 
 abbrev pub standing_at : List Standing → ℕ → Standing
-standing_at standings place = slice_index_or standings place nobody
+standing_at standings place = slice_index_or standings place no_standing
 
 -- ---- kinds that count
 
@@ -123,25 +123,25 @@ abbrev pub put_if : Bool → ℕ → FrontierView → FrontierView
 put_if true place seen = record { marks = marked_at seen.marks place; waiting = seen.waiting ++ place ∷ [] }
 put_if false place seen = seen
 
-abbrev pub put : ℕ → Bool → FrontierView → FrontierView
-put place wanted seen = put_if (wanted && not (is_marked seen.marks place)) place seen
+abbrev pub frontier_with : ℕ → Bool → FrontierView → FrontierView
+frontier_with place wanted seen = put_if (wanted && not (is_marked seen.marks place)) place seen
 
 abbrev pub follow : List Standing → Kinds → FrontierView → List Edge → FrontierView
 follow standings counting seen [] = seen
 follow standings counting seen (edge ∷ edges) =
-    follow standings counting (put edge.to (passes standings counting edge) seen) edges
+    follow standings counting (frontier_with edge.to (passes standings counting edge) seen) edges
 
 -- the roots among the standings, of which the first has this place
 abbrev pub put_roots : ℕ → List Standing → FrontierView → FrontierView
 put_roots place [] seen = seen
 put_roots place (standing ∷ standings) seen =
-    put_roots (suc place) standings (put place (is_root_standing standing) seen)
+    put_roots (suc place) standings (frontier_with place (is_root_standing standing) seen)
 
 -- ---- what is kept of the crates that are reached
 
-abbrev pub appended : {T : Type 0} → List T → T → Bool → List T
-appended items item true = items ++ item ∷ []
-appended items item false = items
+abbrev pub items_with : {T : Type 0} → List T → T → Bool → List T
+items_with items item true = items ++ item ∷ []
+items_with items item false = items
 
 -- the kinds without which the crate at a place is reached, by marks for each kind
 abbrev pub kinds_at : List Bool → List Bool → List Bool → ℕ → Kinds

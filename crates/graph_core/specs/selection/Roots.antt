@@ -1,12 +1,12 @@
 -- The crates at which walks begin.
 use Rattle.std.specs.Prelude.{◌≡◌, ℕ, ◌+◌, ◌&&◌, not, Bool, true, false, List, [], ◌∷◌, map, bytes_eq, count_by, Contains, IsTrue, Option, Some, None}
-use Rattle.graph_core.specs.Krate.{Record, has_text}
+use Rattle.graph_core.specs.Krate.{CrateRecord, has_text}
 use Rattle.graph_core.specs.Metadata.{Graph}
 use Rattle.graph_core.specs.declared.selection.selection.BuildError.{BuildError}
 use Rattle.graph_core.specs.declared.selection.selection.BuildError.TheVariants.{NoRoots, Memory}
 use Rattle.graph_core.specs.selection.Choice.{Choice, is_excluded}
 
-abbrev pub crates_of : Graph → List Record
+abbrev pub crates_of : Graph → List CrateRecord
 crates_of graph = map (λ node. node.krate) graph.nodes
 
 abbrev pub is_member : Graph → List ℕ → Bool
@@ -18,7 +18,7 @@ is_base_of graph true root id = is_member graph id
 is_base_of graph false None id = is_member graph id
 is_base_of graph false (Some root) id = bytes_eq root id
 
-abbrev pub is_base : Graph → Choice → Record → Bool
+abbrev pub is_base : Graph → Choice → CrateRecord → Bool
 is_base graph choice krate = is_base_of graph choice.workspace graph.root krate.id
 
 -- a publish list that is there and empty
@@ -27,27 +27,27 @@ is_published_nowhere None = false
 is_published_nowhere (Some []) = true
 is_published_nowhere (Some (name ∷ names)) = false
 
-abbrev pub is_unpublished : Graph → Choice → Record → Bool
+abbrev pub is_unpublished : Graph → Choice → CrateRecord → Bool
 is_unpublished graph choice krate =
     choice.exclude_unpublished && (is_member graph krate.id && is_published_nowhere krate.publish)
 
 -- of the base roots, those that a spec excludes, and those of the others that are left out as unpublished
-abbrev pub is_excluded_base : Graph → Choice → Record → Bool
+abbrev pub is_excluded_base : Graph → Choice → CrateRecord → Bool
 is_excluded_base graph choice krate = is_base graph choice krate && is_excluded choice.exclude krate
 
-abbrev pub is_unpublished_base : Graph → Choice → Record → Bool
+abbrev pub is_unpublished_base : Graph → Choice → CrateRecord → Bool
 is_unpublished_base graph choice krate =
     is_base graph choice krate && (not (is_excluded choice.exclude krate) && is_unpublished graph choice krate)
 
-abbrev pub is_root : Graph → Choice → Record → Bool
+abbrev pub is_root : Graph → Choice → CrateRecord → Bool
 is_root graph choice krate =
     is_base graph choice krate && (not (is_excluded choice.exclude krate) && not (is_unpublished graph choice krate))
 
 -- ---- of ids
 
 -- a crate of the graph has the id, and passes the test
-pub record IsCrateWith (graph : Graph) (test : Record → Bool) (id : List ℕ) : Type 0 where
-  pub krate : Record
+pub record IsCrateWith (graph : Graph) (test : CrateRecord → Bool) (id : List ℕ) : Type 0 where
+  pub krate : CrateRecord
   pub stands : Contains (crates_of graph) krate
   pub named : krate.id ≡ id
   pub passes : IsTrue (test krate)

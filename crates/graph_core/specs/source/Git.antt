@@ -38,12 +38,12 @@ IsPathOnTheWay old new = (new ≡ old) ⊎ ((new ≡ without_extension old) ⊎ 
 abbrev pub Pair : Type 0
 Pair = List ℕ × List ℕ
 
-abbrev pub decoded : Pair → Pair
-decoded (name, value) = (utf8_lossy (decode name), utf8_lossy (decode value))
+abbrev pub decoded_pair : Pair → Pair
+decoded_pair (name, value) = (utf8_lossy (decode name), utf8_lossy (decode value))
 
 -- the pairs of the query, decoded
 abbrev pub query_of : Parts → List Pair
-query_of address = map decoded (raw_pairs (unwrap_or address.query []))
+query_of address = map decoded_pair (raw_pairs (unwrap_or address.query []))
 
 -- what a name in a query stands for
 abbrev pub spec_named : List ℕ → Option GitSpec
@@ -63,8 +63,8 @@ abbrev pub last_spec : List Pair → Option Pair
 last_spec pairs = last_of (filter names_spec pairs)
 
 -- the pair where it names one of these, else the one found before
-abbrev pub later : Option Pair → Pair → Option Pair
-later found pair = if names_spec pair then Some pair else found
+abbrev pub last_spec_pair : Option Pair → Pair → Option Pair
+last_spec_pair found pair = if names_spec pair then Some pair else found
 
 -- what the last such pair stands for, and its value
 abbrev pub spec_in : List Pair → GitSpec

@@ -130,8 +130,8 @@ pub fn read_specs(alloc: Global, specs: &mut ExcludeSpecs, texts: &[Text]) -> Re
 }
 
 /// Whether a spec holds a `/` or a `#`. Such a spec is not carried.
-fn is_uncarried(text: &Text) -> bool
-    ensures { result ≡ spec.is_uncarried text.now }
+fn is_unsupported(text: &Text) -> bool
+    ensures { result ≡ spec.is_unsupported text.now }
 {
     text.as_str()
         .as_bytes()
@@ -140,10 +140,10 @@ fn is_uncarried(text: &Text) -> bool
 }
 
 /// Whether one of the specs holds a `/` or a `#`.
-pub fn has_uncarried(texts: &Texts) -> bool
-    ensures { result ≡ list_any spec.is_uncarried texts.now }
+pub fn has_unsupported(texts: &Texts) -> bool
+    ensures { result ≡ list_any spec.is_unsupported texts.now }
 {
-    texts.items().iter().any(|text| is_uncarried(text))
+    texts.items().iter().any(|text| is_unsupported(text))
 }
 
 /// The order of versions: by their numbers, and then by their texts.

@@ -35,9 +35,9 @@ pub struct Krates {
 }
 
 impl Model for Krates {
-    ghost use Rattle.graph_core.specs.selection.Listed.{Chosen, chosen_with};
+    ghost use Rattle.graph_core.specs.selection.Listed.{ReachedCrates, chosen_with};
 
-    ghost Value = { Chosen };
+    ghost Value = { ReachedCrates };
 
     ghost view = { λ k. chosen_with k.crates.items k.without.items k.members k.workspace_root };
 }
@@ -64,7 +64,7 @@ fn kinds_at(without: &Without, place: usize) -> Kinds
 
 /// Appends an item, where it is wanted.
 fn put<T: Drop>(list: &mut Vec<T>, item: T, wanted: bool) -> Result<(), AllocError>
-    ensures { OnOk result (list.new.items ≡ spec.appended list.old.items item wanted) }
+    ensures { OnOk result (list.new.items ≡ spec.items_with list.old.items item wanted) }
 {
     if wanted {
         list.push(item)?;

@@ -93,7 +93,7 @@ impl Frontier {
     /// Finds a place, where it is wanted and was not found before.
     fn put(&mut self, place: usize, wanted: bool) -> Result<(), AllocError>
         requires { place < length self.old.marks.items }
-        ensures { OnOk result (frontier_of self.new ≡ spec.put place wanted (frontier_of self.old)) }
+        ensures { OnOk result (frontier_of self.new ≡ spec.frontier_with place wanted (frontier_of self.old)) }
     {
         if wanted && !self.marks[place] {
             self.waiting.push(place)?;

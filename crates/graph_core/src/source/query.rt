@@ -63,7 +63,7 @@ fn is_master(pair: &(Text, Text)) -> bool
 
 /// The pair where it names a branch, a tag or a revision, else the one found before.
 fn later<'p>(found: Option<&'p (Text, Text)>, pair: &'p (Text, Text)) -> Option<&'p (Text, Text)>
-    ensures { option_copied result ≡ spec.later (option_copied found.entry) pair.now }
+    ensures { option_copied result ≡ spec.last_spec_pair (option_copied found.entry) pair.now }
 {
     if names_spec(pair) { Some(pair) } else { found }
 }

@@ -7,7 +7,7 @@ use Rattle.toml_subset.specs.declared.string.Key.{Key}
 use Rattle.toml_subset.specs.shapes.Shaped.{ShapeReading}
 use Rattle.policy_toml.specs.HelperState.{given_value}
 use Rattle.policy_toml.specs.Readings.{boolean_of, text_of, list_of}
-use Rattle.policy_toml.specs.rows.Rows.{given, key_span, entries_besides}
+use Rattle.policy_toml.specs.rows.Rows.{optional_value, key_span, entries_besides}
 use Rattle.policy_toml.proofs.rows.RowLemmas.{none_is, found_behind, entry_behind}
 use Rattle.policy_parts.specs.Values.{target_of}
 use Rattle.policy_parts.specs.declared.target.Target.{Target}
@@ -49,7 +49,7 @@ same_moved {t} {t'} {x} {x'} {y} {y'} {a} {a'} {b} {b'} {d} {d'} targets exclude
     ∙ ap (λ v. moved_of t' x' y' a' b' v) dev
 
 given_behind : {A : Type 0} (name : List ℕ) (reads : Toml → ShapeReading A) (passed : List (List ℕ)) (entries : Entries) → none_is name passed ≡ true
-    → given name reads (entries_besides passed entries) ≡ given name reads entries
+    → optional_value name reads (entries_besides passed entries) ≡ optional_value name reads entries
 given_behind name reads passed entries apart = ap (λ value. given_value (option_map reads value)) (found_behind name passed entries apart)
 
 span_behind : (name : List ℕ) (passed : List (List ℕ)) (entries : Entries) → none_is name passed ≡ true

@@ -9,7 +9,7 @@ use Rattle.std.proofs.lemmas.List.Sums.{passes_at_first}
 use Rattle.std.proofs.lemmas.Str.{IsUtf8-between, IsCharBoundary-after_ascii}
 use Rattle.deny_text.specs.declared.span.Span.{Span}
 use Rattle.deny_text.specs.Spans.{LiesBetween}
-use Rattle.policy_parts.specs.entries.Licensees.{place_from, moved}
+use Rattle.policy_parts.specs.entries.Licensees.{place_from, span_from}
 
 module _ (text : List ℕ) where
   pub part_is_text : (span : Span) → IsUtf8 text → LiesBetween text span → IsUtf8 (slice_range text span.start span.end)
@@ -59,7 +59,7 @@ module _ (text : List ℕ) where
       subst (IsCharBoundary text) (sym (uncut (span.start + i) (omega arith))) inner
 
   pub moved_lies : (span : Span) → LiesBetween text span → length text < 2 ^ 64 → (inner : Span) → LiesBetween (slice_range text span.start span.end) inner
-      → LiesBetween text (moved span.start inner)
+      → LiesBetween text (span_from span.start inner)
   moved_lies span lies fits inner within = record {
     ordered = (let o = within.ordered in omega arith);
     start_border = place_lies span lies fits inner.start within.start_border;

@@ -15,7 +15,7 @@ use Rattle.toml_subset.specs.Data.{Entries, Toml}
 use Rattle.toml_subset.specs.Written.{WrittenString}
 use Rattle.toml_value.specs.Taken.{string_of}
 use Rattle.policy_toml.specs.Readings.{list_of}
-use Rattle.policy_toml.specs.rows.Rows.{in_table, needed, shaped_by}
+use Rattle.policy_toml.specs.rows.Rows.{in_table, required_value, shaped_by}
 use Rattle.policy_parts.specs.Values.{file_source_of}
 use Rattle.policy_core.specs.place_laws.Places.{StaysIn, KeepsPlacesIn, keeps_each}
 use Rattle.policy_core.specs.place_laws.Parts.{file_source_keeps}
@@ -25,7 +25,7 @@ use Rattle.policy_parts.specs.spec.Reading.{spec_of, rest_of_spec}
 use Rattle.policy_parts.specs.spec.Spec.{Spec}
 use Rattle.policy_parts.specs.entries.Clarifications.{written_of, clarified_at, clarification_of}
 use Rattle.policy_parts.specs.entries.Exceptions.{allowed_at, exception_of, exceptions_of, exceptions_file_at, exceptions_file_of}
-use Rattle.policy_parts.specs.entries.Licensees.{named_mode, moved, place_in, licensee_by, part_in, licensee_in, licensee_of, licensees_of}
+use Rattle.policy_parts.specs.entries.Licensees.{named_mode, span_from, place_in, licensee_by, part_in, licensee_in, licensee_of, licensees_of}
 use Rattle.policy_parts.specs.entries.WithSpec.{with_spec}
 use Rattle.policy_parts.specs.declared.entries.exception.Exception.{Exception}
 use Rattle.policy_parts.specs.declared.entries.licensee.Licensee.{Licensee}
@@ -70,7 +70,7 @@ module _ (text : List ℕ) (utf8 : IsUtf8 text) where
 
   module _ (fits : length text < 2 ^ 64) (lists : CatalogLists) (laws : IsCatalog lists) where
     plain_fault : (string : WrittenString) (whole : Span) (fault : ParseError) → LiesBetween text whole → string.text ≡ slice_range text whole.start whole.end
-        → licensee_fault named_mode lists string.text ≡ Some fault → LiesBetween text (moved whole.start fault.span)
+        → licensee_fault named_mode lists string.text ≡ Some fault → LiesBetween text (span_from whole.start fault.span)
     plain_fault string whole fault lies spelled is =
         let inner = licensee_fault_lies named_mode lists string.text fault laws (subst IsUtf8 (sym spelled) (part_is_text text whole utf8 lies)) is in
         moved_lies text whole lies fits fault.span (subst (λ (s : List ℕ). LiesBetween s fault.span) spelled inner)
@@ -78,7 +78,7 @@ module _ (text : List ℕ) (utf8 : IsUtf8 text) where
     fault_place : (string : WrittenString) (whole : Span) (fault : ParseError) → LiesBetween text whole → IsSpelled text whole string
         → licensee_fault named_mode lists string.text ≡ Some fault → LiesBetween text (place_in string whole fault.span)
     fault_place string whole fault lies spelled is =
-        elim string.escaped as (λ b. string.escaped ≡ b → LiesBetween text (cond b whole (moved whole.start fault.span))) [
+        elim string.escaped as (λ b. string.escaped ≡ b → LiesBetween text (cond b whole (span_from whole.start fault.span))) [
           | true ↦ λ e. lies
           | false ↦ λ e. plain_fault string whole fault lies (spelled e) is
         ] refl
@@ -114,7 +114,7 @@ module _ (text : List ℕ) (utf8 : IsUtf8 text) where
     allowed_stays : KeepsInTable text (allowed_keeps lists) (allowed_at lists)
     allowed_stays entries span lies placed =
         then_stays text (keeps_each licensee_keeps) (allowed_keeps lists) (λ (allow : List Licensee). shaped_by (codes "allow" ∷ []) [] (λ _. record { allow = allow }) entries span)
-        (needed (codes "allow") (licensees_of lists) entries span)
+        (required_value (codes "allow") (licensees_of lists) entries span)
         (λ allow kept. rows_stay text (allowed_keeps lists) (codes "allow" ∷ []) [] (λ _. record { allow = allow }) tt entries span lies placed kept)
         (needed_stays text (keeps_each licensee_keeps) (codes "allow") (licensees_of lists) (licensees_stay fits lists laws) entries span lies placed)
 
@@ -130,7 +130,7 @@ module _ (text : List ℕ) (utf8 : IsUtf8 text) where
     file_stays entries span lies placed =
         then_stays text (keeps_each ExceptionKeeps) exceptions_file_keeps
         (λ (exceptions : List Exception). shaped_by (codes "exceptions" ∷ []) [] (λ _. record { exceptions = exceptions }) entries span)
-        (needed (codes "exceptions") (exceptions_of lists) entries span)
+        (required_value (codes "exceptions") (exceptions_of lists) entries span)
         (λ exceptions kept. rows_stay text exceptions_file_keeps (codes "exceptions" ∷ []) [] (λ _. record { exceptions = exceptions }) tt entries span lies placed kept)
         (needed_stays text (keeps_each ExceptionKeeps) (codes "exceptions") (exceptions_of lists) exceptions_stay entries span lies placed)
 
@@ -151,8 +151,8 @@ module _ (text : List ℕ) (utf8 : IsUtf8 text) where
 
   clarified_stays : KeepsInTable text ClarifiedKeeps clarified_at
   clarified_stays entries span lies placed =
-      then_stays text WrittenKeeps ClarifiedKeeps _ (needed (codes "expression") written_of entries span)
-      (λ expression written. then_stays text (keeps_each file_source_keeps) ClarifiedKeeps _ (needed (codes "license-files") (list_of file_source_of) entries span)
+      then_stays text WrittenKeeps ClarifiedKeeps _ (required_value (codes "expression") written_of entries span)
+      (λ expression written. then_stays text (keeps_each file_source_keeps) ClarifiedKeeps _ (required_value (codes "license-files") (list_of file_source_of) entries span)
       (λ files kept. rows_stay text ClarifiedKeeps (codes "expression" ∷ codes "license-files" ∷ []) [] (λ _. record { expression = expression; license_files = files }) tt
       entries span lies placed (record { written = written; files = kept }))
       (needed_stays text (keeps_each file_source_keeps) (codes "license-files") (list_of file_source_of) files_stay entries span lies placed))

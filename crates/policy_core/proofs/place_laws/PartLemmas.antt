@@ -8,7 +8,7 @@ use Rattle.toml_subset.specs.text_laws.Placed.{IsContentPlaced}
 use Rattle.toml_subset.specs.Data.{TomlContent, string, integer, decimal, boolean, array, table}
 use Rattle.toml_value.specs.Lookup.{value_at}
 use Rattle.policy_toml.specs.Readings.{text_of, boolean_of, u32_of, list_of, spanned_of}
-use Rattle.policy_toml.specs.rows.Rows.{key, given, needed, shaped_by}
+use Rattle.policy_toml.specs.rows.Rows.{key, optional_value, required_value, shaped_by}
 use Rattle.policy_parts.specs.Names.{scope_of, scope_names, agreement_of, agreement_names, lint_of, lint_names}
 use Rattle.policy_parts.specs.Tables.{private_rows, private_in, private_of, output_rows, output_in, output_of, graph_rows, graph_config_in, graph_config_of}
 use Rattle.policy_parts.specs.Values.{file_source_at, file_source_of, target_at, target_of, reason_by, reason_of}
@@ -47,7 +47,7 @@ module _ (text : List ℕ) where
       rows_stay text private_keeps [] private_rows private_in
       (flag_tells (codes "ignore"), (key_tells text (keeps_each keeps_its_span) (codes "ignore-sources") (list_of (spanned_of text_of)) spanned_texts_stay, (texts_tell (codes "registries"), tt)))
       entries span lies placed
-      (list_kept text keeps_its_span (given (codes "ignore-sources") (list_of (spanned_of text_of)) entries)
+      (list_kept text keeps_its_span (optional_value (codes "ignore-sources") (list_of (spanned_of text_of)) entries)
       (given_kept text (keeps_each keeps_its_span) (codes "ignore-sources") (list_of (spanned_of text_of)) spanned_texts_stay entries placed)))
 
   pub output_stays : KeepsPlacesIn text keeps_nothing output_of
@@ -58,8 +58,8 @@ module _ (text : List ℕ) where
 
   pub file_source_stays : KeepsPlacesIn text file_source_keeps file_source_of
   file_source_stays = table_stays text file_source_keeps file_source_at (λ entries span lies placed.
-      then_stays text keeps_its_span file_source_keeps _ (needed (codes "path") (spanned_of text_of) entries span)
-      (λ path here. then_stays text keeps_nothing file_source_keeps _ (needed (codes "hash") u32_of entries span)
+      then_stays text keeps_its_span file_source_keeps _ (required_value (codes "path") (spanned_of text_of) entries span)
+      (λ path here. then_stays text keeps_nothing file_source_keeps _ (required_value (codes "hash") u32_of entries span)
       (λ hash h. rows_stay text file_source_keeps (codes "path" ∷ codes "hash" ∷ []) [] (λ _. record { path = path; hash = hash }) tt entries span lies placed here)
       (needed_stays text keeps_nothing (codes "hash") u32_of (u32_stays text) entries span lies placed))
       (needed_stays text keeps_its_span (codes "path") (spanned_of text_of) spanned_text_stays entries span lies placed))
@@ -68,9 +68,9 @@ module _ (text : List ℕ) where
 
   target_table : KeepsInTable text target_keeps target_at
   target_table entries span lies placed =
-      then_stays text keeps_its_span target_keeps _ (needed (codes "triple") (spanned_of text_of) entries span)
+      then_stays text keeps_its_span target_keeps _ (required_value (codes "triple") (spanned_of text_of) entries span)
       (λ filter here. rows_stay text target_keeps (codes "triple" ∷ []) (key (codes "features") (list_of text_of) ∷ [])
-      (λ entries. record { filter = filter; features = unwrap_or (given (codes "features") (list_of text_of) entries) [] })
+      (λ entries. record { filter = filter; features = unwrap_or (optional_value (codes "features") (list_of text_of) entries) [] })
       (texts_tell (codes "features"), tt) entries span lies placed here)
       (needed_stays text keeps_its_span (codes "triple") (spanned_of text_of) spanned_text_stays entries span lies placed)
 
@@ -104,12 +104,12 @@ module _ (text : List ℕ) where
         ),
       )
       entries span lies placed
-      (list_kept text target_keeps (given (codes "targets") (list_of target_of) entries)
+      (list_kept text target_keeps (optional_value (codes "targets") (list_of target_of) entries)
       (given_kept text (keeps_each target_keeps) (codes "targets") (list_of target_of) targets_stay entries placed)))
 
   -- ---- a reason
 
   pub reason_stays : KeepsPlacesIn text reason_keeps reason_of
   reason_stays = table_stays text reason_keeps (λ entries span. reason_by span (value_at (codes "reason") entries)) (λ entries span lies placed.
-      map_stays text keeps_its_span reason_keeps (λ (x : Spanned (List ℕ)). record { 0 = x }) (needed (codes "reason") (spanned_of text_of) entries span) (λ x h. h)
+      map_stays text keeps_its_span reason_keeps (λ (x : Spanned (List ℕ)). record { 0 = x }) (required_value (codes "reason") (spanned_of text_of) entries span) (λ x h. h)
       (needed_stays text keeps_its_span (codes "reason") (spanned_of text_of) spanned_text_stays entries span lies placed))

@@ -9,7 +9,7 @@ use Rattle.deny_text.specs.Spans.{LiesBetween}
 use Rattle.toml_subset.specs.text_laws.Placed.{IsPlaced, IsContentPlaced, AreItemsPlaced, AreEntriesPlaced}
 use Rattle.toml_subset.specs.shapes.Kinds.{kind_word}
 use Rattle.toml_subset.specs.shapes.Shaped.{ShapeReading, shaped_map, shaped_then, faults_in, shaped_of}
-use Rattle.toml_subset.specs.shapes.Shapes.{Fault}
+use Rattle.toml_subset.specs.shapes.Shapes.{ShapeFault}
 use Rattle.toml_subset.specs.declared.shapes.shape.ValueKind.TheVariants as kind
 use Rattle.toml_subset.specs.Data.{TomlContent, Items, Entries, Toml, string, integer, decimal, boolean, array, table, no_item, item, no_entry, entry}
 use Rattle.toml_subset.specs.Written.{WrittenString}
@@ -18,7 +18,7 @@ use Rattle.toml_value.specs.Removal.{entries_without, names_in}
 use Rattle.toml_value.specs.Taken.{or_wanted, string_of, values_of}
 use Rattle.policy_toml.specs.HelperState.{given_value, faults_of, unexpected_faults}
 use Rattle.policy_toml.specs.Readings.{text_of, boolean_of, i64_of, u32_of, in_32_bits, or_out_of_range, spanned_of, array_of, list_of, name_of, or_unexpected, thing_of_name}
-use Rattle.policy_toml.specs.rows.Rows.{KeyRow, key, passed_key, given, rows_faults, shaped_by, in_table, needed, needed_at, entries_besides, names_of_rows}
+use Rattle.policy_toml.specs.rows.Rows.{KeyRow, key, passed_key, optional_value, rows_faults, shaped_by, in_table, required_value, needed_at, entries_besides, names_of_rows}
 use Rattle.policy_core.specs.place_laws.Places.{IsToldIn, StaysIn, KeepsPlacesIn, keeps_nothing, keeps_its_span, keeps_each, keeps_where}
 
 -- what a thing keeps, by the text
@@ -32,7 +32,7 @@ each_append P (x ∷ xs) ys all more = (all.0, each_append P xs ys all.1 more)
 module _ (text : List ℕ) where
   -- ---- answers
 
-  abbrev pub AreToldIn : List Fault → Type 0
+  abbrev pub AreToldIn : List ShapeFault → Type 0
   AreToldIn = AllByRecursion (IsToldIn text)
 
   pub map_stays : {A B : Type 0} (keeps : Keeping A) (holds : Keeping B) (f : A → B) (read : ShapeReading A)
@@ -45,7 +45,7 @@ module _ (text : List ℕ) where
   then_stays keeps holds f (Ok x) h stays = h x stays
   then_stays keeps holds f (Err faults) h stays = stays
 
-  pub answer_stays : {A : Type 0} (keeps : Keeping A) (faults : List Fault) (x : A) → AreToldIn faults → keeps text x → StaysIn keeps text (shaped_of faults x)
+  pub answer_stays : {A : Type 0} (keeps : Keeping A) (faults : List ShapeFault) (x : A) → AreToldIn faults → keeps text x → StaysIn keeps text (shaped_of faults x)
   answer_stays keeps [] x told kept = kept
   answer_stays keeps (fault ∷ faults) x told kept = told
 
@@ -188,7 +188,7 @@ module _ (text : List ℕ) where
   needed_by keeps reads law name span None lies placed = (lies, tt)
   needed_by keeps reads law name span (Some value) lies placed = law value placed
 
-  pub needed_stays : {A : Type 0} (keeps : Keeping A) (name : List ℕ) (reads : Toml → ShapeReading A) → KeepsPlacesIn text keeps reads → KeepsInTable keeps (needed name reads)
+  pub needed_stays : {A : Type 0} (keeps : Keeping A) (name : List ℕ) (reads : Toml → ShapeReading A) → KeepsPlacesIn text keeps reads → KeepsInTable keeps (required_value name reads)
   needed_stays keeps name reads law entries span lies placed = needed_by keeps reads law name span (value_at name entries) lies (found_placed name entries placed)
 
   read_where : {A : Type 0} (keeps : Keeping A) (read : ShapeReading A) → StaysIn keeps text read → keeps_where keeps text (given_value (Some read))
@@ -201,7 +201,7 @@ module _ (text : List ℕ) where
   given_by keeps reads law (Some value) placed = read_where keeps (reads value) (law value placed)
 
   pub given_kept : {A : Type 0} (keeps : Keeping A) (name : List ℕ) (reads : Toml → ShapeReading A) → KeepsPlacesIn text keeps reads → (entries : Entries)
-      → AreEntriesPlaced text entries → keeps_where keeps text (given name reads entries)
+      → AreEntriesPlaced text entries → keeps_where keeps text (optional_value name reads entries)
   given_kept keeps name reads law entries placed = given_by keeps reads law (value_at name entries) (found_placed name entries placed)
 
   pub list_kept : {A : Type 0} (keeps : Keeping A) (list : Option (List A)) → keeps_where (keeps_each keeps) text list → keeps_each keeps text (unwrap_or list [])

@@ -14,7 +14,7 @@ use Rattle.toml_subset.specs.shapes.Kinds.{kind_word}
 use Rattle.toml_subset.specs.declared.shapes.shape.ValueKind.TheVariants as kind
 use Rattle.toml_value.specs.Taken.{or_wanted}
 use Rattle.policy_toml.specs.Readings.{as_hundredths, i64_of, u32_of, i32_of, in_32_bits_with_sign, or_out_of_range, hundredths_of, list_of}
-use Rattle.policy_toml.specs.rows.Rows.{key, given, key_span}
+use Rattle.policy_toml.specs.rows.Rows.{key, optional_value, key_span}
 use Rattle.policy_parts.specs.Names.{lint_of}
 use Rattle.policy_parts.specs.Tables.{private_of, graph_config_of, output_of}
 use Rattle.policy_parts.specs.Values.{target_of}
@@ -132,12 +132,12 @@ module _ (text : List ℕ) (utf8 : IsUtf8 text) (fits : length text < 2 ^ 64) (l
 
   config_kept : (entries : Entries) → AreEntriesPlaced text entries → ConfigKeeps text (config_in lists entries)
   config_kept entries placed = record {
-    private = private_kept text (given (codes "private") private_of entries) (given_kept text private_keeps (codes "private") private_of (private_stays text) entries placed);
-    allow = list_kept text licensee_keeps (given (codes "allow") (licensees_of lists) entries)
+    private = private_kept text (optional_value (codes "private") private_of entries) (given_kept text private_keeps (codes "private") private_of (private_stays text) entries placed);
+    allow = list_kept text licensee_keeps (optional_value (codes "allow") (licensees_of lists) entries)
         (given_kept text (keeps_each licensee_keeps) (codes "allow") (licensees_of lists) (licensees_stay text utf8 fits lists laws) entries placed);
-    clarify = list_kept text ClarificationKeeps (given (codes "clarify") (list_of clarification_of) entries)
+    clarify = list_kept text ClarificationKeeps (optional_value (codes "clarify") (list_of clarification_of) entries)
         (given_kept text (keeps_each ClarificationKeeps) (codes "clarify") (list_of clarification_of) clarifications_stay entries placed);
-    exceptions = list_kept text ExceptionKeeps (given (codes "exceptions") (exceptions_of lists) entries)
+    exceptions = list_kept text ExceptionKeeps (optional_value (codes "exceptions") (exceptions_of lists) entries)
         (given_kept text (keeps_each ExceptionKeeps) (codes "exceptions") (exceptions_of lists) (exceptions_stay text utf8 fits lists laws) entries placed);
     deprecated = keys_lie text removed_keys entries placed;
   }
@@ -190,9 +190,9 @@ module _ (text : List ℕ) (utf8 : IsUtf8 text) (fits : length text < 2 ^ 64) (l
   root_kept : (entries : Entries) → AreEntriesPlaced text entries → RootKeeps text (root_in lists entries)
   root_kept entries placed = record {
     licenses = given_kept text ConfigKeeps (codes "licenses") (config_of lists) config_stays entries placed;
-    graph = moved_kept text (given (codes "targets") (list_of target_of) entries) (unwrap_or (given (codes "graph") graph_config_of entries) no_graph).targets
+    graph = moved_kept text (optional_value (codes "targets") (list_of target_of) entries) (unwrap_or (optional_value (codes "graph") graph_config_of entries) no_graph).targets
         (given_kept text (keeps_each target_keeps) (codes "targets") (list_of target_of) (targets_stay text) entries placed)
-        (graph_kept text (given (codes "graph") graph_config_of entries) (given_kept text graph_keeps (codes "graph") graph_config_of (graph_stays text) entries placed));
+        (graph_kept text (optional_value (codes "graph") graph_config_of entries) (given_kept text graph_keeps (codes "graph") graph_config_of (graph_stays text) entries placed));
     graph_deprecated = keys_lie text moved_keys entries placed;
     output_deprecated = key_lies text (codes "feature-depth") entries placed;
   }

@@ -13,32 +13,32 @@ use Rattle.spdx_core.proofs.SpellingLemmas.{is_read}
 use Rattle.policy_parts.specs.declared.entries.clarification.Clarification.{Clarification}
 use Rattle.policy_core.specs.declared.valid.policy.ValidClarification.{ValidClarification}
 use Rattle.policy_core.specs.validate.Order.{PutsFilesInOrder, PutsJudgedInOrder}
-use Rattle.policy_core.specs.validate.Valid.{ItemOrFinding, clarification_judged, clarification_judged_by, kept_by, findings_by_each, no_expression, strict, with_expression}
+use Rattle.policy_core.specs.validate.Valid.{ItemOrFinding, clarification_judged, clarification_judged_by, kept_by, findings_by_each, no_expression, strict_mode, with_expression}
 use Rattle.policy_core.proofs.validate.JudgedLemmas.{kept_more, zipped_append, found_more}
 
-of_read : (lists : CatalogLists) (text : List ℕ) (read : ExpressionView) → IsExpressionRead strict lists text read → expression_of_text strict lists text ≡ Some read
+of_read : (lists : CatalogLists) (text : List ℕ) (read : ExpressionView) → IsExpressionRead strict_mode lists text read → expression_of_text strict_mode lists text ≡ Some read
 of_read lists text read is =
-    is_read strict lists text read.tree read.terms is.spelled
+    is_read strict_mode lists text read.tree read.terms is.spelled
     ∙ ap (λ (own : List ℕ). Some (let e : ExpressionView = record { text = own; terms = read.terms; tree = read.tree } in e)) (sym is.text_kept)
 
 good : (lists : CatalogLists) (file : ℕ) (clarification : Clarification) (read : ExpressionView)
-    → IsExpressionRead strict lists clarification.expression.value read
+    → IsExpressionRead strict_mode lists clarification.expression.value read
     → clarification_judged lists file clarification ≡ Ok (with_expression clarification read)
 good lists file clarification read is =
     let text = clarification.expression.value in
-    ap (λ fault. clarification_judged_by file clarification fault (expression_of_text strict lists text)) is.fine
+    ap (λ fault. clarification_judged_by file clarification fault (expression_of_text strict_mode lists text)) is.fine
     ∙ ap (λ found. clarification_judged_by file clarification None found) (of_read lists text read is)
 
 bad : (lists : CatalogLists) (file : ℕ) (clarification : Clarification) (fault : ParseError)
-    → first_fault strict lists clarification.expression.value ≡ Some fault
+    → first_fault strict_mode lists clarification.expression.value ≡ Some fault
     → clarification_judged lists file clarification ≡ Err (no_expression file clarification fault)
 bad lists file clarification fault is =
     let text = clarification.expression.value in
-    ap (λ found. clarification_judged_by file clarification found (expression_of_text strict lists text)) is
+    ap (λ found. clarification_judged_by file clarification found (expression_of_text strict_mode lists text)) is
 
 -- an expression was read, and the clarification is kept with its files in order
 pub judged_good : (lists : CatalogLists) (file : ℕ) (clarification : Clarification) (read : ExpressionView) (sorted : ValidClarification)
-    → IsExpressionRead strict lists clarification.expression.value read
+    → IsExpressionRead strict_mode lists clarification.expression.value read
     → PutsFilesInOrder (with_expression clarification read) sorted
     → PutsJudgedInOrder (clarification_judged lists file clarification) (Ok sorted)
 judged_good lists file clarification read sorted is puts =
@@ -46,7 +46,7 @@ judged_good lists file clarification read sorted is puts =
 
 -- a fault was told
 pub judged_bad : (lists : CatalogLists) (file : ℕ) (clarification : Clarification) (fault : ParseError) (told : Diagnostic)
-    → first_fault strict lists clarification.expression.value ≡ Some fault
+    → first_fault strict_mode lists clarification.expression.value ≡ Some fault
     → told ≡ no_expression file clarification fault
     → PutsJudgedInOrder (clarification_judged lists file clarification) (Err told)
 judged_bad lists file clarification fault told is says =

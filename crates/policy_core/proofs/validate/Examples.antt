@@ -13,7 +13,7 @@ use Rattle.policy_core.specs.validate.Valid.{clarification_judged, error_at, fin
 
 abbrev lists : CatalogLists
 lists = record {
-  licences =
+  licenses =
       (codes "MIT", plain_entry 0 10) ∷ (codes "ISC", plain_entry 1 10)
       ∷ (codes "GPL-3.0", record { family = 2; rank = 30; later = false; deprecated = true; gnu = true }) ∷ [];
   exceptions = [];

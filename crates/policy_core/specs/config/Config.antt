@@ -6,7 +6,7 @@ use Rattle.toml_subset.specs.Data.{Entries, Toml}
 use Rattle.toml_subset.specs.shapes.Shaped.{ShapeReading}
 use Rattle.policy_toml.specs.Readings.{boolean_of, hundredths_of, i32_of, list_of}
 use Rattle.policy_toml.specs.declared.hundredths.Hundredths.{Hundredths}
-use Rattle.policy_toml.specs.rows.Rows.{KeyRow, key, passed_key, given, shaped_by, in_table}
+use Rattle.policy_toml.specs.rows.Rows.{KeyRow, key, passed_key, optional_value, shaped_by, in_table}
 use Rattle.policy_parts.specs.Names.{lint_of}
 use Rattle.policy_parts.specs.Tables.{private_of}
 use Rattle.policy_parts.specs.declared.names.LintLevel.TheVariants.{Warn}
@@ -66,15 +66,15 @@ no_config = record {
 
 abbrev pub config_in : CatalogLists → Entries → Config
 config_in lists entries = record {
-  private = unwrap_or (given (codes "private") private_of entries) no_private;
-  confidence_threshold = unwrap_or (given (codes "confidence-threshold") hundredths_of entries) usual_threshold;
-  allow = unwrap_or (given (codes "allow") (licensees_of lists) entries) [];
-  unused_allowed_license = unwrap_or (given (codes "unused-allowed-license") lint_of entries) Warn;
-  clarify = unwrap_or (given (codes "clarify") (list_of clarification_of) entries) [];
-  exceptions = unwrap_or (given (codes "exceptions") (exceptions_of lists) entries) [];
-  unused_license_exception = unwrap_or (given (codes "unused-license-exception") lint_of entries) Warn;
-  include_dev = unwrap_or (given (codes "include-dev") boolean_of entries) false;
-  include_build = unwrap_or (given (codes "include-build") boolean_of entries) true;
+  private = unwrap_or (optional_value (codes "private") private_of entries) no_private;
+  confidence_threshold = unwrap_or (optional_value (codes "confidence-threshold") hundredths_of entries) usual_threshold;
+  allow = unwrap_or (optional_value (codes "allow") (licensees_of lists) entries) [];
+  unused_allowed_license = unwrap_or (optional_value (codes "unused-allowed-license") lint_of entries) Warn;
+  clarify = unwrap_or (optional_value (codes "clarify") (list_of clarification_of) entries) [];
+  exceptions = unwrap_or (optional_value (codes "exceptions") (exceptions_of lists) entries) [];
+  unused_license_exception = unwrap_or (optional_value (codes "unused-license-exception") lint_of entries) Warn;
+  include_dev = unwrap_or (optional_value (codes "include-dev") boolean_of entries) false;
+  include_build = unwrap_or (optional_value (codes "include-build") boolean_of entries) true;
   deprecated_spans = places_of_keys removed_keys entries;
 }
 

@@ -6,7 +6,7 @@ use Rattle.deny_text.specs.declared.span.Span.{Span}
 use Rattle.toml_subset.specs.Data.{Entries, Toml}
 use Rattle.toml_subset.specs.shapes.Shaped.{ShapeReading}
 use Rattle.policy_toml.specs.Readings.{boolean_of, text_of, u32_of, list_of}
-use Rattle.policy_toml.specs.rows.Rows.{KeyRow, key, passed_key, given, key_span, shaped_by, in_table}
+use Rattle.policy_toml.specs.rows.Rows.{KeyRow, key, passed_key, optional_value, key_span, shaped_by, in_table}
 use Rattle.policy_parts.specs.Tables.{graph_config_of, output_of}
 use Rattle.policy_parts.specs.Values.{target_of}
 use Rattle.policy_parts.specs.declared.graph.GraphConfig.{GraphConfig}
@@ -66,12 +66,12 @@ no_output = record { feature_depth = None }
 -- the values of moved keys
 abbrev pub moved_in : Entries → MovedKeys
 moved_in entries = record {
-  targets = given (codes "targets") (list_of target_of) entries;
-  exclude = given (codes "exclude") (list_of text_of) entries;
-  features = given (codes "features") (list_of text_of) entries;
-  all_features = given (codes "all-features") boolean_of entries;
-  no_default_features = given (codes "no-default-features") boolean_of entries;
-  exclude_dev = given (codes "exclude-dev") boolean_of entries;
+  targets = optional_value (codes "targets") (list_of target_of) entries;
+  exclude = optional_value (codes "exclude") (list_of text_of) entries;
+  features = optional_value (codes "features") (list_of text_of) entries;
+  all_features = optional_value (codes "all-features") boolean_of entries;
+  no_default_features = optional_value (codes "no-default-features") boolean_of entries;
+  exclude_dev = optional_value (codes "exclude-dev") boolean_of entries;
 }
 
 -- these values in place of those of the table `graph`
@@ -92,9 +92,9 @@ with_depth depth output = record { feature_depth = option_or depth output.featur
 
 abbrev pub root_in : CatalogLists → Entries → RootConfig
 root_in lists entries = record {
-  licenses = given (codes "licenses") (config_of lists) entries;
-  graph = with_moved (moved_in entries) (unwrap_or (given (codes "graph") graph_config_of entries) no_graph);
-  output = with_depth (given (codes "feature-depth") u32_of entries) (unwrap_or (given (codes "output") output_of entries) no_output);
+  licenses = optional_value (codes "licenses") (config_of lists) entries;
+  graph = with_moved (moved_in entries) (unwrap_or (optional_value (codes "graph") graph_config_of entries) no_graph);
+  output = with_depth (optional_value (codes "feature-depth") u32_of entries) (unwrap_or (optional_value (codes "output") output_of entries) no_output);
   graph_deprecated = places_of_keys moved_keys entries;
   output_deprecated = key_span (codes "feature-depth") entries;
 }

@@ -6,10 +6,10 @@ use Rattle.deny_text.specs.declared.span.Spanned.{Spanned}
 use Rattle.deny_text.specs.Spans.{LiesBetween}
 use Rattle.toml_subset.specs.text_laws.Placed.{IsPlaced}
 use Rattle.toml_subset.specs.shapes.Shaped.{ShapeReading}
-use Rattle.toml_subset.specs.shapes.Shapes.{Fault}
+use Rattle.toml_subset.specs.shapes.Shapes.{ShapeFault}
 use Rattle.toml_subset.specs.Data.{Toml}
 
-abbrev pub IsToldIn : List ℕ → Fault → Type 0
+abbrev pub IsToldIn : List ℕ → ShapeFault → Type 0
 IsToldIn text fault = LiesBetween text fault.span
 
 -- the places that a thing keeps are in the text, or those at which its faults are told

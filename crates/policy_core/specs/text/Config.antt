@@ -12,7 +12,7 @@ use Rattle.toml_subset.specs.declared.shapes.shape.DeserError.{DeserError}
 use Rattle.toml_subset.specs.declared.shapes.shape.DeserError.TheVariants as shape
 use Rattle.policy_core.specs.config.Root.{root_of}
 use Rattle.policy_core.specs.declared.config.root.RootConfig.{RootConfig}
-use Rattle.graph_core.specs.selection.Choice.{is_uncarried}
+use Rattle.graph_core.specs.selection.Choice.{is_unsupported}
 use Rattle.policy_core.specs.declared.text.error.ConfigError.{ConfigError}
 use Rattle.policy_core.specs.declared.text.error.ConfigError.TheVariants.{Memory, ConfigRead, ConfigSyntax}
 use Rattle.policy_core.specs.declared.text.error.ConfigError.TheVariants.{ConfigShape, NotCarried}
@@ -43,7 +43,7 @@ config_of_value lists value = or_shape (root_of lists value)
 
 -- no spec of crates to be left out holds a sign that is not carried
 abbrev pub if_carried : RootConfig → Result RootConfig ConfigError
-if_carried config = if list_any is_uncarried config.graph.exclude then Err NotCarried else Ok config
+if_carried config = if list_any is_unsupported config.graph.exclude then Err NotCarried else Ok config
 
 -- The policy that a text is, as it is written, or the first refusal: of the text, of the shape of its value,
 -- of the specs.

@@ -3,9 +3,9 @@ use Rattle.std.specs.Prelude.{◌⊎◌, ℕ, Bool, true, IsTrue, List, [], map,
 use Rattle.std.specs.Option.{option_or, option_map_or}
 use Rattle.url.specs.Parts.{Parts}
 use Rattle.graph_core.specs.Krate as crates
-use Rattle.graph_core.specs.Krate.{Record, SourceMatches}
+use Rattle.graph_core.specs.Krate.{CrateRecord, SourceMatches}
 use Rattle.spdx_terms.specs.declared.term.LicenseReq.{LicenseReq}
-use Rattle.policy_parts.specs.spec.Index.{places_from, first_of, matching}
+use Rattle.policy_parts.specs.spec.Index.{places_from, first_of, matching_places}
 use Rattle.policy_parts.specs.spec.Spec.{Spec}
 use Rattle.spdx_core.specs.declared.certificates.verdict.Hit.{Hit}
 use Rattle.spdx_core.specs.declared.certificates.verdict.Hit.TheVariants.{Allowed, Exception}
@@ -29,7 +29,7 @@ pub record Policy : Type 0 where
 
 -- A crate is passed over where private crates are, and either its publish list is there and has names of these registries
 -- alone, or its source matches one of these addresses exactly.
-pub record IsPrivate (policy : Policy) (krate : Record) : Type 0 where
+pub record IsPrivate (policy : Policy) (krate : CrateRecord) : Type 0 where
   pub ignores : IsTrue policy.ignores
   pub private : IsTrue (crates.is_private policy.registries krate.publish) ⊎ Any (λ address. SourceMatches true krate.source address) policy.ignore_sources
 
@@ -40,20 +40,20 @@ abbrev pub first_place : {A : Type 0} → (A → Bool) → List A → Option ℕ
 first_place test items = first_of (places_from 0 test items)
 
 -- the first exception whose spec matches a crate; no other one is asked
-abbrev pub first_exception : Policy → Record → Option ℕ
-first_exception policy krate = first_of (matching (map (λ grant. grant.spec) policy.exceptions) krate)
+abbrev pub first_exception : Policy → CrateRecord → Option ℕ
+first_exception policy krate = first_of (matching_places (map (λ grant. grant.spec) policy.exceptions) krate)
 
 -- the first of some licensees that satisfies a term
 abbrev pub first_entry : List LicenseReq → LicenseReq → Option ℕ
 first_entry licensees term = first_place (λ licensee. satisfies licensee term) licensees
 
 -- the licensees of the exception at a place
-abbrev pub granted : List Grant → ℕ → List LicenseReq
-granted exceptions place = option_map_or (λ grant. grant.allowed) (slice_get exceptions place) []
+abbrev pub granted_licensees : List Grant → ℕ → List LicenseReq
+granted_licensees exceptions place = option_map_or (λ grant. grant.allowed) (slice_get exceptions place) []
 
 -- the hit of a term by the exception at a place, if there is one
 abbrev pub exception_hit : List Grant → Option ℕ → LicenseReq → Option Hit
-exception_hit exceptions exception term = option_and_then (λ place. option_map (Exception place) (first_entry (granted exceptions place) term)) exception
+exception_hit exceptions exception term = option_and_then (λ place. option_map (Exception place) (first_entry (granted_licensees exceptions place) term)) exception
 
 -- the hit of a term, where it is known which exception is the first that matches
 abbrev pub hit_by : Policy → Option ℕ → LicenseReq → Option Hit
@@ -61,5 +61,5 @@ hit_by policy exception term = option_or (exception_hit policy.exceptions except
 
 -- The hit of a term of a crate's expression: the first licensee of the first exception that matches the crate which
 -- satisfies the term, or else the first allowed one that does.
-abbrev pub hit_of : Policy → Record → LicenseReq → Option Hit
+abbrev pub hit_of : Policy → CrateRecord → LicenseReq → Option Hit
 hit_of policy krate term = hit_by policy (first_exception policy krate) term

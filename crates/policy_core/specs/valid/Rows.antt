@@ -1,13 +1,13 @@
 -- Rows of policies, terms of a crate named `a`, and what allows each, worked out by hand from the rules.
 use Rattle.std.specs.Prelude.{ℕ, false, true, Bool, List, [], ◌∷◌, codes, Option, Some, None}
-use Rattle.graph_core.specs.Krate.{Record}
+use Rattle.graph_core.specs.Krate.{CrateRecord}
 use Rattle.spdx_terms.specs.declared.term.LicenseItem.TheVariants.{Spdx, Reference}
 use Rattle.spdx_terms.specs.declared.term.LicenseReq.{LicenseReq}
 use Rattle.spdx_core.specs.declared.certificates.verdict.Hit.{Hit}
 use Rattle.spdx_core.specs.declared.certificates.verdict.Hit.TheVariants.{Allowed, Exception}
 use Rattle.policy_core.specs.valid.Policy.{Grant, Policy, hit_of}
 
-abbrev pub crate_a : Record
+abbrev pub crate_a : CrateRecord
 crate_a = record {
   name = codes "a";
   id = codes "a 1.0.0";
@@ -26,20 +26,20 @@ crate_a = record {
 
 -- ---- terms and licensees
 
-abbrev alone : List ℕ → ℕ → LicenseReq
-alone name family = record { item = Spdx name family 0 false false; exception = None }
+abbrev plain_licensee : List ℕ → ℕ → LicenseReq
+plain_licensee name family = record { item = Spdx name family 0 false false; exception = None }
 
 abbrev pub mit : LicenseReq
-mit = alone (codes "MIT") 1
+mit = plain_licensee (codes "MIT") 1
 
 abbrev pub isc : LicenseReq
-isc = alone (codes "ISC") 2
+isc = plain_licensee (codes "ISC") 2
 
 abbrev pub zlib : LicenseReq
-zlib = alone (codes "Zlib") 3
+zlib = plain_licensee (codes "Zlib") 3
 
 abbrev x11 : LicenseReq
-x11 = alone (codes "X11") 4
+x11 = plain_licensee (codes "X11") 4
 
 abbrev mit_with : LicenseReq
 mit_with = record { item = Spdx (codes "MIT") 1 0 false false; exception = Some (codes "Classpath-exception-2.0") }
@@ -73,8 +73,8 @@ pub record HitRow : Type 0 where
   pub hit : Option Hit
 
 -- what the definition makes of a row
-abbrev pub computed : HitRow → HitRow
-computed row = record { policy = row.policy; term = row.term; hit = hit_of row.policy crate_a row.term }
+abbrev pub computed_row : HitRow → HitRow
+computed_row row = record { policy = row.policy; term = row.term; hit = hit_of row.policy crate_a row.term }
 
 abbrev row : List LicenseReq → List Grant → LicenseReq → Option Hit → HitRow
 row licensees grants term hit = record { policy = policy licensees grants; term = term; hit = hit }

@@ -5,7 +5,7 @@ use Rattle.std.specs.Result.{result_ok, result_err}
 use Rattle.spdx_terms.specs.catalog.Catalog.{CatalogLists}
 use Rattle.deny_text.specs.declared.span.Span.{Span}
 use Rattle.deny_text.specs.declared.span.Spanned.{Spanned}
-use Rattle.diag_core.specs.Diagnostic.{plain}
+use Rattle.diag_core.specs.Diagnostic.{plain_diagnostic}
 use Rattle.diag_core.specs.GeneralCode.{general_code_name}
 use Rattle.diag_core.specs.Label.{label_at}
 use Rattle.diag_core.specs.declared.diagnostic.Diagnostic.{Diagnostic}
@@ -20,7 +20,7 @@ use Rattle.spdx_terms.specs.Reasons.{reason_text}
 use Rattle.spdx_terms.specs.declared.error.ParseError.{ParseError}
 use Rattle.spdx_terms.specs.declared.mode.ParseMode.{ParseMode}
 use Rattle.spdx_core.specs.Reading.{ExpressionView, expression_of_text}
-use Rattle.policy_parts.specs.entries.Licensees.{moved}
+use Rattle.policy_parts.specs.entries.Licensees.{span_from}
 use Rattle.policy_parts.specs.declared.entries.clarification.Clarification.{Clarification}
 use Rattle.policy_parts.specs.declared.entries.exception.Exception.{Exception}
 use Rattle.policy_core.specs.declared.config.config.Config.{Config}
@@ -42,7 +42,7 @@ findings_by_each judge items = filter_map (λ item. result_err (judge item)) ite
 
 -- an error at a place of a file, and what is said there
 abbrev pub error_at : ℕ → List ℕ → Span → List ℕ → Diagnostic
-error_at file message place words = record (plain Error) { message = message; labels = label_at Primary file place words ∷ [] }
+error_at file message place words = record (plain_diagnostic Error) { message = message; labels = label_at Primary file place words ∷ [] }
 
 -- ---- addresses whose crates are passed over
 
@@ -59,7 +59,7 @@ address_judged file string = address_judged_by file string.span (address_of stri
 -- a place in the expression's text, in the file; where the string has escapes the two do not go together, and it is the whole string
 abbrev pub place_in : Clarification → Span → Span
 place_in clarification place =
-    if clarification.escapes then clarification.expression.span else moved clarification.expression.span.start place
+    if clarification.escapes then clarification.expression.span else span_from clarification.expression.span.start place
 
 -- the clarification with its expression, its files as they are written
 abbrev pub with_expression : Clarification → ExpressionView → ValidClarification
@@ -79,11 +79,11 @@ no_expression file clarification fault =
 abbrev pub clarification_judged_by : ℕ → Clarification → Option ParseError → Option ExpressionView → ItemOrFinding ValidClarification
 clarification_judged_by file clarification (Some fault) expression = Err (no_expression file clarification fault)
 clarification_judged_by file clarification None (Some expression) = Ok (with_expression clarification expression)
-clarification_judged_by file clarification None None = Err (plain Error)
+clarification_judged_by file clarification None None = Err (plain_diagnostic Error)
 
 -- nothing beyond names that are in use
-abbrev pub strict : ParseMode
-strict = record {
+abbrev pub strict_mode : ParseMode
+strict_mode = record {
   allow_deprecated = false;
   allow_imprecise_license_names = false;
   allow_postfix_plus_on_gpl = false;
@@ -94,7 +94,7 @@ strict = record {
 abbrev pub clarification_judged : CatalogLists → ℕ → Clarification → ItemOrFinding ValidClarification
 clarification_judged lists file clarification =
     let text = clarification.expression.value in
-    clarification_judged_by file clarification (first_fault strict lists text) (expression_of_text strict lists text)
+    clarification_judged_by file clarification (first_fault strict_mode lists text) (expression_of_text strict_mode lists text)
 
 -- ---- exceptions, and keys that were removed
 
@@ -107,7 +107,7 @@ removed_text =
 
 abbrev pub removed_key : ℕ → Span → Diagnostic
 removed_key file place =
-    record (plain Error) {
+    record (plain_diagnostic Error) {
       code = Some (general_code_name Deprecated);
       message = removed_text;
       labels = label_at Primary file place [] ∷ [];

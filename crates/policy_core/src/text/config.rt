@@ -6,7 +6,7 @@ ghost use Rattle.policy_core.specs.text.Config.{config_of_text, config_of_value,
 
 use crate::config::RootConfig;
 use crate::text::error::ConfigError;
-use graph_core::selection::has_uncarried;
+use graph_core::selection::has_unsupported;
 use policy_toml::{Deserialize, Value, parse};
 use spdx_terms::catalog::Catalog;
 use std::alloc::Global;
@@ -57,7 +57,7 @@ pub fn read_config<C: Catalog>(
         Err(error) => return Err(error),
     };
     let config = config_of(alloc, value, catalog)?;
-    if has_uncarried(&config.graph.exclude) {
+    if has_unsupported(&config.graph.exclude) {
         return Err(ConfigError::NotCarried);
     }
     Ok(config)

@@ -9,12 +9,12 @@ use Rattle.std.specs.Ordering.{is_eq, nat_cmp}
 use Rattle.std.specs.Str.{bytes_eq}
 use Rattle.std.proofs.lemmas.Bool.Decides.{nat_tests}
 use Rattle.std.proofs.lemmas.Slice.Eq.{bytes_eq-Decides}
-use Rattle.graph_core.specs.Krate.{Record}
+use Rattle.graph_core.specs.Krate.{CrateRecord}
 use Rattle.semver.specs.EvalViews.{matches_views, view_op}
 use Rattle.semver.specs.Parse.{Held, Parts}
 use Rattle.semver.specs.declared.Op.{Op}
 use Rattle.semver.specs.declared.Op.TheVariants as op
-use Rattle.policy_parts.specs.spec.Index.{HasFurther, HasNumberPlaces, Numbers, candidates, exact_by, exact_in, exact_of, first_of, matches_at, matching, name_number, number_by, places_from, places_of, put_before, spec_number, spec_numbers, union, version_number}
+use Rattle.policy_parts.specs.spec.Index.{HasFurther, HasNumberPlaces, Numbers, candidates, exact_by, exact_in, exact_of, first_of, matches_at, matching_places, name_number, number_by, places_from, places_of, put_before, spec_number, spec_numbers, union, version_number}
 use Rattle.policy_parts.specs.spec.Matching.{spec_matches, version_matches}
 use Rattle.policy_parts.specs.spec.Spec.{Spec}
 
@@ -196,10 +196,10 @@ found_by name version (Some numbers) are =
     ∙ or_second (name_number name == version_number name (version.0, version.1, version.2))
 
 -- whether a number is one of the two that a crate's specs are found by
-abbrev is_own : Record → ℕ → Bool
+abbrev is_own : CrateRecord → ℕ → Bool
 is_own krate number = (name_number krate.name == number) || (version_number krate.name (krate.version.0, krate.version.1, krate.version.2) == number)
 
-own : (krate : Record) (spec : Spec) → spec_matches spec krate ≡ true → is_own krate (spec_number spec) ≡ true
+own : (krate : CrateRecord) (spec : Spec) → spec_matches spec krate ≡ true → is_own krate (spec_number spec) ≡ true
 own krate spec is =
     let parts = both (bytes_eq krate.name spec.name) (version_matches spec.requirement krate.version) is in
     let named : krate.name ≡ spec.name = (bytes_eq-Decides krate.name spec.name).0 parts.0 in
@@ -244,14 +244,14 @@ module _ {A : Type 0} (number : A → ℕ) (test : A → Bool) (is_meant : ℕ �
       (ap (λ o. option_map_or test o false) (at_front before x rest)) (means x) moved
 
 -- those of the candidates whose spec matches a crate are the places of all specs that match it
-pub walk : (krate : Record) (specs : List Spec) → filter (matches_at specs krate) (candidates krate (spec_numbers specs)) ≡ matching specs krate
+pub walk : (krate : CrateRecord) (specs : List Spec) → filter (matches_at specs krate) (candidates krate (spec_numbers specs)) ≡ matching_places specs krate
 walk krate specs =
     ap (filter (matches_at specs krate))
     (union_from (λ number. name_number krate.name == number) (λ number. version_number krate.name (krate.version.0, krate.version.1, krate.version.2) == number) 0 (spec_numbers specs))
     ∙ walked spec_number (λ spec. spec_matches spec krate) (is_own krate) (own krate) [] specs
 
 -- where the numbers of the index are those of the specs
-pub all_walked : (krate : Record) (specs : List Spec) (numbers left : List ℕ) → spec_numbers specs ≡ numbers → left ≡ candidates krate numbers
-    → filter (matches_at specs krate) left ≡ matching specs krate
+pub all_walked : (krate : CrateRecord) (specs : List Spec) (numbers left : List ℕ) → spec_numbers specs ≡ numbers → left ≡ candidates krate numbers
+    → filter (matches_at specs krate) left ≡ matching_places specs krate
 all_walked krate specs numbers left all held =
     ap (filter (matches_at specs krate)) (held ∙ ap (candidates krate) (sym all)) ∙ walk krate specs

@@ -6,7 +6,7 @@ use Rattle.toml_subset.specs.shapes.Kinds.{kind_word}
 use Rattle.toml_subset.specs.shapes.Shaped.{ShapeReading, shaped_map, shaped_then}
 use Rattle.toml_value.specs.Taken.{string_of}
 use Rattle.policy_toml.specs.Readings.{list_of}
-use Rattle.policy_toml.specs.rows.Rows.{needed, shaped_by}
+use Rattle.policy_toml.specs.rows.Rows.{required_value, shaped_by}
 use Rattle.policy_parts.specs.Values.{file_source_of}
 use Rattle.policy_parts.specs.entries.WithSpec.{with_spec}
 use Rattle.policy_parts.specs.declared.entries.clarification.Clarification.{Clarification}
@@ -24,8 +24,8 @@ clarified_at entries span =
     shaped_then (λ expression. shaped_then (λ files.
     shaped_by (codes "expression" ∷ codes "license-files" ∷ []) []
     (λ _. record { expression = expression; license_files = files }) entries span)
-    (needed (codes "license-files") (list_of file_source_of) entries span))
-    (needed (codes "expression") written_of entries span)
+    (required_value (codes "license-files") (list_of file_source_of) entries span))
+    (required_value (codes "expression") written_of entries span)
 
 abbrev pub clarification_of : Toml → ShapeReading Clarification
 clarification_of value =

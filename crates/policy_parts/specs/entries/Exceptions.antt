@@ -5,7 +5,7 @@ use Rattle.deny_text.specs.declared.span.Span.{Span}
 use Rattle.toml_subset.specs.Data.{Entries, Toml}
 use Rattle.toml_subset.specs.shapes.Shaped.{ShapeReading, shaped_map, shaped_then}
 use Rattle.policy_toml.specs.Readings.{list_of}
-use Rattle.policy_toml.specs.rows.Rows.{in_table, needed, shaped_by}
+use Rattle.policy_toml.specs.rows.Rows.{in_table, required_value, shaped_by}
 use Rattle.policy_parts.specs.entries.Licensees.{licensees_of}
 use Rattle.policy_parts.specs.entries.WithSpec.{with_spec}
 use Rattle.policy_parts.specs.declared.entries.exception.ExceptionLicenses.{ExceptionLicenses}
@@ -17,7 +17,7 @@ use Rattle.policy_parts.specs.declared.entries.exception.ExceptionsFile.{Excepti
 abbrev pub allowed_at : CatalogLists → Entries → Span → ShapeReading ExceptionLicenses
 allowed_at lists entries span =
     shaped_then (λ allow. shaped_by (codes "allow" ∷ []) [] (λ _. record { allow = allow }) entries span)
-    (needed (codes "allow") (licensees_of lists) entries span)
+    (required_value (codes "allow") (licensees_of lists) entries span)
 
 abbrev pub exception_of : CatalogLists → Toml → ShapeReading Exception
 exception_of lists value =
@@ -31,7 +31,7 @@ exceptions_of lists = list_of (exception_of lists)
 abbrev pub exceptions_file_at : CatalogLists → Entries → Span → ShapeReading ExceptionsFile
 exceptions_file_at lists entries span =
     shaped_then (λ exceptions. shaped_by (codes "exceptions" ∷ []) [] (λ _. record { exceptions = exceptions }) entries span)
-    (needed (codes "exceptions") (exceptions_of lists) entries span)
+    (required_value (codes "exceptions") (exceptions_of lists) entries span)
 
 abbrev pub exceptions_file_of : CatalogLists → Toml → ShapeReading ExceptionsFile
 exceptions_file_of lists = in_table (exceptions_file_at lists)

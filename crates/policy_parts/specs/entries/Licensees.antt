@@ -21,12 +21,12 @@ use Rattle.policy_parts.specs.declared.entries.licensee.Licensee.{Licensee}
 abbrev pub place_from : ℕ → ℕ → ℕ
 place_from start place = min (start + place) (2 ^ 64 - 1)
 
-abbrev pub moved : ℕ → Span → Span
-moved start span = record { start = place_from start span.start; end = place_from start span.end }
+abbrev pub span_from : ℕ → Span → Span
+span_from start span = record { start = place_from start span.start; end = place_from start span.end }
 
 -- A place in a string's text, in the text where the string stands. With escapes it is the whole string.
 abbrev pub place_in : WrittenString → Span → Span → Span
-place_in string whole span = if string.escaped then whole else moved whole.start span
+place_in string whole span = if string.escaped then whole else span_from whole.start span
 
 -- The first fault, or else the one part that there is. A text has one of the two, so the last case never comes.
 abbrev pub licensee_by : WrittenString → Span → Option ParseError → Option LicenseReq → ShapeReading Licensee

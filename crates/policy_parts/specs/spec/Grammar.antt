@@ -7,7 +7,7 @@ use Rattle.semver.specs.declared.Op.TheVariants.{Exact}
 use Rattle.semver.specs.declared.error.Error.{Error}
 use Rattle.toml_subset.specs.Written.{WrittenString}
 use Rattle.toml_subset.specs.shapes.Shaped.{ShapeReading, shaped_map}
-use Rattle.toml_subset.specs.shapes.Shapes.{Fault, fault_alone, custom}
+use Rattle.toml_subset.specs.shapes.Shapes.{ShapeFault, fault_alone, custom}
 use Rattle.policy_parts.specs.spec.Spec.{Spec}
 
 -- ---- the split
@@ -39,7 +39,7 @@ exact_first (comparator ∷ more) = (Exact, comparator.1, comparator.2, comparat
 abbrev pub exact_first_where : Bool → List Held → List Held
 exact_first_where exact comparators = if exact then exact_first comparators else comparators
 
-abbrev pub bad_requirement : Span → List Fault
+abbrev pub bad_requirement : Span → List ShapeFault
 bad_requirement span = fault_alone (custom (codes "invalid version requirement")) span
 
 -- the comparators that a reading gives, or the fault at a place

@@ -4,7 +4,7 @@ use Rattle.std.specs.BTreeMap.{BTreeMap, get}
 use Rattle.std.specs.Option.{option_map_or}
 use Rattle.std.specs.Ordering.{nat_cmp}
 use Rattle.deny_text.specs.Hash.{xxh32_of}
-use Rattle.graph_core.specs.Krate.{Record}
+use Rattle.graph_core.specs.Krate.{CrateRecord}
 use Rattle.semver.specs.Parse.{Held}
 use Rattle.semver.specs.declared.Op.{Op}
 use Rattle.semver.specs.declared.Op.TheVariants as op
@@ -17,8 +17,8 @@ places_from n test [] = []
 places_from n test (x ∷ xs) = if test x then n ∷ places_from (suc n) test xs else places_from (suc n) test xs
 
 -- the places of the specs that match a crate, from 0 and rising
-abbrev pub matching : List Spec → Record → List ℕ
-matching specs krate = places_from 0 (λ spec. spec_matches spec krate) specs
+abbrev pub matching_places : List Spec → CrateRecord → List ℕ
+matching_places specs krate = places_from 0 (λ spec. spec_matches spec krate) specs
 
 abbrev pub first_of : List ℕ → Option ℕ
 first_of [] = None
@@ -44,8 +44,8 @@ exact_of (Some (comparator ∷ [])) = exact_in comparator
 exact_of requirement = None
 
 -- one number of two, modulo 2 ^ 64
-unfoldable pub mixed : ℕ → ℕ → ℕ
-mixed number further = (number * 1000003 % 2 ^ 64 + further) % 2 ^ 64
+unfoldable pub mixed_number : ℕ → ℕ → ℕ
+mixed_number number further = (number * 1000003 % 2 ^ 64 + further) % 2 ^ 64
 
 -- the number of a name
 abbrev pub name_number : List ℕ → ℕ
@@ -53,7 +53,7 @@ name_number name = xxh32_of name
 
 -- the number of a name and one version
 abbrev pub version_number : List ℕ → Numbers → ℕ
-version_number name version = mixed (mixed (mixed (name_number name) version.0) version.1) version.2
+version_number name version = mixed_number (mixed_number (mixed_number (name_number name) version.0) version.1) version.2
 
 abbrev pub number_by : List ℕ → Option Numbers → ℕ
 number_by name None = name_number name
@@ -95,16 +95,16 @@ union [] = λ others. others
 union (place ∷ places) = put_before place (union places)
 
 -- the places at which a spec may stand that matches a crate: those of its name, and those of its name and version
-abbrev pub candidates : Record → List ℕ → List ℕ
+abbrev pub candidates : CrateRecord → List ℕ → List ℕ
 candidates krate numbers =
     union (places_of (name_number krate.name) numbers)
     (places_of (version_number krate.name (krate.version.0, krate.version.1, krate.version.2)) numbers)
 
 -- whether the spec at a place matches
-abbrev pub matches_at : List Spec → Record → ℕ → Bool
+abbrev pub matches_at : List Spec → CrateRecord → ℕ → Bool
 matches_at specs krate place = option_map_or (λ spec. spec_matches spec krate) (slice_get specs place) false
 
 -- a list by its first item and its rest
-abbrev pub joined : Option (ℕ × List ℕ) → List ℕ
-joined None = []
-joined (Some parts) = parts.0 ∷ parts.1
+abbrev pub list_from : Option (ℕ × List ℕ) → List ℕ
+list_from None = []
+list_from (Some parts) = parts.0 ∷ parts.1

@@ -29,15 +29,15 @@ pub comparators_order_total : IsTotalOrder comparators_order
 comparators_order_total = then_total (on_total length nat_cmp_total) (lists_total comparator_order_total)
 
 -- the order of options has none first, and here it comes last: both turned round
-turned : (x y : Option (List Held)) → flip_args (option_cmp (flip_args comparators_order)) x y ≡ requirement_order x y
-turned None None = refl
-turned None (Some ys) = refl
-turned (Some xs) None = refl
-turned (Some xs) (Some ys) = refl
+turned_order : (x y : Option (List Held)) → flip_args (option_cmp (flip_args comparators_order)) x y ≡ requirement_order x y
+turned_order None None = refl
+turned_order None (Some ys) = refl
+turned_order (Some xs) None = refl
+turned_order (Some xs) (Some ys) = refl
 
 pub requirement_order_total : IsTotalOrder requirement_order
 requirement_order_total =
-    subst IsTotalOrder (λ i x y. turned x y i) (back_total (options_total (back_total comparators_order_total)))
+    subst IsTotalOrder (λ i x y. turned_order x y i) (back_total (options_total (back_total comparators_order_total)))
 
 pub spec_order_total : IsTotalOrder spec_order
 spec_order_total =

@@ -19,5 +19,5 @@ abbrev pub printed_by : List ℕ → Option (List Held) → Option (List ℕ)
 printed_by name None = Some name
 printed_by name (Some comparators) = None
 
-abbrev pub printed : Spec → Option (List ℕ)
-printed spec = printed_by spec.name spec.requirement
+abbrev pub printed_spec : Spec → Option (List ℕ)
+printed_spec spec = printed_by spec.name spec.requirement

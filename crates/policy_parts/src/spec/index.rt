@@ -2,7 +2,7 @@
 ghost use Rattle.std.specs.Prelude.{◌≡◌, [], ◌∷◌, ◌++◌, map, if◌then◌else◌, IfOk, OnOk};
 ghost use Rattle.graph_core.specs.Krate.{record_of};
 ghost use Rattle.policy_parts.specs.spec.Index as spec;
-ghost use Rattle.policy_parts.specs.spec.Index.{candidates, first_of, joined, matching, spec_numbers};
+ghost use Rattle.policy_parts.specs.spec.Index.{candidates, first_of, list_from, matching_places, spec_numbers};
 ghost use Rattle.policy_parts.specs.spec.Spec.{Spec};
 
 use crate::spec::matching::match_krate;
@@ -66,7 +66,7 @@ impl<'a> Model for PlacesLeft<'a> {
 impl<'a> PlacesLeft<'a> {
     /// The first of them, and those behind it.
     fn split_first(self) -> Option<(usize, PlacesLeft<'a>)>
-        ensures { joined result ≡ self.entry }
+        ensures { list_from result ≡ self.entry }
     {
         let PlacesLeft { one, other } = self;
         match (one.split_first(), other.split_first()) {
@@ -143,7 +143,7 @@ impl SpecIndex {
         krate: &Krate,
     ) -> Result<Places, AllocError>
         requires { spec_numbers (map S.spec_of items.now) ≡ self.now }
-        ensures { IfOk result (λ places. places ≡ matching (map S.spec_of items.now) (record_of krate.now)) }
+        ensures { IfOk result (λ places. places ≡ matching_places (map S.spec_of items.now) (record_of krate.now)) }
     {
         let mut found = Places::new(alloc);
         let mut left = self.candidates(krate);
@@ -158,7 +158,7 @@ impl SpecIndex {
     /// The first of the places whose spec matches a crate.
     pub fn first<S: HasSpec>(&self, items: &[S], krate: &Krate) -> Option<usize>
         requires { spec_numbers (map S.spec_of items.now) ≡ self.now }
-        ensures { result ≡ first_of (matching (map S.spec_of items.now) (record_of krate.now)) }
+        ensures { result ≡ first_of (matching_places (map S.spec_of items.now) (record_of krate.now)) }
     {
         let mut left = self.candidates(krate);
         'places: while let Some((place, behind)) = left.split_first() {

@@ -9,9 +9,9 @@ use deny_text::hash::hash;
 use semver::{Comparator, Op, VersionReq};
 
 /// One number of two, modulo 2^64.
-#[tactic(auto, unfolding(crate::specs::spec::Index::mixed))]
+#[tactic(auto, unfolding(crate::specs::spec::Index::mixed_number))]
 pub fn mixed(number: u64, further: u64) -> u64
-    ensures { result ≡ index.mixed number further }
+    ensures { result ≡ index.mixed_number number further }
 {
     number.wrapping_mul(1_000_003).wrapping_add(further)
 }

@@ -1,6 +1,6 @@
 //! A crate's name and the versions that are meant.
 ghost use Rattle.std.specs.Prelude.{◌≡◌};
-ghost use Rattle.policy_parts.specs.spec.Spec.{printed};
+ghost use Rattle.policy_parts.specs.spec.Spec.{printed_spec};
 
 use deny_text::{Spanned, Text};
 use semver::VersionReq;
@@ -39,7 +39,7 @@ impl PackageSpec {
 
 /// `{name}`, or `{name} = {requirement}`.
 impl fmt::Display for PackageSpec {
-    ghost output = { printed };
+    ghost output = { printed_spec };
 
     fn fmt<W: fmt::Write>(&self, f: &mut fmt::Formatter<W>) -> fmt::Result {
         let name = &self.name.value;

@@ -7,14 +7,14 @@ use Rattle.deny_text.specs.declared.span.Span.{Span}
 use Rattle.toml_subset.specs.Data.{Entries, Toml}
 use Rattle.toml_subset.specs.declared.string.Key.{Key}
 use Rattle.toml_subset.specs.shapes.Shaped.{ShapeReading, TellsFaults, shaped_map, shaped_then, shaped_of}
-use Rattle.toml_subset.specs.shapes.Shapes.{Fault, fault_alone, missing}
+use Rattle.toml_subset.specs.shapes.Shapes.{ShapeFault, fault_alone, missing}
 use Rattle.toml_subset.specs.declared.shapes.shape.DeserError.{DeserError}
 use Rattle.toml_subset.specs.declared.shapes.shape.DeserError.TheVariants.{Faults, Memory}
 use Rattle.toml_value.specs.Lookup.{value_at}
 use Rattle.toml_value.specs.Removal.{entry_at, entries_without, names_in}
 use Rattle.toml_value.specs.Taken.{as_table, left_by, left_where, or_wanted}
 use Rattle.policy_toml.specs.HelperState.{HelperState, with_faults, without_key, opened_table, optional_of, required_of, needed_value, given_value, faults_at_end, unexpected_faults}
-use Rattle.policy_toml.specs.rows.Rows.{KeyRow, passed_key, key_span, names_of_rows, rows_faults, entries_besides, table_faults, in_table, left_of_table, needed, needed_at, given, is_besides, are_apart}
+use Rattle.policy_toml.specs.rows.Rows.{KeyRow, passed_key, key_span, names_of_rows, rows_faults, entries_besides, table_faults, in_table, left_of_table, required_value, needed_at, optional_value, is_besides, are_apart}
 use Rattle.policy_toml.proofs.rows.Keys.{value_at_without, entry_at_without}
 
 -- a state behind one more row, and behind several
@@ -63,7 +63,7 @@ entry_behind name (other ∷ more) entries apart =
 
 -- the state behind it
 pub passed_row : (name : List ℕ) (state : HelperState) → without_key name state ≡ after_row (passed_key name) state
-passed_row name state = ap (λ (faults : List Fault). record { left = entries_without name state.left; span = state.span; faults = faults }) (sym (append-nil state.faults))
+passed_row name state = ap (λ (faults : List ShapeFault). record { left = entries_without name state.left; span = state.span; faults = faults }) (sym (append-nil state.faults))
 
 -- its place, behind the keys that were read before it
 pub passed_span : (name : List ℕ) (passed : List (List ℕ)) (entries : Entries) (state : HelperState) → none_is name passed ≡ true
@@ -74,7 +74,7 @@ passed_span name passed entries state apart left =
 -- ---- a field behind the keys that were read before it
 
 pub field : {A : Type 0} (name : List ℕ) (reads : Toml → ShapeReading A) (passed : List (List ℕ)) (entries : Entries) (state : HelperState) (x : Option A)
-    → none_is name passed ≡ true → state.left ≡ entries_besides passed entries → x ≡ optional_of name reads state → x ≡ given name reads entries
+    → none_is name passed ≡ true → state.left ≡ entries_besides passed entries → x ≡ optional_of name reads state → x ≡ optional_value name reads entries
 field name reads passed entries state x apart left is =
     is ∙ ap (λ value. given_value (option_map reads value)) (ap (value_at name) left ∙ found_behind name passed entries apart)
 
@@ -82,13 +82,13 @@ field name reads passed entries state x apart left is =
 
 gathered : (rows : List KeyRow) (state : HelperState) → are_apart (names_of_rows rows) ≡ true
     → after_rows rows state ≡ record { left = entries_besides (names_of_rows rows) state.left; span = state.span; faults = state.faults ++ rows_faults rows state.left }
-gathered [] state apart = ap (λ (faults : List Fault). record state { faults = faults }) (sym (append-nil state.faults))
+gathered [] state apart = ap (λ (faults : List ShapeFault). record state { faults = faults }) (sym (append-nil state.faults))
 gathered (row ∷ rows) state apart =
     let first = first_so (is_besides row.name (names_of_rows rows)) (are_apart (names_of_rows rows)) apart in
     let more = second_so (is_besides row.name (names_of_rows rows)) (are_apart (names_of_rows rows)) apart in
     let own = row.faults (value_at row.name state.left) in
     gathered rows (after_row row state) more
-    ∙ ap (λ (faults : List Fault). record { left = entries_besides (names_of_rows rows) (entries_without row.name state.left); span = state.span; faults = faults })
+    ∙ ap (λ (faults : List ShapeFault). record { left = entries_besides (names_of_rows rows) (entries_without row.name state.left); span = state.span; faults = faults })
     (append_assoc state.faults own (rows_faults rows (entries_without row.name state.left))
     ∙ ap (λ faults. state.faults ++ (own ++ faults)) (rows_without row.name rows state.left first))
 
@@ -122,7 +122,7 @@ besides_both (name ∷ passed) names entries = besides_both passed names (entrie
 abbrev pub begun : List (List ℕ) → Entries → Span → HelperState
 begun passed entries span = record { left = entries_besides passed entries; span = span; faults = [] }
 
-abbrev ended_by : {A : Type 0} → Span → A → Entries → List Fault → ShapeReading A
+abbrev ended_by : {A : Type 0} → Span → A → Entries → List ShapeFault → ShapeReading A
 ended_by span x left faults = shaped_of (faults ++ unexpected_faults (names_in left) span) x
 
 -- the end of a table whose rows were read one after another
@@ -143,7 +143,7 @@ needed_is name (Some (Ok x)) state none = refl
 needed_is name (Some (Err faults)) state none = ap (λ before. Err (before ++ faults)) none
 
 pub required_is : {A : Type 0} (name : List ℕ) (reads : Toml → ShapeReading A) (state : HelperState) → state.faults ≡ []
-    → required_of name reads state ≡ needed name reads state.left state.span
+    → required_of name reads state ≡ required_value name reads state.left state.span
 required_is name reads state none = needed_is name (option_map reads (value_at name state.left)) state none
 
 -- ---- a table that is opened
@@ -157,7 +157,7 @@ opened_by : {A : Type 0} (reads : Entries → Span → ShapeReading A) (value : 
 opened_by reads value None = refl
 opened_by reads value (Some entries) = refl
 
-abbrev faults_so_far : ShapeReading HelperState → List Fault
+abbrev faults_so_far : ShapeReading HelperState → List ShapeFault
 faults_so_far (Ok state) = state.faults
 faults_so_far (Err faults) = []
 

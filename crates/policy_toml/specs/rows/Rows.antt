@@ -4,7 +4,7 @@ use Rattle.std.specs.Str.{bytes_eq}
 use Rattle.deny_text.specs.declared.span.Span.{Span}
 use Rattle.toml_subset.specs.Data.{Entries, Toml}
 use Rattle.toml_subset.specs.shapes.Shaped.{ShapeReading, shaped_then, shaped_of}
-use Rattle.toml_subset.specs.shapes.Shapes.{Fault, fault_alone, missing}
+use Rattle.toml_subset.specs.shapes.Shapes.{ShapeFault, fault_alone, missing}
 use Rattle.toml_value.specs.Lookup.{value_at}
 use Rattle.toml_value.specs.Removal.{entry_at, entries_without, names_in}
 use Rattle.toml_value.specs.Taken.{as_table, left_where, or_wanted}
@@ -15,7 +15,7 @@ use Rattle.policy_toml.specs.HelperState.{given_value, faults_of, unexpected_fau
 pub record KeyRow : Type 0 where
   pub name : List ℕ
   -- what is wrong with the value at the key, where it is there
-  pub faults : Option Toml → List Fault
+  pub faults : Option Toml → List ShapeFault
 
 -- a key whose value is read so
 abbrev pub key : {A : Type 0} → List ℕ → (Toml → ShapeReading A) → KeyRow
@@ -29,8 +29,8 @@ abbrev pub names_of_rows : List KeyRow → List (List ℕ)
 names_of_rows rows = map (λ row. row.name) rows
 
 -- what the key of a table stands for, where it is there and its value can be read
-abbrev pub given : {A : Type 0} → List ℕ → (Toml → ShapeReading A) → Entries → Option A
-given name reads entries = given_value (option_map reads (value_at name entries))
+abbrev pub optional_value : {A : Type 0} → List ℕ → (Toml → ShapeReading A) → Entries → Option A
+optional_value name reads entries = given_value (option_map reads (value_at name entries))
 
 -- the place of a key, where it is there
 abbrev pub key_span : List ℕ → Entries → Option Span
@@ -39,7 +39,7 @@ key_span name entries = option_map (λ found. found.0.span) (entry_at name entri
 -- ---- the faults of a table
 
 -- what is wrong with the values, row by row
-abbrev pub rows_faults : List KeyRow → Entries → List Fault
+abbrev pub rows_faults : List KeyRow → Entries → List ShapeFault
 rows_faults [] entries = []
 rows_faults (row ∷ rows) entries = row.faults (value_at row.name entries) ++ rows_faults rows entries
 
@@ -50,7 +50,7 @@ entries_besides (name ∷ names) entries = entries_besides names (entries_withou
 
 -- Then the keys that no row names, as one fault of the table. The first names are those of keys that have to be there,
 -- and were read.
-abbrev pub table_faults : List (List ℕ) → List KeyRow → Entries → Span → List Fault
+abbrev pub table_faults : List (List ℕ) → List KeyRow → Entries → Span → List ShapeFault
 table_faults needed rows entries span =
     rows_faults rows entries ++ unexpected_faults (names_in (entries_besides (needed ++ names_of_rows rows) entries)) span
 
@@ -74,8 +74,8 @@ abbrev pub needed_at : {A : Type 0} → List ℕ → Span → Option (ShapeReadi
 needed_at name span None = Err (fault_alone (missing name) span)
 needed_at name span (Some read) = read
 
-abbrev pub needed : {A : Type 0} → List ℕ → (Toml → ShapeReading A) → Entries → Span → ShapeReading A
-needed name reads entries span = needed_at name span (option_map reads (value_at name entries))
+abbrev pub required_value : {A : Type 0} → List ℕ → (Toml → ShapeReading A) → Entries → Span → ShapeReading A
+required_value name reads entries span = needed_at name span (option_map reads (value_at name entries))
 
 -- ---- names that differ
 

@@ -10,7 +10,7 @@ use Rattle.policy_core.specs.declared.valid.policy.ValidClarification.{ValidClar
 use Rattle.policy_core.specs.declared.valid.policy.ValidConfig.{ValidConfig}
 use Rattle.policy_core.specs.declared.valid.policy.ValidException.{ValidException}
 use Rattle.policy_core.specs.Places.{ClarificationStands, ExceptionStands, ExpressionStands, FileStands, LicenseeStands, LiesInFile, PolicyStands}
-use Rattle.gather_licence.specs.Clarification.{PlacedFile}
+use Rattle.gather_license.specs.Clarification.{PlacedFile}
 use Rattle.gather_core.specs.findings.License.{PlaceLies, StandsIn}
 use Rattle.gather_core.proofs.findings.LicenseLemmas.{place_grown}
 use Rattle.gather_core.specs.Entries.{ClarificationEntry, clarification_view, entries_of, clarification_entry, placed_of}

@@ -7,7 +7,7 @@ use Rattle.std.proofs.lemmas.List.Elements.{All-nil, All-cons, All-append, All-w
 use Rattle.spdx_core.specs.Grammar.{ExpressionTree, leaf, both, either}
 use Rattle.spdx_core.specs.Reading.{numbered_from}
 use Rattle.spdx_core.specs.certificates.Choices.{choices_of, is_accepted, blocks_of, EachAlone, HoldsAlone}
-use Rattle.spdx_core.specs.certificates.Marks.{taken}
+use Rattle.spdx_core.specs.certificates.Marks.{taken_places}
 use Rattle.spdx_core.proofs.certificates.LeastLemmas.{with_each, All-with_each, least_taken}
 use Rattle.spdx_core.proofs.certificates.BlockLemmas.{any_of, one_side}
 
@@ -112,7 +112,7 @@ some_choice : (tree : ExpressionTree) → (choice : List ℕ) × Contains (choic
 some_choice tree =
     let has : ℕ → Bool = λ place. true in
     let least = least_taken has tree in
-    let chosen = taken has true false tree in
+    let chosen = taken_places has true false tree in
     let P : List (List ℕ) → Type 0 = λ all. Contains all chosen in
     (chosen, subst P (sym least.parts) (Contains-append_right least.before (chosen ∷ least.behind) chosen (Contains-append_left (chosen ∷ []) least.behind chosen (Contains-push [] chosen))))
 

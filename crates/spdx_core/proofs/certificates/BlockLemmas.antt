@@ -7,7 +7,7 @@ use Rattle.std.proofs.lemmas.List.Elements.{All-nil, All-cons, All-append, All-w
 use Rattle.std.proofs.lemmas.List.Folds.{list_any-append}
 use Rattle.spdx_core.specs.Grammar.{ExpressionTree, leaf, both, either}
 use Rattle.spdx_core.specs.certificates.Choices.{choices_of, is_accepted, blocks_of, MeetEach}
-use Rattle.spdx_core.specs.certificates.Marks.{fewest, sides, taken}
+use Rattle.spdx_core.specs.certificates.Marks.{fewest_misses, sides, taken_places}
 use Rattle.spdx_core.proofs.certificates.LeastLemmas.{with_each, All-with_each}
 use Rattle.spdx_core.proofs.certificates.ChoiceLemmas.{accepted}
 
@@ -16,15 +16,15 @@ marked_side true left right = refl
 marked_side false left right = refl
 
 -- what blocks a tree is what the walk for it takes
-pub blocks_taken : (has_hit : ℕ → Bool) (tree : ExpressionTree) → blocks_of has_hit tree ≡ taken has_hit false true tree
+pub blocks_taken : (has_hit : ℕ → Bool) (tree : ExpressionTree) → blocks_of has_hit tree ≡ taken_places has_hit false true tree
 blocks_taken has_hit (leaf place) = refl
 blocks_taken has_hit (both left right) =
     ap (λ t. cond t (blocks_of has_hit right) (blocks_of has_hit left)) (accepted has_hit left)
-    ∙ marked_side (eqb (fewest has_hit left) 0) (blocks_of has_hit left) (blocks_of has_hit right)
-    ∙ ap (λ l. sides false (eqb (fewest has_hit left) 0) l (blocks_of has_hit right)) (blocks_taken has_hit left)
-    ∙ ap (λ r. sides false (eqb (fewest has_hit left) 0) (taken has_hit false true left) r) (blocks_taken has_hit right)
+    ∙ marked_side (eqb (fewest_misses has_hit left) 0) (blocks_of has_hit left) (blocks_of has_hit right)
+    ∙ ap (λ l. sides false (eqb (fewest_misses has_hit left) 0) l (blocks_of has_hit right)) (blocks_taken has_hit left)
+    ∙ ap (λ r. sides false (eqb (fewest_misses has_hit left) 0) (taken_places has_hit false true left) r) (blocks_taken has_hit right)
 blocks_taken has_hit (either left right) =
-    ap (λ l. l ++ blocks_of has_hit right) (blocks_taken has_hit left) ∙ ap (λ r. taken has_hit false true left ++ r) (blocks_taken has_hit right)
+    ap (λ l. l ++ blocks_of has_hit right) (blocks_taken has_hit left) ∙ ap (λ r. taken_places has_hit false true left ++ r) (blocks_taken has_hit right)
 
 -- neither side of an OR is accepted
 pub neither : (has_hit : ℕ → Bool) (left right : ExpressionTree) → is_accepted has_hit (either left right) ≡ false → (is_accepted has_hit left ≡ false) × (is_accepted has_hit right ≡ false)
@@ -34,9 +34,9 @@ neither has_hit left right h =
 -- one side of an AND is not accepted
 pub other_side : (has_hit : ℕ → Bool) (left right : ExpressionTree) → is_accepted has_hit (both left right) ≡ false → is_accepted has_hit left ≡ true → is_accepted has_hit right ≡ false
 other_side has_hit left right h l =
-    let none : fewest has_hit left ≡ 0 = eqb-true (fewest has_hit left) 0 (sym (accepted has_hit left) ∙ l) in
-    let some : fewest has_hit left + fewest has_hit right ≡ 0 → ⊥ = eqb-false (fewest has_hit left + fewest has_hit right) 0 (sym (accepted has_hit (both left right)) ∙ h) in
-    accepted has_hit right ∙ ne_eqb (fewest has_hit right) 0 (λ e. some (omega arith))
+    let none : fewest_misses has_hit left ≡ 0 = eqb-true (fewest_misses has_hit left) 0 (sym (accepted has_hit left) ∙ l) in
+    let some : fewest_misses has_hit left + fewest_misses has_hit right ≡ 0 → ⊥ = eqb-false (fewest_misses has_hit left + fewest_misses has_hit right) 0 (sym (accepted has_hit (both left right)) ∙ h) in
+    accepted has_hit right ∙ ne_eqb (fewest_misses has_hit right) 0 (λ e. some (omega arith))
 
 pub any_of : {X : Type 0} (P : X → Type 0) (xs : List X) (x : X) → Contains xs x → P x → Any P xs
 any_of P xs x at p = (at.0, x, at.1, at.2, p)

@@ -11,8 +11,8 @@ use Rattle.spdx_core.specs.declared.certificates.mark.NodeMark.{NodeMark}
 use Rattle.spdx_core.specs.declared.certificates.walk.Walk.{Walk}
 use Rattle.spdx_core.specs.certificates.Certificates.{hit_at, has_hit, ShowsAccepted, ShowsRejected}
 use Rattle.spdx_core.specs.certificates.Choices.{choices_of, is_accepted, blocks_of, IsFirstLeast, MeetEach, EachAlone}
-use Rattle.spdx_core.specs.certificates.Marks.{fewest, taken}
-use Rattle.spdx_core.specs.certificates.Machine.{MarkingView, marks_after, unmarked, marks_of, walked_over, walk_start, of_and, of_or}
+use Rattle.spdx_core.specs.certificates.Marks.{fewest_misses, taken_places}
+use Rattle.spdx_core.specs.certificates.Machine.{MarkingView, marks_after, no_marks, marks_of, walked_over, walk_start, of_and, of_or}
 use Rattle.spdx_core.proofs.certificates.LeastLemmas.{first_least, least_taken}
 use Rattle.spdx_core.proofs.certificates.ChoiceLemmas.{all_met, accepted, first_taken, least_is_taken}
 use Rattle.spdx_core.proofs.certificates.BlockLemmas.{blocks_taken, meet_each, blocks_have_none}
@@ -31,23 +31,23 @@ hits_in_order kept (place ∷ choice) h =
     let parts = and_parts (has_hit kept place) (list_all (has_hit kept) choice) h in
     hit_first (hit_at kept place) (filter_map (hit_at kept) choice) parts.0 ∙ ap (λ hits. hit_at kept place ∷ hits) (hits_in_order kept choice parts.1)
 
-pub shows_accepted : (kept : List (Option Hit)) (tree : ExpressionTree) (choice : List ℕ) (hits : List Hit) → fewest (has_hit kept) tree ≡ 0
-    → choice ≡ taken (has_hit kept) true false tree → hits ≡ filter_map (hit_at kept) choice → ShowsAccepted kept tree choice hits
+pub shows_accepted : (kept : List (Option Hit)) (tree : ExpressionTree) (choice : List ℕ) (hits : List Hit) → fewest_misses (has_hit kept) tree ≡ 0
+    → choice ≡ taken_places (has_hit kept) true false tree → hits ≡ filter_map (hit_at kept) choice → ShowsAccepted kept tree choice hits
 shows_accepted kept tree choice hits none is found =
     let has = has_hit kept in
     let least = least_taken has tree in
     let met : list_all (has_hit kept) choice ≡ true =
-    ap (list_all has) is ∙ all_met has (taken has true false tree) ∙ ap (λ n. eqb n 0) (least.has ∙ none) in
+    ap (list_all has) is ∙ all_met has (taken_places has true false tree) ∙ ap (λ n. eqb n 0) (least.has ∙ none) in
     record {
-      first = first_taken has tree (eq-eqb (fewest has tree) 0 none) ∙ ap Some (sym is);
+      first = first_taken has tree (eq-eqb (fewest_misses has tree) 0 none) ∙ ap Some (sym is);
       place_by_place = ap (map Some) found ∙ hits_in_order kept choice met;
     }
 
-pub shows_rejected : (kept : List (Option Hit)) (tree : ExpressionTree) (count : ℕ) (least blocks : List ℕ) → numbered_from 0 tree ≡ Some count → (fewest (has_hit kept) tree ≡ 0 → ⊥)
-    → least ≡ taken (has_hit kept) true false tree → blocks ≡ taken (has_hit kept) false true tree → ShowsRejected kept tree least blocks
+pub shows_rejected : (kept : List (Option Hit)) (tree : ExpressionTree) (count : ℕ) (least blocks : List ℕ) → numbered_from 0 tree ≡ Some count → (fewest_misses (has_hit kept) tree ≡ 0 → ⊥)
+    → least ≡ taken_places (has_hit kept) true false tree → blocks ≡ taken_places (has_hit kept) false true tree → ShowsRejected kept tree least blocks
 shows_rejected kept tree count least blocks numbered some is are =
     let has = has_hit kept in
-    let refused : is_accepted (has_hit kept) tree ≡ false = accepted has tree ∙ ne_eqb (fewest has tree) 0 some in
+    let refused : is_accepted (has_hit kept) tree ≡ false = accepted has tree ∙ ne_eqb (fewest_misses has tree) 0 some in
     let same : blocks_of (has_hit kept) tree ≡ blocks = blocks_taken has tree ∙ sym are in
     record {
       not_accepted = refused;
@@ -60,10 +60,10 @@ shows_rejected kept tree count least blocks numbered some is are =
     }
 
 -- what the walk over the nodes leaves
-pub marked_nodes : (kept : List (Option Hit)) (tree : ExpressionTree) (nodes : List ExprNode) (marked : MarkingView) → nodes ≡ postfix tree → marked ≡ marks_after (has_hit kept) unmarked nodes
-    → marked ≡ record { counts = fewest (has_hit kept) tree ∷ []; marks = marks_of (has_hit kept) tree }
-marked_nodes kept tree nodes marked are is = is ∙ ap (marks_after (has_hit kept) unmarked) are ∙ marked_whole (has_hit kept) tree
+pub marked_nodes : (kept : List (Option Hit)) (tree : ExpressionTree) (nodes : List ExprNode) (marked : MarkingView) → nodes ≡ postfix tree → marked ≡ marks_after (has_hit kept) no_marks nodes
+    → marked ≡ record { counts = fewest_misses (has_hit kept) tree ∷ []; marks = marks_of (has_hit kept) tree }
+marked_nodes kept tree nodes marked are is = is ∙ ap (marks_after (has_hit kept) no_marks) are ∙ marked_whole (has_hit kept) tree
 
 pub walked_marks : (kept : List (Option Hit)) (walk : Walk) (tree : ExpressionTree) (marks : List NodeMark) (places : List ℕ) → reverse marks ≡ marks_of (has_hit kept) tree → places ≡ (walked_over walk walk_start (reverse marks)).places
-    → places ≡ taken (has_hit kept) (of_and walk) (of_or walk) tree
+    → places ≡ taken_places (has_hit kept) (of_and walk) (of_or walk) tree
 walked_marks kept walk tree marks places are is = is ∙ ap (λ all. (walked_over walk walk_start all).places) are ∙ walked_whole (has_hit kept) walk tree

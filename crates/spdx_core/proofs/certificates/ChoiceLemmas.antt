@@ -8,7 +8,7 @@ use Rattle.std.proofs.lemmas.List.Sums.{list_all-from_AllPass}
 use Rattle.std.proofs.lemmas.List.Folds.{sum_by-zero}
 use Rattle.spdx_core.specs.Grammar.{ExpressionTree}
 use Rattle.spdx_core.specs.certificates.Choices.{choices_of, misses, is_accepted, first_choice, least_choice, is_least}
-use Rattle.spdx_core.specs.certificates.Marks.{fewest, taken}
+use Rattle.spdx_core.specs.certificates.Marks.{fewest_misses, taken_places}
 use Rattle.spdx_core.proofs.certificates.LeastLemmas.{none_below, least_taken}
 
 list_all_agree : (p q : ℕ → Bool) → ((x : ℕ) → p x ≡ q x) → (xs : List ℕ) → list_all p xs ≡ list_all q xs
@@ -49,43 +49,43 @@ list_all_missed p [] x behind h = ap (λ t. t && list_all p behind) h
 list_all_missed p (y ∷ before) x behind h = and_right (p y) (list_all p (before ++ x ∷ behind)) (list_all_missed p before x behind h)
 
 -- an accepted tree has the walk's choice as its first
-pub first_taken : (has_hit : ℕ → Bool) (tree : ExpressionTree) → eqb (fewest has_hit tree) 0 ≡ true → first_choice has_hit tree ≡ Some (taken has_hit true false tree)
+pub first_taken : (has_hit : ℕ → Bool) (tree : ExpressionTree) → eqb (fewest_misses has_hit tree) 0 ≡ true → first_choice has_hit tree ≡ Some (taken_places has_hit true false tree)
 first_taken has_hit tree none =
     let least = least_taken has_hit tree in
-    let is : fewest has_hit tree ≡ 0 = eqb-true (fewest has_hit tree) 0 none in
+    let is : fewest_misses has_hit tree ≡ 0 = eqb-true (fewest_misses has_hit tree) 0 none in
     let missed : All (λ other. list_all has_hit other ≡ false) least.before =
-    All-weaker (λ other. fewest has_hit tree < misses has_hit other) (λ other. list_all has_hit other ≡ false)
+    All-weaker (λ other. fewest_misses has_hit tree < misses has_hit other) (λ other. list_all has_hit other ≡ false)
     (λ other h. all_met has_hit other ∙ ne_eqb (misses has_hit other) 0 (λ e. omega arith)) least.before least.more in
     ap (find (list_all has_hit)) least.parts
-    ∙ find_at (list_all has_hit) least.before (taken has_hit true false tree) least.behind missed
-    (all_met has_hit (taken has_hit true false tree) ∙ eq-eqb (misses has_hit (taken has_hit true false tree)) 0 (least.has ∙ is))
+    ∙ find_at (list_all has_hit) least.before (taken_places has_hit true false tree) least.behind missed
+    (all_met has_hit (taken_places has_hit true false tree) ∙ eq-eqb (misses has_hit (taken_places has_hit true false tree)) 0 (least.has ∙ is))
 
 -- any other tree has none
-pub none_first : (has_hit : ℕ → Bool) (tree : ExpressionTree) → eqb (fewest has_hit tree) 0 ≡ false → first_choice has_hit tree ≡ None
+pub none_first : (has_hit : ℕ → Bool) (tree : ExpressionTree) → eqb (fewest_misses has_hit tree) 0 ≡ false → first_choice has_hit tree ≡ None
 none_first has_hit tree some =
     let least = least_taken has_hit tree in
-    let isnt : fewest has_hit tree ≡ 0 → ⊥ = eqb-false (fewest has_hit tree) 0 some in
+    let isnt : fewest_misses has_hit tree ≡ 0 → ⊥ = eqb-false (fewest_misses has_hit tree) 0 some in
     find_none (list_all has_hit) (choices_of tree)
-    (All-weaker (λ other. fewest has_hit tree ≤ misses has_hit other) (λ other. list_all has_hit other ≡ false)
+    (All-weaker (λ other. fewest_misses has_hit tree ≤ misses has_hit other) (λ other. list_all has_hit other ≡ false)
     (λ other h. all_met has_hit other ∙ ne_eqb (misses has_hit other) 0 (λ e. isnt (omega arith)))
-    (choices_of tree) (none_below has_hit (choices_of tree) (fewest has_hit tree) (taken has_hit true false tree) least))
+    (choices_of tree) (none_below has_hit (choices_of tree) (fewest_misses has_hit tree) (taken_places has_hit true false tree) least))
 
-accepted_at : (has_hit : ℕ → Bool) (tree : ExpressionTree) (none : Bool) → eqb (fewest has_hit tree) 0 ≡ none → is_accepted has_hit tree ≡ none
+accepted_at : (has_hit : ℕ → Bool) (tree : ExpressionTree) (none : Bool) → eqb (fewest_misses has_hit tree) 0 ≡ none → is_accepted has_hit tree ≡ none
 accepted_at has_hit tree true is = any_found (list_all has_hit) (choices_of tree) ∙ ap is_some (first_taken has_hit tree is)
 accepted_at has_hit tree false is = any_found (list_all has_hit) (choices_of tree) ∙ ap is_some (none_first has_hit tree is)
 
 -- a tree is accepted where the fewest places without a hit are none
-pub accepted : (has_hit : ℕ → Bool) (tree : ExpressionTree) → is_accepted has_hit tree ≡ eqb (fewest has_hit tree) 0
-accepted has_hit tree = accepted_at has_hit tree (eqb (fewest has_hit tree) 0) refl
+pub accepted : (has_hit : ℕ → Bool) (tree : ExpressionTree) → is_accepted has_hit tree ≡ eqb (fewest_misses has_hit tree) 0
+accepted has_hit tree = accepted_at has_hit tree (eqb (fewest_misses has_hit tree) 0) refl
 
 -- the walk's choice is the least one
-pub least_is_taken : (has_hit : ℕ → Bool) (tree : ExpressionTree) → least_choice has_hit tree ≡ Some (taken has_hit true false tree)
+pub least_is_taken : (has_hit : ℕ → Bool) (tree : ExpressionTree) → least_choice has_hit tree ≡ Some (taken_places has_hit true false tree)
 least_is_taken has_hit tree =
     let least = least_taken has_hit tree in
     let all = choices_of tree in
-    let chosen = taken has_hit true false tree in
+    let chosen = taken_places has_hit true false tree in
     let not_least : All (λ other. is_least has_hit all other ≡ false) least.before =
-    All-weaker (λ other. fewest has_hit tree < misses has_hit other) (λ other. is_least has_hit all other ≡ false)
+    All-weaker (λ other. fewest_misses has_hit tree < misses has_hit other) (λ other. is_least has_hit all other ≡ false)
     (λ other h.
     ap (λ choices. is_least has_hit choices other) least.parts
     ∙ list_all_missed (λ x. leb (misses has_hit other) (misses has_hit x)) least.before chosen least.behind
@@ -93,7 +93,7 @@ least_is_taken has_hit tree =
     least.before least.more in
     let is : is_least has_hit all chosen ≡ true =
     list_all-from_AllPass (λ x. leb (misses has_hit chosen) (misses has_hit x)) all
-    (All-weaker (λ other. fewest has_hit tree ≤ misses has_hit other) (λ x. leb (misses has_hit chosen) (misses has_hit x) ≡ true)
+    (All-weaker (λ other. fewest_misses has_hit tree ≤ misses has_hit other) (λ x. leb (misses has_hit chosen) (misses has_hit x) ≡ true)
     (λ x h. le-leb (misses has_hit chosen) (misses has_hit x) (omega (arith, least.has))) all
-    (none_below has_hit all (fewest has_hit tree) chosen least)) in
+    (none_below has_hit all (fewest_misses has_hit tree) chosen least)) in
     ap (find (is_least has_hit all)) least.parts ∙ find_at (is_least has_hit all) least.before chosen least.behind not_least is

@@ -8,7 +8,7 @@ use Rattle.std.proofs.lemmas.List.Folds.{Any-from_list_any, list_any-from_Any, l
 use Rattle.std.proofs.lemmas.List.Sums.{AllPass-from_list_all, list_all-from_AllPass}
 use Rattle.spdx_core.specs.Grammar.{ExpressionTree, both}
 use Rattle.spdx_core.specs.certificates.Choices.{choices_of, is_accepted, first_choice, MeetEach}
-use Rattle.spdx_core.specs.certificates.Marks.{fewest}
+use Rattle.spdx_core.specs.certificates.Marks.{fewest_misses}
 use Rattle.spdx_core.specs.certificates.Laws.{IsBySides}
 use Rattle.spdx_core.proofs.certificates.ChoiceLemmas.{accepted, any_found}
 
@@ -38,8 +38,8 @@ pub by_sides : (has_hit : ℕ → Bool) (left right : ExpressionTree) → IsBySi
 by_sides has_hit left right = record {
   of_and =
       accepted has_hit (both left right)
-      ∙ none_both (fewest has_hit left) (fewest has_hit right) (eqb (fewest has_hit left) 0) refl
-      ∙ ap (λ l. l && eqb (fewest has_hit right) 0) (sym (accepted has_hit left))
+      ∙ none_both (fewest_misses has_hit left) (fewest_misses has_hit right) (eqb (fewest_misses has_hit left) 0) refl
+      ∙ ap (λ l. l && eqb (fewest_misses has_hit right) 0) (sym (accepted has_hit left))
       ∙ ap (λ r. is_accepted has_hit left && r) (sym (accepted has_hit right));
   of_or = list_any-append (list_all has_hit) (choices_of left) (choices_of right);
 }

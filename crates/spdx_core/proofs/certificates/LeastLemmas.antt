@@ -9,7 +9,7 @@ use Rattle.std.proofs.lemmas.List.Sums.{sum_by-append}
 use Rattle.std.proofs.lemmas.List.Elements.{All-nil, All-cons, All-append, All-map, All-weaker, All-same, All-head, All-tail}
 use Rattle.spdx_core.specs.Grammar.{ExpressionTree, leaf, both, either}
 use Rattle.spdx_core.specs.certificates.Choices.{choices_of, misses, IsFirstLeast}
-use Rattle.spdx_core.specs.certificates.Marks.{fewest, sides, taken}
+use Rattle.spdx_core.specs.certificates.Marks.{fewest_misses, sides, taken_places}
 
 -- each of some choices with each of others
 abbrev pub with_each : List (List ℕ) → List (List ℕ) → List (List ℕ)
@@ -119,23 +119,23 @@ least_either has_hit l r n m c d false is left right =
     least_left has_hit l r n c left (All-weaker (λ other. m ≤ misses has_hit other) (λ other. n ≤ misses has_hit other) (λ x h. omega arith) r (none_below has_hit r m d right))
 
 -- the choice that the walk takes
-pub least_taken : (has_hit : ℕ → Bool) (tree : ExpressionTree) → Least has_hit (choices_of tree) (fewest has_hit tree) (taken has_hit true false tree)
+pub least_taken : (has_hit : ℕ → Bool) (tree : ExpressionTree) → Least has_hit (choices_of tree) (fewest_misses has_hit tree) (taken_places has_hit true false tree)
 least_taken has_hit (leaf place) = least_leaf has_hit place
 least_taken has_hit (both left right) =
-    least_both has_hit (choices_of left) (choices_of right) (fewest has_hit left) (fewest has_hit right) (taken has_hit true false left) (taken has_hit true false right)
+    least_both has_hit (choices_of left) (choices_of right) (fewest_misses has_hit left) (fewest_misses has_hit right) (taken_places has_hit true false left) (taken_places has_hit true false right)
     (least_taken has_hit left) (least_taken has_hit right)
 least_taken has_hit (either left right) =
-    least_either has_hit (choices_of left) (choices_of right) (fewest has_hit left) (fewest has_hit right) (taken has_hit true false left) (taken has_hit true false right)
-    (ltb (fewest has_hit right) (fewest has_hit left)) refl (least_taken has_hit left) (least_taken has_hit right)
+    least_either has_hit (choices_of left) (choices_of right) (fewest_misses has_hit left) (fewest_misses has_hit right) (taken_places has_hit true false left) (taken_places has_hit true false right)
+    (ltb (fewest_misses has_hit right) (fewest_misses has_hit left)) refl (least_taken has_hit left) (least_taken has_hit right)
 
 -- in the words of the specification
-pub first_least : (has_hit : ℕ → Bool) (tree : ExpressionTree) → IsFirstLeast has_hit (choices_of tree) (taken has_hit true false tree)
+pub first_least : (has_hit : ℕ → Bool) (tree : ExpressionTree) → IsFirstLeast has_hit (choices_of tree) (taken_places has_hit true false tree)
 first_least has_hit tree =
     let least = least_taken has_hit tree in
     record {
       before = least.before;
       behind = least.behind;
       parts = least.parts;
-      more = All-weaker (λ other. fewest has_hit tree < misses has_hit other) (λ other. misses has_hit (taken has_hit true false tree) < misses has_hit other) (λ x h. omega (arith, least.has)) least.before least.more;
-      none_fewer = All-weaker (λ other. fewest has_hit tree ≤ misses has_hit other) (λ other. misses has_hit (taken has_hit true false tree) ≤ misses has_hit other) (λ x h. omega (arith, least.has)) least.behind least.none_fewer;
+      more = All-weaker (λ other. fewest_misses has_hit tree < misses has_hit other) (λ other. misses has_hit (taken_places has_hit true false tree) < misses has_hit other) (λ x h. omega (arith, least.has)) least.before least.more;
+      none_fewer = All-weaker (λ other. fewest_misses has_hit tree ≤ misses has_hit other) (λ other. misses has_hit (taken_places has_hit true false tree) ≤ misses has_hit other) (λ x h. omega (arith, least.has)) least.behind least.none_fewer;
     }

@@ -3,7 +3,7 @@ use Rattle.std.proofs.Common.{◌≡◌, ◌∙◌, refl, sym, ap, ℕ, Bool, tr
 use Rattle.spdx_core.specs.Grammar.{ExpressionTree, leaf, both, either}
 use Rattle.spdx_core.specs.declared.certificates.mark.NodeMark.{NodeMark}
 use Rattle.spdx_core.specs.declared.certificates.walk.Walk.{Walk}
-use Rattle.spdx_core.specs.certificates.Marks.{fewest, sides, taken}
+use Rattle.spdx_core.specs.certificates.Marks.{fewest_misses, sides, taken_places}
 use Rattle.spdx_core.specs.certificates.Machine.{Way, walked_over, marks_of, of_and, of_or, sides_flags, walk_start}
 
 way : List Bool → List ℕ → Way
@@ -38,20 +38,20 @@ walked_sides walk l r left right of_both marked flag flags places rest of_left o
     ∙ of_left (flag && (of_both || not marked)) flags (if_taken (flag && (of_both || marked)) right ++ places) rest
     ∙ ap (λ all. walked_over walk (way flags all) rest) (sides_taken flag of_both marked left right places)
 
-walked_tree : (has_hit : ℕ → Bool) (walk : Walk) (tree : ExpressionTree) → Gathers walk (marks_of has_hit tree) (taken has_hit (of_and walk) (of_or walk) tree)
+walked_tree : (has_hit : ℕ → Bool) (walk : Walk) (tree : ExpressionTree) → Gathers walk (marks_of has_hit tree) (taken_places has_hit (of_and walk) (of_or walk) tree)
 unfolding way
 walked_tree has_hit walk (leaf place) flag flags places rest = ap (λ all. walked_over walk (way flags all) rest) (leaf_taken flag place places)
 walked_tree has_hit walk (both left right) flag flags places rest =
-    walked_sides walk (marks_of has_hit left) (marks_of has_hit right) (taken has_hit (of_and walk) (of_or walk) left) (taken has_hit (of_and walk) (of_or walk) right)
-    (of_and walk) (eqb (fewest has_hit left) 0) flag flags places rest (walked_tree has_hit walk left) (walked_tree has_hit walk right)
+    walked_sides walk (marks_of has_hit left) (marks_of has_hit right) (taken_places has_hit (of_and walk) (of_or walk) left) (taken_places has_hit (of_and walk) (of_or walk) right)
+    (of_and walk) (eqb (fewest_misses has_hit left) 0) flag flags places rest (walked_tree has_hit walk left) (walked_tree has_hit walk right)
 walked_tree has_hit walk (either left right) flag flags places rest =
-    walked_sides walk (marks_of has_hit left) (marks_of has_hit right) (taken has_hit (of_and walk) (of_or walk) left) (taken has_hit (of_and walk) (of_or walk) right)
-    (of_or walk) (ltb (fewest has_hit right) (fewest has_hit left)) flag flags places rest (walked_tree has_hit walk left) (walked_tree has_hit walk right)
+    walked_sides walk (marks_of has_hit left) (marks_of has_hit right) (taken_places has_hit (of_and walk) (of_or walk) left) (taken_places has_hit (of_and walk) (of_or walk) right)
+    (of_or walk) (ltb (fewest_misses has_hit right) (fewest_misses has_hit left)) flag flags places rest (walked_tree has_hit walk left) (walked_tree has_hit walk right)
 
 -- a walk over a whole tree
-pub walked_whole : (has_hit : ℕ → Bool) (walk : Walk) (tree : ExpressionTree) → (walked_over walk walk_start (marks_of has_hit tree)).places ≡ taken has_hit (of_and walk) (of_or walk) tree
+pub walked_whole : (has_hit : ℕ → Bool) (walk : Walk) (tree : ExpressionTree) → (walked_over walk walk_start (marks_of has_hit tree)).places ≡ taken_places has_hit (of_and walk) (of_or walk) tree
 unfolding way
 walked_whole has_hit walk tree =
     ap (λ marks. (walked_over walk walk_start marks).places) (sym (append-nil (marks_of has_hit tree)))
     ∙ ap (λ w. w.places) (walked_tree has_hit walk tree true [] [] [])
-    ∙ append-nil (taken has_hit (of_and walk) (of_or walk) tree)
+    ∙ append-nil (taken_places has_hit (of_and walk) (of_or walk) tree)

@@ -10,7 +10,7 @@ use Rattle.spdx_core.specs.declared.certificates.mark.Marking.{Marking}
 use Rattle.spdx_core.specs.declared.certificates.walk.Walk.{Walk}
 use Rattle.spdx_core.specs.declared.certificates.walk.Walk.TheVariants.{Choice, Blocks}
 use Rattle.spdx_core.specs.declared.certificates.walk.WalkState.{WalkState}
-use Rattle.spdx_core.specs.certificates.Marks.{fewest}
+use Rattle.spdx_core.specs.certificates.Marks.{fewest_misses}
 use Rattle.spdx_core.specs.certificates.Stack.{first_of, behind_first}
 
 -- the fewest places without a hit of each tree that waits for its operator, and the marks of the nodes so far
@@ -21,8 +21,8 @@ pub record MarkingView : Type 0 where
 abbrev pub marked_of : Marking → MarkingView
 marked_of marking = record { counts = reverse marking.counts.items; marks = reverse marking.marks.items }
 
-abbrev pub unmarked : MarkingView
-unmarked = record { counts = []; marks = [] }
+abbrev pub no_marks : MarkingView
+no_marks = record { counts = []; marks = [] }
 
 -- the counts of the last two trees
 abbrev pub right_of : List ℕ → ℕ
@@ -54,8 +54,8 @@ total (count ∷ counts) = count + total counts
 -- the marks of a tree, the last node first
 abbrev pub marks_of : (ℕ → Bool) → ExpressionTree → List NodeMark
 marks_of has_hit (leaf place) = Term place ∷ []
-marks_of has_hit (both left right) = And (nat_eq (fewest has_hit left) 0) ∷ marks_of has_hit right ++ marks_of has_hit left
-marks_of has_hit (either left right) = Or (nat_lt (fewest has_hit right) (fewest has_hit left)) ∷ marks_of has_hit right ++ marks_of has_hit left
+marks_of has_hit (both left right) = And (nat_eq (fewest_misses has_hit left) 0) ∷ marks_of has_hit right ++ marks_of has_hit left
+marks_of has_hit (either left right) = Or (nat_lt (fewest_misses has_hit right) (fewest_misses has_hit left)) ∷ marks_of has_hit right ++ marks_of has_hit left
 
 -- which operators' sides are both taken
 abbrev pub of_and : Walk → Bool

@@ -1,7 +1,7 @@
 //! Marks on the nodes of an expression, which say where walks go on.
 ghost use Rattle.std.specs.Prelude.{◌≡◌, ◌<◌, ◌^◌, false, OnOk, IfOk};
 ghost use Rattle.spdx_core.specs.certificates.Certificates.{hit_at as hit_of, has_hit};
-ghost use Rattle.spdx_core.specs.certificates.Machine.{marked_of, marked_after, marks_after, unmarked, total};
+ghost use Rattle.spdx_core.specs.certificates.Machine.{marked_of, marked_after, marks_after, no_marks, total};
 
 use crate::ExprNode;
 use crate::certificates::stack::{put, take_off};
@@ -87,7 +87,7 @@ pub fn mark_nodes(
     nodes: &[ExprNode],
     kept: &[Option<Hit>],
 ) -> Result<Marking, AllocError>
-    ensures { IfOk result (λ marking. marked_of marking ≡ marks_after (has_hit kept.now) unmarked nodes.now) }
+    ensures { IfOk result (λ marking. marked_of marking ≡ marks_after (has_hit kept.now) no_marks nodes.now) }
 {
     let mut marking = Marking {
         counts: Vec::new(alloc),

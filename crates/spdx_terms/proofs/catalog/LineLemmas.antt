@@ -3,13 +3,13 @@ use Rattle.std.proofs.Common.{◌≡◌, ◌∙◌, ℕ, ◌+◌, ◌<◌, List,
 use Rattle.std.proofs.lemmas.List.{at_drop_more}
 use Rattle.std.proofs.lemmas.List.Concat.{flat_map-append}
 use Rattle.std.specs.List.{flat_map}
-use Rattle.spdx_terms.specs.catalog.TextWords.{line_words, spelled}
+use Rattle.spdx_terms.specs.catalog.TextWords.{line_words, words_with_spaces}
 
 -- the line at a place, and those after it
-pub spelled-drop : (lines : List (List ℕ)) (n : ℕ) (line : List ℕ) → (n < length lines) × (line ≡ get_or lines n line) → spelled (flat_map line_words (drop n lines)) ≡ spelled (line_words line) ++ spelled (flat_map line_words (drop (n + 1) lines))
+pub spelled-drop : (lines : List (List ℕ)) (n : ℕ) (line : List ℕ) → (n < length lines) × (line ≡ get_or lines n line) → words_with_spaces (flat_map line_words (drop n lines)) ≡ words_with_spaces (line_words line) ++ words_with_spaces (flat_map line_words (drop (n + 1) lines))
 spelled-drop lines n line at =
-    at_drop_more (λ lines. spelled (flat_map line_words lines)) lines n line at.0
-    ∙ ap (λ line. spelled (flat_map line_words (line ∷ drop (n + 1) lines))) (sym at.1)
+    at_drop_more (λ lines. words_with_spaces (flat_map line_words lines)) lines n line at.0
+    ∙ ap (λ line. words_with_spaces (flat_map line_words (line ∷ drop (n + 1) lines))) (sym at.1)
     ∙ flat_map-append (λ word. word ++ codes " ") (line_words line) (flat_map line_words (drop (n + 1) lines))
 
 -- a list that grew by the front of what is left

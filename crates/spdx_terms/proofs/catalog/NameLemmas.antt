@@ -15,7 +15,7 @@ use Rattle.std.proofs.lemmas.Map.Lookups.{exact_bytes}
 use Rattle.std.proofs.lemmas.Slice.Eq.{bytes_eq-Decides}
 use Rattle.spdx_terms.specs.declared.catalog.table.TableLicense.{TableLicense}
 use Rattle.spdx_terms.specs.catalog.Catalog.{entry_of, names_of}
-use Rattle.spdx_terms.specs.catalog.NameOrder.{name_order, AreInOrder, told}
+use Rattle.spdx_terms.specs.catalog.NameOrder.{name_order, AreInOrder, named_entries}
 
 pub name_order_total : IsTotalOrder name_order
 name_order_total = then_total (on_total length nat_cmp_total) nat_list_cmp_total
@@ -99,28 +99,28 @@ module _ {X : Type 0} (e : List ℕ × X) (behind : List (List ℕ × X)) where
         let own : name_order x.0 q ≡ Less = name_order_total.trans x.0 e.0 q less (below q e.0 greater) in
         lookup_tail (bytes_eq q) x (front ++ e ∷ behind) (apart q x.0 Greater (above x.0 q own) refl) ∙ found_behind front sorted.1 greater
 
-told_split : (front behind : List TableLicense) (middle : TableLicense) → told (front ++ middle ∷ behind) ≡ told front ++ (middle.name.now, middle.entry) ∷ told behind
+told_split : (front behind : List TableLicense) (middle : TableLicense) → named_entries (front ++ middle ∷ behind) ≡ named_entries front ++ (middle.name.now, middle.entry) ∷ named_entries behind
 told_split [] behind middle = refl
 told_split (x ∷ front) behind middle = ap (λ rest. (x.name.now, x.entry) ∷ rest) (told_split front behind middle)
 
-module _ (licences front behind : List TableLicense) (middle : TableLicense) (q : List ℕ) (is : licences ≡ front ++ middle ∷ behind) (ordered : AreInOrder (told licences)) where
-  cut : told licences ≡ told front ++ (middle.name.now, middle.entry) ∷ told behind
-  cut = ap told is ∙ told_split front behind middle
+module _ (licenses front behind : List TableLicense) (middle : TableLicense) (q : List ℕ) (is : licenses ≡ front ++ middle ∷ behind) (ordered : AreInOrder (named_entries licenses)) where
+  cut : named_entries licenses ≡ named_entries front ++ (middle.name.now, middle.entry) ∷ named_entries behind
+  cut = ap named_entries is ∙ told_split front behind middle
 
-  parts_ordered : AreInOrder (told front ++ (middle.name.now, middle.entry) ∷ told behind)
+  parts_ordered : AreInOrder (named_entries front ++ (middle.name.now, middle.entry) ∷ named_entries behind)
   parts_ordered = subst AreInOrder cut ordered
 
-  pub front_in_order : AreInOrder (told front)
-  front_in_order = sorted_front (middle.name.now, middle.entry) (told behind) (told front) parts_ordered
+  pub front_in_order : AreInOrder (named_entries front)
+  front_in_order = sorted_front (middle.name.now, middle.entry) (named_entries behind) (named_entries front) parts_ordered
 
-  pub behind_in_order : AreInOrder (told behind)
-  behind_in_order = sorted_behind (middle.name.now, middle.entry) (told behind) (told front) parts_ordered
+  pub behind_in_order : AreInOrder (named_entries behind)
+  behind_in_order = sorted_behind (middle.name.now, middle.entry) (named_entries behind) (named_entries front) parts_ordered
 
-  pub entry_at : name_order q middle.name.now ≡ Equal → entry_of (told licences) q ≡ Some middle.entry
-  entry_at ties = ap (λ l. entry_of l q) cut ∙ found_at (middle.name.now, middle.entry) (told behind) q (told front) parts_ordered ties
+  pub entry_at : name_order q middle.name.now ≡ Equal → entry_of (named_entries licenses) q ≡ Some middle.entry
+  entry_at ties = ap (λ l. entry_of l q) cut ∙ found_at (middle.name.now, middle.entry) (named_entries behind) q (named_entries front) parts_ordered ties
 
-  pub entry_front : name_order q middle.name.now ≡ Less → entry_of (told licences) q ≡ entry_of (told front) q
-  entry_front less = ap (λ l. entry_of l q) cut ∙ found_front (middle.name.now, middle.entry) (told behind) q (told front) parts_ordered less
+  pub entry_front : name_order q middle.name.now ≡ Less → entry_of (named_entries licenses) q ≡ entry_of (named_entries front) q
+  entry_front less = ap (λ l. entry_of l q) cut ∙ found_front (middle.name.now, middle.entry) (named_entries behind) q (named_entries front) parts_ordered less
 
-  pub entry_behind : name_order q middle.name.now ≡ Greater → entry_of (told licences) q ≡ entry_of (told behind) q
-  entry_behind greater = ap (λ l. entry_of l q) cut ∙ found_behind (middle.name.now, middle.entry) (told behind) q (told front) parts_ordered greater
+  pub entry_behind : name_order q middle.name.now ≡ Greater → entry_of (named_entries licenses) q ≡ entry_of (named_entries behind) q
+  entry_behind greater = ap (λ l. entry_of l q) cut ∙ found_behind (middle.name.now, middle.entry) (named_entries behind) q (named_entries front) parts_ordered greater

@@ -52,13 +52,13 @@ sorted_from_rise (name ∷ names) rise = from_rise name names rise
 
 -- ---- a list that is put in order
 
-abbrev pub with_licence : List ℕ × LicenseEntry → List (List ℕ × LicenseEntry) → List (List ℕ × LicenseEntry)
-with_licence p [] = p ∷ []
-with_licence p (q ∷ licences) = cond (is_lt (name_order q.0 p.0)) (q ∷ with_licence p licences) (p ∷ q ∷ licences)
+abbrev pub with_license : List ℕ × LicenseEntry → List (List ℕ × LicenseEntry) → List (List ℕ × LicenseEntry)
+with_license p [] = p ∷ []
+with_license p (q ∷ licenses) = cond (is_lt (name_order q.0 p.0)) (q ∷ with_license p licenses) (p ∷ q ∷ licenses)
 
 abbrev pub in_order : List (List ℕ × LicenseEntry) → List (List ℕ × LicenseEntry)
 in_order [] = []
-in_order (p ∷ licences) = with_licence p (in_order licences)
+in_order (p ∷ licenses) = with_license p (in_order licenses)
 
 swapped : {X : Type 0} (p q : List ℕ × X) (rest : Option X) (name : List ℕ) → name_order q.0 p.0 ≡ Less
     → cond (bytes_eq name q.0) (Some q.1) (cond (bytes_eq name p.0) (Some p.1) rest) ≡ cond (bytes_eq name p.0) (Some p.1) (cond (bytes_eq name q.0) (Some q.1) rest)
@@ -72,18 +72,18 @@ swapped p q rest name less = by (bytes_eq name p.0) refl
         let other : bytes_eq name q.0 ≡ false = apart name q.0 Greater (ap (λ k. name_order k q.0) same ∙ greater) refl in
         rw (is, other) refl
 
-entry_of-with_licence : (p : List ℕ × LicenseEntry) (licences : List (List ℕ × LicenseEntry)) (name : List ℕ) → entry_of (with_licence p licences) name ≡ entry_of (p ∷ licences) name
-entry_of-with_licence p [] name = refl
-entry_of-with_licence p (q ∷ licences) name = by (is_lt (name_order q.0 p.0)) refl (entry_of-with_licence p licences name)
+entry_of-with_license : (p : List ℕ × LicenseEntry) (licenses : List (List ℕ × LicenseEntry)) (name : List ℕ) → entry_of (with_license p licenses) name ≡ entry_of (p ∷ licenses) name
+entry_of-with_license p [] name = refl
+entry_of-with_license p (q ∷ licenses) name = by (is_lt (name_order q.0 p.0)) refl (entry_of-with_license p licenses name)
   where
-    by : (b : Bool) → is_lt (name_order q.0 p.0) ≡ b → entry_of (with_licence p licences) name ≡ entry_of (p ∷ licences) name
-        → entry_of (cond b (q ∷ with_licence p licences) (p ∷ q ∷ licences)) name ≡ entry_of (p ∷ q ∷ licences) name
+    by : (b : Bool) → is_lt (name_order q.0 p.0) ≡ b → entry_of (with_license p licenses) name ≡ entry_of (p ∷ licenses) name
+        → entry_of (cond b (q ∷ with_license p licenses) (p ∷ q ∷ licenses)) name ≡ entry_of (p ∷ q ∷ licenses) name
     by false is rest = refl
     by true is rest =
         ap (λ found. cond (bytes_eq name q.0) (Some q.1) found) rest
-        ∙ swapped p q (entry_of licences name) name (less_from_test (name_order q.0 p.0) is)
+        ∙ swapped p q (entry_of licenses name) name (less_from_test (name_order q.0 p.0) is)
 
-pub entry_of-in_order : (licences : List (List ℕ × LicenseEntry)) (name : List ℕ) → entry_of (in_order licences) name ≡ entry_of licences name
+pub entry_of-in_order : (licenses : List (List ℕ × LicenseEntry)) (name : List ℕ) → entry_of (in_order licenses) name ≡ entry_of licenses name
 entry_of-in_order [] name = refl
-entry_of-in_order (p ∷ licences) name =
-    entry_of-with_licence p (in_order licences) name ∙ ap (λ rest. cond (bytes_eq name p.0) (Some p.1) rest) (entry_of-in_order licences name)
+entry_of-in_order (p ∷ licenses) name =
+    entry_of-with_license p (in_order licenses) name ∙ ap (λ rest. cond (bytes_eq name p.0) (Some p.1) rest) (entry_of-in_order licenses name)

@@ -8,7 +8,7 @@ use Rattle.std.specs.Char.{is_ascii_alphanumeric, to_ascii_lowercase}
 use Rattle.std.specs.Str.{bytes_eq}
 use Rattle.std.specs.List.{flat_map, slice_split, onto_first}
 use Rattle.std.specs.Cmp.Lexicographic.{pointwise}
-use Rattle.spdx_terms.specs.catalog.TextWords.{has_some, is_between, is_copyright, is_line_end, runs_of, lower_of, words_kept, line_words, words_of, spelled}
+use Rattle.spdx_terms.specs.catalog.TextWords.{has_some, is_between, is_copyright, is_line_end, runs_of, lower_of, words_kept, line_words, words_of, words_with_spaces}
 
 -- ASCII, and no space
 abbrev pub Spaceless : List ℕ → Type 0
@@ -39,13 +39,13 @@ something : (word rest : List ℕ) → false ≡ bytes_eq ((word ++ codes " ") +
 something [] rest = refl
 something (x ∷ xs) rest = refl
 
-pub same_spelled : (words others : List (List ℕ)) → AllSpaceless words → AllSpaceless others → pointwise bytes_eq words others ≡ bytes_eq (spelled words) (spelled others)
+pub same_spelled : (words others : List (List ℕ)) → AllSpaceless words → AllSpaceless others → pointwise bytes_eq words others ≡ bytes_eq (words_with_spaces words) (words_with_spaces others)
 same_spelled [] [] clean others_clean = refl
-same_spelled [] (other ∷ others) clean others_clean = nothing other (spelled others)
-same_spelled (word ∷ words) [] clean others_clean = something word (spelled words)
+same_spelled [] (other ∷ others) clean others_clean = nothing other (words_with_spaces others)
+same_spelled (word ∷ words) [] clean others_clean = something word (words_with_spaces words)
 same_spelled (word ∷ words) (other ∷ others) clean others_clean =
     ap (λ same. bytes_eq word other && same) (same_spelled words others clean.1 others_clean.1)
-    ∙ word_eq word other (spelled words) (spelled others) clean.0 others_clean.0
+    ∙ word_eq word other (words_with_spaces words) (words_with_spaces others) clean.0 others_clean.0
 
 -- a letter or a digit is no space in lower case
 lower_no_space : (b : ℕ) → is_ascii_alphanumeric b ≡ true → (nat_eq (to_ascii_lowercase b) 32 ≡ false) × (nat_eq 32 (to_ascii_lowercase b) ≡ false)
@@ -97,11 +97,11 @@ ascii_word : (word : List ℕ) → Spaceless word → IsAscii word
 ascii_word [] clean = IsAscii-nil
 ascii_word (b ∷ bs) clean = IsAscii-cons b bs clean.3 (ascii_word bs clean.2)
 
-ascii_words : (words : List (List ℕ)) → AllSpaceless words → IsAscii (spelled words)
+ascii_words : (words : List (List ℕ)) → AllSpaceless words → IsAscii (words_with_spaces words)
 ascii_words [] clean = IsAscii-nil
 ascii_words (word ∷ words) clean =
-    IsAscii-append (word ++ codes " ") (spelled words) (IsAscii-append word (codes " ") (ascii_word word clean.0) (IsAscii-cons 32 [] (lit< tt) IsAscii-nil)) (ascii_words words clean.1)
+    IsAscii-append (word ++ codes " ") (words_with_spaces words) (IsAscii-append word (codes " ") (ascii_word word clean.0) (IsAscii-cons 32 [] (lit< tt) IsAscii-nil)) (ascii_words words clean.1)
 
 -- so their spelling is a text
-pub words_text : (text : List ℕ) → IsUtf8 (spelled (words_of text))
-words_text text = IsUtf8-from_ascii (spelled (words_of text)) (ascii_words (words_of text) (words_spaceless text))
+pub words_text : (text : List ℕ) → IsUtf8 (words_with_spaces (words_of text))
+words_text text = IsUtf8-from_ascii (words_with_spaces (words_of text)) (ascii_words (words_of text) (words_spaceless text))

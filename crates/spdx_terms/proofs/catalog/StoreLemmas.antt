@@ -9,7 +9,7 @@ use Rattle.std.specs.Slice.{IsItemAt}
 use Rattle.std.specs.Str.{bytes_eq}
 use Rattle.std.specs.List.{position_or_len}
 use Rattle.spdx_terms.specs.declared.catalog.store.StoreText.{StoreText}
-use Rattle.spdx_terms.specs.catalog.TextWords.{words_of, spelled}
+use Rattle.spdx_terms.specs.catalog.TextWords.{words_of, words_with_spaces}
 use Rattle.spdx_terms.specs.catalog.Store.{same_words, stored_for}
 use Rattle.spdx_terms.specs.catalog.StorePlaces.{all_spelled}
 use Rattle.spdx_terms.proofs.catalog.SpelledLemmas.{AllSpaceless, same_spelled, words_spaceless}
@@ -26,31 +26,31 @@ nothing_stored : (texts : List StoreText) → find (λ (stored : StoreText). sam
 nothing_stored [] = refl
 nothing_stored (first ∷ rest) = nothing_stored rest
 
-some_spelled : (words : List (List ℕ)) → AllSpaceless words → (stored : StoreText) → 0 < length (spelled words) → same_words (words_of stored.body) words ≡ bytes_eq (spelled (words_of stored.body)) (spelled words)
+some_spelled : (words : List (List ℕ)) → AllSpaceless words → (stored : StoreText) → 0 < length (words_with_spaces words) → same_words (words_of stored.body) words ≡ bytes_eq (words_with_spaces (words_of stored.body)) (words_with_spaces words)
 some_spelled [] clean stored some = absurd (omega (arith, some))
 some_spelled (word ∷ words) clean stored some = same_spelled (words_of stored.body) (word ∷ words) (words_spaceless stored.body) clean
 
 -- the text at the place of the same spelled words is the stored one
-pub stored_at : (texts : List StoreText) (text words : List ℕ) → words ≡ spelled (words_of text) → 0 < length words → stored_for texts text ≡ slice_get texts (position_or_len (λ known. bytes_eq known words) (all_spelled texts))
+pub stored_at : (texts : List StoreText) (text words : List ℕ) → words ≡ words_with_spaces (words_of text) → 0 < length words → stored_for texts text ≡ slice_get texts (position_or_len (λ known. bytes_eq known words) (all_spelled texts))
 stored_at texts text words is some =
     let test = λ (stored : StoreText). same_words (words_of stored.body) (words_of text) in
-    let same = λ (stored : StoreText). some_spelled (words_of text) (words_spaceless text) stored (subst (λ (bytes : List ℕ). 0 < length bytes) is some) ∙ ap (λ (bytes : List ℕ). bytes_eq (spelled (words_of stored.body)) bytes) (sym is) in
+    let same = λ (stored : StoreText). some_spelled (words_of text) (words_spaceless text) stored (subst (λ (bytes : List ℕ). 0 < length bytes) is some) ∙ ap (λ (bytes : List ℕ). bytes_eq (words_with_spaces (words_of stored.body)) bytes) (sym is) in
     find_at test texts
-    ∙ ap (λ n. slice_get texts n) (position-map (λ (stored : StoreText). spelled (words_of stored.body)) test (λ known. bytes_eq known words) same texts)
+    ∙ ap (λ n. slice_get texts n) (position-map (λ (stored : StoreText). words_with_spaces (words_of stored.body)) test (λ known. bytes_eq known words) same texts)
 
-no_words : (words : List (List ℕ)) → length (spelled words) ≡ 0 → words ≡ []
+no_words : (words : List (List ℕ)) → length (words_with_spaces words) ≡ 0 → words ≡ []
 no_words [] none = refl
-no_words (word ∷ words) none = absurd (omega (arith, none, length-append (word ++ codes " ") (spelled words), length-append word (codes " ")))
+no_words (word ∷ words) none = absurd (omega (arith, none, length-append (word ++ codes " ") (words_with_spaces words), length-append word (codes " ")))
 
 -- a text whose words take no bytes has none, and is not stored
-pub none_stored : (texts : List StoreText) (text words : List ℕ) → words ≡ spelled (words_of text) → length words ≡ 0 → stored_for texts text ≡ None
+pub none_stored : (texts : List StoreText) (text words : List ℕ) → words ≡ words_with_spaces (words_of text) → length words ≡ 0 → stored_for texts text ≡ None
 none_stored texts text words is none =
     ap (λ words. find (λ (stored : StoreText). same_words (words_of stored.body) words) texts) (no_words (words_of text) (ap (λ (bytes : List ℕ). length bytes) (sym is) ∙ none))
     ∙ nothing_stored texts
 
 -- no text stands behind the last one
 pub none_behind : (texts : List StoreText) (n : ℕ) → n ≡ length (all_spelled texts) → slice_get texts n ≡ None
-none_behind texts n is = slice_get_past texts n (omega (arith, is, length-map texts (λ (stored : StoreText). spelled (words_of stored.body))))
+none_behind texts n is = slice_get_past texts n (omega (arith, is, length-map texts (λ (stored : StoreText). words_with_spaces (words_of stored.body))))
 
 -- what stands at a place
 pub item_at : (texts : List StoreText) (i : ℕ) (r : Option (Bor StoreText)) → IsItemAt texts i r → option_copied r ≡ slice_get texts i

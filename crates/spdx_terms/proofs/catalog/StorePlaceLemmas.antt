@@ -12,7 +12,7 @@ use Rattle.std.proofs.lemmas.Slice.Eq.{bytes_eq-Decides}
 use Rattle.deny_text.specs.TextMap.{TextMapTo}
 use Rattle.spdx_terms.specs.declared.catalog.store.StoreText.{StoreText}
 use Rattle.spdx_terms.specs.catalog.StorePlaces.{FindsPlaces, all_spelled, with_new}
-use Rattle.spdx_terms.specs.catalog.TextWords.{spelled, words_of}
+use Rattle.spdx_terms.specs.catalog.TextWords.{words_with_spaces, words_of}
 
 abbrev or_at : Bool → ℕ → Option ℕ → Option ℕ
 or_at here place (Some found) = Some found
@@ -76,10 +76,10 @@ one_more_place places new known key place finds is at q =
     by false none = get-put places key place q ∙ new_place (bytes_eq key q) place (get places q) (λ equal. ap is_some (same equal) ∙ none)
 
 -- the words of one text more
-pub one_more_spelled : (texts : List StoreText) (place : ℕ) (stored : StoreText) → place < length texts → stored ≡ get_or texts place stored → all_spelled (take (place + 1) texts) ≡ all_spelled (take place texts) ++ spelled (words_of stored.body) ∷ []
+pub one_more_spelled : (texts : List StoreText) (place : ℕ) (stored : StoreText) → place < length texts → stored ≡ get_or texts place stored → all_spelled (take (place + 1) texts) ≡ all_spelled (take place texts) ++ words_with_spaces (words_of stored.body) ∷ []
 one_more_spelled texts place stored within at =
     ap all_spelled (take_more texts place stored within ∙ ap (λ one. take place texts ++ one ∷ []) (sym at))
-    ∙ map-append (λ (one : StoreText). spelled (words_of one.body)) (take place texts) (stored ∷ [])
+    ∙ map-append (λ (one : StoreText). words_with_spaces (words_of one.body)) (take place texts) (stored ∷ [])
 
 pub so_many : (texts : List StoreText) (place : ℕ) → place ≤ length texts → place ≡ length (all_spelled (take place texts))
-so_many texts place within = sym (length-map (take place texts) (λ (one : StoreText). spelled (words_of one.body)) ∙ length-take-le place texts within)
+so_many texts place within = sym (length-map (take place texts) (λ (one : StoreText). words_with_spaces (words_of one.body)) ∙ length-take-le place texts within)

@@ -6,7 +6,7 @@ use Rattle.std.specs.Ordering.{is_eq, nat_cmp}
 use Rattle.std.proofs.lemmas.Bool.Decides.{nat_tests}
 use Rattle.spdx_terms.specs.contracts.term.FamilyOrd.TheImpl as family_order
 use Rattle.spdx_terms.specs.declared.term.Family.{Family}
-use Rattle.spdx_terms.specs.declared.term.Family.TheVariants.{Spdx as of_licences, Reference as of_references}
+use Rattle.spdx_terms.specs.declared.term.Family.TheVariants.{Spdx as of_licenses, Reference as of_references}
 use Rattle.spdx_terms.specs.families.Map.{FamilyMap, HasFamilyPlaces, HasFurther, HasSame, IsIndex, places_at}
 use Rattle.spdx_terms.specs.families.Places.{same_family}
 use Rattle.spdx_terms.proofs.families.PlaceLemmas.{decides, places_in-push}
@@ -16,9 +16,9 @@ nat_ties : (n m : ℕ) → is_eq (nat_cmp n m) ≡ eqb m n
 nat_ties n m = grind (arith, nat_tests)
 
 pub ties : (one other : Family) → is_eq (family_order.ghosts.cmp one other) ≡ same_family other one
-ties (of_licences one) (of_licences other) = nat_ties one other
-ties (of_licences one) of_references = refl
-ties of_references (of_licences other) = refl
+ties (of_licenses one) (of_licenses other) = nat_ties one other
+ties (of_licenses one) of_references = refl
+ties of_references (of_licenses other) = refl
 ties of_references of_references = refl
 
 either : (b : Bool) (old : Option (List ℕ)) (new places : List ℕ) (place : ℕ) → (b ≡ true → new ≡ places ++ place ∷ []) → unwrap_or old [] ≡ places

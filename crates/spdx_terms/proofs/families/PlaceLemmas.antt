@@ -5,17 +5,17 @@ use Rattle.std.specs.Bool.{Decides}
 use Rattle.std.specs.List.{filter}
 use Rattle.std.proofs.lemmas.Bool.Decides.{Decides-eqb, Decides-like}
 use Rattle.spdx_terms.specs.declared.term.Family.{Family}
-use Rattle.spdx_terms.specs.declared.term.Family.TheVariants.{Spdx as of_licences, Reference as of_references}
+use Rattle.spdx_terms.specs.declared.term.Family.TheVariants.{Spdx as of_licenses, Reference as of_references}
 use Rattle.spdx_terms.specs.families.Laws.{RiseFrom}
 use Rattle.spdx_terms.specs.families.Places.{same_family, places_from, places_in}
 
 -- ---- the test
 
 pub decides : (one other : Family) → Decides (same_family one other) (one ≡ other)
-decides (of_licences one) (of_licences other) =
-    Decides-like (eqb one other) (λ (h : one ≡ other). ap of_licences h) (λ (h : of_licences one ≡ of_licences other). cc) (Decides-eqb one other)
-decides (of_licences one) of_references = (λ h. absurd (cc h), λ h. absurd (cc h))
-decides of_references (of_licences other) = (λ h. absurd (cc h), λ h. absurd (cc h))
+decides (of_licenses one) (of_licenses other) =
+    Decides-like (eqb one other) (λ (h : one ≡ other). ap of_licenses h) (λ (h : of_licenses one ≡ of_licenses other). cc) (Decides-eqb one other)
+decides (of_licenses one) of_references = (λ h. absurd (cc h), λ h. absurd (cc h))
+decides of_references (of_licenses other) = (λ h. absurd (cc h), λ h. absurd (cc h))
 decides of_references of_references = (λ h. refl, λ h. refl)
 
 -- ---- a further family

@@ -32,15 +32,15 @@ isc_body =
     ++ codes "THIS SOFTWARE.\n"
 
 -- a licence's body after a first line, or alone
-abbrev pub licence_text : List ℕ → List ℕ → List ℕ → StoreText
-licence_text name heading body = record { name = name; body = heading ++ body }
+abbrev pub license_text : List ℕ → List ℕ → List ℕ → StoreText
+license_text name heading body = record { name = name; body = heading ++ body }
 
 abbrev pub built_in : List StoreText
 built_in =
-    licence_text (codes "MIT") [] mit_body
-    ∷ licence_text (codes "MIT") (codes "MIT License\n") mit_body
-    ∷ licence_text (codes "MIT") (codes "The MIT License\n") mit_body
-    ∷ licence_text (codes "MIT") (codes "The MIT License (MIT)\n") mit_body
-    ∷ licence_text (codes "ISC") [] isc_body
-    ∷ licence_text (codes "ISC") (codes "ISC License\n") isc_body
+    license_text (codes "MIT") [] mit_body
+    ∷ license_text (codes "MIT") (codes "MIT License\n") mit_body
+    ∷ license_text (codes "MIT") (codes "The MIT License\n") mit_body
+    ∷ license_text (codes "MIT") (codes "The MIT License (MIT)\n") mit_body
+    ∷ license_text (codes "ISC") [] isc_body
+    ∷ license_text (codes "ISC") (codes "ISC License\n") isc_body
     ∷ []

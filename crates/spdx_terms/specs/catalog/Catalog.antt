@@ -9,13 +9,13 @@ use Rattle.spdx_terms.specs.catalog.Words.{is_name, is_imprecise, ends_word}
 -- a catalogue as one value: licence names with what is known of each, exception names, and imprecise texts with the
 -- name of the licence that each means
 pub record CatalogLists : Type 0 where
-  pub licences : List (List ℕ × LicenseEntry)
+  pub licenses : List (List ℕ × LicenseEntry)
   pub exceptions : List (List ℕ)
   pub imprecise : List (List ℕ × List ℕ)
 
 -- what is known of the licence of this name
 abbrev pub entry_of : List (List ℕ × LicenseEntry) → List ℕ → Option LicenseEntry
-entry_of licences name = lookup (bytes_eq name) licences
+entry_of licenses name = lookup (bytes_eq name) licenses
 
 -- an imprecise text begins a text without regard to ASCII case, and its last word ends there
 pub record BeginsText (imprecise text : List ℕ) : Type 0 where
@@ -46,10 +46,10 @@ all_distinct same (text ∷ texts) = not (list_any (same text) texts) && all_dis
 -- What holds of every catalogue. Licences and exceptions have names, each of them once. An imprecise text is made of
 -- words, stands once in whatever case, and means a licence of the catalogue.
 pub record IsCatalog (lists : CatalogLists) : Type 0 where
-  pub licence_names : IsTrue (list_all is_name (names_of lists.licences))
-  pub licences_once : IsTrue (all_distinct bytes_eq (names_of lists.licences))
+  pub license_names : IsTrue (list_all is_name (names_of lists.licenses))
+  pub licenses_once : IsTrue (all_distinct bytes_eq (names_of lists.licenses))
   pub exception_names : IsTrue (list_all is_name lists.exceptions)
   pub exceptions_once : IsTrue (all_distinct bytes_eq lists.exceptions)
   pub imprecise_texts : IsTrue (list_all is_imprecise (names_of lists.imprecise))
   pub imprecise_once : IsTrue (all_distinct str_eq_ignore_ascii_case (names_of lists.imprecise))
-  pub imprecise_known : IsTrue (list_all (λ pair. is_some (entry_of lists.licences pair.1)) lists.imprecise)
+  pub imprecise_known : IsTrue (list_all (λ pair. is_some (entry_of lists.licenses pair.1)) lists.imprecise)

@@ -14,8 +14,8 @@ name_order = then_cmp (on length nat_cmp) (slice_cmp nat_cmp)
 
 -- each licence stands before those with later names
 abbrev pub AreInOrder : List (List ℕ × LicenseEntry) → Type 0
-AreInOrder licences = IsStrictlySortedBy name_order (names_of licences)
+AreInOrder licenses = IsStrictlySortedBy name_order (names_of licenses)
 
 -- licences as a catalogue has them: each name with what is known of it
-abbrev pub told : List TableLicense → List (List ℕ × LicenseEntry)
-told licences = map (λ listed. (listed.name.now, listed.entry)) licences
+abbrev pub named_entries : List TableLicense → List (List ℕ × LicenseEntry)
+named_entries licenses = map (λ listed. (listed.name.now, listed.entry)) licenses

@@ -4,11 +4,11 @@ use Rattle.std.specs.FinMap as finmap
 use Rattle.std.specs.Str.{bytes_eq}
 use Rattle.deny_text.specs.TextMap.{TextMapTo}
 use Rattle.spdx_terms.specs.declared.catalog.store.StoreText.{StoreText}
-use Rattle.spdx_terms.specs.catalog.TextWords.{spelled, words_of}
+use Rattle.spdx_terms.specs.catalog.TextWords.{words_with_spaces, words_of}
 
 -- the words of each text, with a space after each word
 abbrev pub all_spelled : List StoreText → List (List ℕ)
-all_spelled texts = map (λ stored. spelled (words_of stored.body)) texts
+all_spelled texts = map (λ stored. words_with_spaces (words_of stored.body)) texts
 
 -- the map has the first place of each
 abbrev pub FindsPlaces : TextMapTo ℕ → List (List ℕ) → Type 0

@@ -90,13 +90,13 @@ table_imprecise =
     ++ texts_for (codes "MPL-2.0") (codes "mpl" ∷ codes "mpl 2.0" ∷ codes "mpl-2" ∷ codes "mpl-2.0" ∷ [])
     ++ texts_for (codes "Zlib") (codes "zlib license" ∷ [])
 
-abbrev pub table_licences : List (List ℕ × LicenseEntry)
-table_licences = families_from 0 single_names ++ families ++ gnu_families
+abbrev pub table_licenses : List (List ℕ × LicenseEntry)
+table_licenses = families_from 0 single_names ++ families ++ gnu_families
 
 -- the table as a catalogue
 abbrev pub table_lists : CatalogLists
-table_lists = record { licences = table_licences; exceptions = table_exceptions; imprecise = table_imprecise }
+table_lists = record { licenses = table_licenses; exceptions = table_exceptions; imprecise = table_imprecise }
 
 pub table_is_catalog : IsCatalog table_lists
 unfolding single_names families gnu_families table_exceptions table_imprecise
-table_is_catalog = record { licence_names = refl; licences_once = refl; exception_names = refl; exceptions_once = refl; imprecise_texts = refl; imprecise_once = refl; imprecise_known = refl }
+table_is_catalog = record { license_names = refl; licenses_once = refl; exception_names = refl; exceptions_once = refl; imprecise_texts = refl; imprecise_once = refl; imprecise_known = refl }

@@ -43,5 +43,5 @@ abbrev pub words_of : List ℕ → List (List ℕ)
 words_of text = flat_map line_words (slice_split is_line_end text)
 
 -- the words with a space after each
-abbrev pub spelled : List (List ℕ) → List ℕ
-spelled words = flat_map (λ word. word ++ codes " ") words
+abbrev pub words_with_spaces : List (List ℕ) → List ℕ
+words_with_spaces words = flat_map (λ word. word ++ codes " ") words

@@ -1,13 +1,13 @@
 -- Where a licence family stands in a list of families.
 use Rattle.std.specs.Prelude.{ℕ, suc, Bool, true, false, ◌==◌, if◌then◌else◌, List, [], ◌∷◌}
 use Rattle.spdx_terms.specs.declared.term.Family.{Family}
-use Rattle.spdx_terms.specs.declared.term.Family.TheVariants.{Spdx as of_licences, Reference as of_references}
+use Rattle.spdx_terms.specs.declared.term.Family.TheVariants.{Spdx as of_licenses, Reference as of_references}
 
 -- two families are the same: of licences by their numbers; references are one family
 abbrev pub same_family : Family → Family → Bool
-same_family (of_licences one) (of_licences other) = one == other
-same_family (of_licences one) of_references = false
-same_family of_references (of_licences other) = false
+same_family (of_licenses one) (of_licenses other) = one == other
+same_family (of_licenses one) of_references = false
+same_family of_references (of_licenses other) = false
 same_family of_references of_references = true
 
 -- the places at which a family stands, counted from a number on

@@ -1,6 +1,6 @@
 //! The licence texts that the identifier has built in.
 ghost use Rattle.std.specs.Prelude.{◌≡◌, IfOk, map};
-ghost use Rattle.spdx_terms.specs.catalog.BuiltIn.{licence_text};
+ghost use Rattle.spdx_terms.specs.catalog.BuiltIn.{license_text};
 
 use crate::catalog::store::{StoreText, StoreTexts};
 use deny_text::Text;
@@ -17,7 +17,7 @@ impl BuiltIn {
     /// The text as it is stored.
     pub(crate) fn text(&self, alloc: Global) -> Result<StoreText, AllocError>
         ensures { IfOk result (λ text.
-            text ≡ licence_text self.now.name.now self.now.heading.now self.now.body.now) }
+            text ≡ license_text self.now.name.now self.now.heading.now self.now.body.now) }
     {
         let name = Text::copy(alloc, self.name)?;
         let mut body = String::from_str(alloc, self.heading)?;
@@ -90,7 +90,7 @@ pub(crate) static BUILT_IN: [BuiltIn; 6] = [
 /// The texts as they are stored.
 pub(crate) fn built_in_texts(alloc: Global, listed: &[BuiltIn]) -> Result<StoreTexts, AllocError>
     ensures { IfOk result (λ texts.
-        texts ≡ map (λ built. licence_text built.name.now built.heading.now built.body.now) listed.now) }
+        texts ≡ map (λ built. license_text built.name.now built.heading.now built.body.now) listed.now) }
 {
     let mut texts = StoreTexts::new(alloc);
     'listed: for built in listed {

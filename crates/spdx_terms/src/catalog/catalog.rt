@@ -33,7 +33,7 @@ pub trait Catalog {
 
     /// What is known of a licence name, which is told apart by its letters' case.
     fn license(&self, name: &str) -> Option<LicenseEntry>
-        ensures { result ≡ entry_of (lists self.now).licences name.now };
+        ensures { result ≡ entry_of (lists self.now).licenses name.now };
 
     /// Whether this is the name of a licence exception.
     fn exception(&self, name: &str) -> bool

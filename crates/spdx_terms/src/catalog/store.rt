@@ -4,7 +4,7 @@ ghost use Rattle.std.specs.Option.{option_copied};
 ghost use Rattle.spdx_terms.specs.catalog.BuiltIn.{built_in};
 ghost use Rattle.spdx_terms.specs.catalog.Store.{match_of, score_within, stored_for};
 ghost use Rattle.spdx_terms.specs.catalog.StorePlaces.{FindsPlaces, all_spelled, with_new};
-ghost use Rattle.spdx_terms.specs.catalog.TextWords.{spelled, words_of};
+ghost use Rattle.spdx_terms.specs.catalog.TextWords.{words_with_spaces, words_of};
 
 use crate::catalog::built_in::{BUILT_IN, built_in_texts};
 use crate::catalog::identifier::{Identifier, Match};
@@ -74,7 +74,7 @@ impl LicenseStore {
 
     /// The first stored text with these words, which have a space after each.
     fn stored_with(&self, words: &str) -> Option<&StoreText>
-        ensures { (text : List ℕ) → words.now ≡ spelled (words_of text)
+        ensures { (text : List ℕ) → words.now ≡ words_with_spaces (words_of text)
             → option_copied result ≡ stored_for self.now text }
     {
         if words.is_empty() {
@@ -87,7 +87,7 @@ impl LicenseStore {
 
 /// The words of a text, with a space after each: ASCII letters, digits and spaces.
 fn key_of(alloc: Global, text: &str) -> Result<Text, AllocError>
-    ensures { IfOk result (λ key. key ≡ spelled (words_of text.now)) }
+    ensures { IfOk result (λ key. key ≡ words_with_spaces (words_of text.now)) }
 {
     let words = spelled_words(alloc, text)?;
     match String::from_utf8(words.into_vec()) {
@@ -103,7 +103,7 @@ fn add_place(
     body: &str,
     place: usize,
 ) -> Result<(), AllocError>
-    ensures { OnOk result (places.new ≡ with_new places.old (spelled (words_of body.now)) place) }
+    ensures { OnOk result (places.new ≡ with_new places.old (words_with_spaces (words_of body.now)) place) }
 {
     let key = key_of(alloc, body)?;
     if places.get(key.as_str()).is_none() {

@@ -3,7 +3,7 @@ ghost use Rattle.std.specs.Prelude.{◌≡◌, ◌↔◌, IsTrue, IfSome, IfNone
 ghost use Rattle.std.specs.List.{list_any};
 ghost use Rattle.std.specs.Str.{bytes_eq};
 ghost use Rattle.spdx_terms.specs.catalog.Catalog.{entry_of, IsLongestImprecise, BeginsNone, BeginsText};
-ghost use Rattle.spdx_terms.specs.catalog.NameOrder.{name_order, AreInOrder, told};
+ghost use Rattle.spdx_terms.specs.catalog.NameOrder.{name_order, AreInOrder, named_entries};
 ghost use Rattle.spdx_terms.specs.catalog.Words.{ends_word};
 ghost use Rattle.spdx_terms.specs.catalog.Table.{table_lists, table_is_catalog};
 
@@ -59,7 +59,7 @@ const GNU_LATER: LicenseEntry = LicenseEntry {
 };
 
 /// The licences of the table: beside each name its family, its rank and its marks.
-macro_rules! licences {
+macro_rules! licenses {
     ($($name:literal: $family:literal, $rank:literal, $marks:ident;)*) => {
         [
             $(TableLicense {
@@ -75,7 +75,7 @@ macro_rules! licences {
 }
 
 /// In the order in which names are looked up: by length, and those of one length in byte order.
-static LICENCES: [TableLicense; 84] = licences! {
+static LICENCES: [TableLicense; 84] = licenses! {
     "FTL": 14, 10, PLAIN;
     "ICU": 16, 10, PLAIN;
     "IJG": 17, 10, PLAIN;
@@ -214,11 +214,11 @@ fn name_order(name: &[u8], other: &[u8]) -> Ordering
 }
 
 /// What is known of a name among licences, which stand in the order of their names.
-fn entry_among(licences: &[TableLicense], name: &[u8]) -> Option<LicenseEntry>
-    requires { AreInOrder (told licences.now) }
-    ensures { result ≡ entry_of (told licences.now) name.now }
+fn entry_among(licenses: &[TableLicense], name: &[u8]) -> Option<LicenseEntry>
+    requires { AreInOrder (named_entries licenses.now) }
+    ensures { result ≡ entry_of (named_entries licenses.now) name.now }
 {
-    let (before, rest) = licences.split_at(licences.len() / 2);
+    let (before, rest) = licenses.split_at(licenses.len() / 2);
     match rest.split_first() {
         None => None,
         Some((middle, behind)) => match name_order(name, middle.name.as_bytes()) {

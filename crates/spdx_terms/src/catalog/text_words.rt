@@ -5,7 +5,7 @@ ghost use Rattle.std.specs.Char.{is_ascii_alphanumeric, is_ascii_digit};
 ghost use Rattle.std.specs.List.{list_all};
 ghost use Rattle.std.specs.Str.{str_to_ascii_lowercase};
 ghost use Rattle.spdx_terms.specs.catalog.TextWords.{is_between, is_copyright, line_words, lower_of, runs_of};
-ghost use Rattle.spdx_terms.specs.catalog.TextWords.{spelled, words_of};
+ghost use Rattle.spdx_terms.specs.catalog.TextWords.{words_with_spaces, words_of};
 
 use deny_text::Bytes;
 use std::alloc::{AllocError, Global};
@@ -69,7 +69,7 @@ fn push_word(words: &mut Bytes, run: &[u8]) -> Result<(), AllocError>
 
 /// Appends the words of a line, with a space after each.
 fn push_line(words: &mut Bytes, line: &[u8]) -> Result<(), AllocError>
-    ensures { OnOk result (words.new ≡ words.old ++ spelled (line_words line.now)) }
+    ensures { OnOk result (words.new ≡ words.old ++ words_with_spaces (line_words line.now)) }
 {
     if is_copyright(line) {
         return Ok(());
@@ -84,7 +84,7 @@ fn push_line(words: &mut Bytes, line: &[u8]) -> Result<(), AllocError>
 
 /// The words of a text, with a space after each.
 pub(crate) fn spelled_words(alloc: Global, text: &str) -> Result<Bytes, AllocError>
-    ensures { IfOk result (λ words. words ≡ spelled (words_of text.now)) }
+    ensures { IfOk result (λ words. words ≡ words_with_spaces (words_of text.now)) }
 {
     let mut words = Bytes::new(alloc);
     'lines: for line in text.split('\n') {

@@ -1,7 +1,7 @@
 -- What follows from an answer.
 use Rattle.std.proofs.Common.{◌≡◌, ℕ, ◌⊎◌, inl, inr, Bool, true, false, cond, List, Option, Some, None, Ok, Err, option_map, option_and_then, true≢false, refl, ap, sym}
-use Rattle.toml_subset.specs.Answer.{TomlReading, then_read, unless}
-use Rattle.toml_subset.specs.Reading.{made}
+use Rattle.toml_subset.specs.Answer.{TomlReading, then_read, fault_or}
+use Rattle.toml_subset.specs.Reading.{edit_reading}
 use Rattle.toml_subset.specs.declared.error.SyntaxError.{SyntaxError}
 
 pub map_some : {A B : Type 0} (f : A → B) (o : Option A) (r : B) → option_map f o ≡ Some r → (x : A) × (o ≡ Some x) × (f x ≡ r)
@@ -25,11 +25,11 @@ pub then_ok : {A B : Type 0} (f : A → TomlReading B) (o : TomlReading A) (r : 
 then_ok f (Err fault) r e = absurd (not_ok fault r e)
 then_ok f (Ok x) r e = (x, refl, e)
 
-pub unless_ok : {A : Type 0} (fault : Option SyntaxError) (o : TomlReading A) (r : A) → unless fault o ≡ Ok r → (fault ≡ None) × (o ≡ Ok r)
+pub unless_ok : {A : Type 0} (fault : Option SyntaxError) (o : TomlReading A) (r : A) → fault_or fault o ≡ Ok r → (fault ≡ None) × (o ≡ Ok r)
 unless_ok (Some fault) o r e = absurd (not_ok fault r e)
 unless_ok None o r e = (refl, e)
 
-pub made_ok : {A : Type 0} (text : List ℕ) (o : Option A) (r : A) → made text o ≡ Ok r → o ≡ Some r
+pub made_ok : {A : Type 0} (text : List ℕ) (o : Option A) (r : A) → edit_reading text o ≡ Ok r → o ≡ Some r
 made_ok text (Some x) r e = ap (λ y. Some y) (is_ok x r e)
 made_ok text None r e = absurd (not_ok _ r e)
 

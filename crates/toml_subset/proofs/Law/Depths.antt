@@ -3,7 +3,7 @@ use Rattle.std.proofs.Common.{◌≡◌, ℕ, ◌+◌, ◌≤◌, ⊎_elim, true
 use Rattle.deny_text.specs.declared.span.Span.{Span}
 use Rattle.toml_subset.specs.Data.{depth_of, items_depth, entries_depth}
 use Rattle.toml_subset.specs.TableFaults.{Inside, table_node_at, last_of, inside_any, inside_dotted}
-use Rattle.toml_subset.specs.Tables.{by_header, implicit, dotted, Node, Branches, Bodies, closed, growing, tables, unbranched, branch, last, body, content_of, entries_of, items_of, same_key, has_key, added, changed, in_last, through_any, through_dotted, with_table}
+use Rattle.toml_subset.specs.Tables.{by_header, implicit, dotted, Node, Branches, Bodies, closed, growing, tables, unbranched, branch, last, body, content_of, entries_of, items_of, same_key, has_key, branches_with_key, branches_with_edit, in_last, through_any, through_dotted, with_table}
 use Rattle.toml_subset.specs.declared.string.Key.{Key}
 use Rattle.toml_subset.proofs.Law.Basics.{map_some, is_some, if_is, if_true, if_false}
 
@@ -38,7 +38,7 @@ none_has key (branch other here more) e =
 
 -- a further key
 
-pub added_depth : (key : Key) (node : Node) (branches : Branches) → depth (added key node branches) ≡ max (depth branches) (node_depth node)
+pub added_depth : (key : Key) (node : Node) (branches : Branches) → depth (branches_with_key key node branches) ≡ max (depth branches) (node_depth node)
 added_depth key node unbranched = omega arith
 added_depth key node (branch other here more) = let rest = added_depth key node more in omega arith
 
@@ -52,7 +52,7 @@ pub record Changed (f : Node → Option Node) (key : Key) (branches new : Branch
   pub least : node_depth made ≤ depth new
   pub grows : node_depth node ≤ node_depth made → depth branches ≤ depth new
 
-pub is_changed : (f : Node → Option Node) (key : Key) (branches new : Branches) → changed f key branches ≡ Some new → Changed f key branches new
+pub is_changed : (f : Node → Option Node) (key : Key) (branches new : Branches) → branches_with_edit f key branches ≡ Some new → Changed f key branches new
 is_changed f key unbranched new e = absurd (cc)
 is_changed f key (branch other here more) new e =
     ⊎_elim
@@ -68,7 +68,7 @@ is_changed f key (branch other here more) new e =
       grows = λ more_deep. omega arith;
     }))
     (λ h.
-    let found = map_some (branch other here) (changed f key more) new h.1 in
+    let found = map_some (branch other here) (branches_with_edit f key more) new h.1 in
     let rest = is_changed f key more found.0 found.1 in
     subst (Changed f key (branch other here more)) found.2 (record {
       node = rest.node;
@@ -79,7 +79,7 @@ is_changed f key (branch other here more) new e =
       least = let under = rest.least in omega arith;
       grows = λ more_deep. let under = rest.grows more_deep in omega arith;
     }))
-    (if_is (same_key key other) (option_map (λ x. branch other x more) (f here)) (option_map (branch other here) (changed f key more)) (Some new) e)
+    (if_is (same_key key other) (option_map (λ x. branch other x more) (f here)) (option_map (branch other here) (branches_with_edit f key more)) (Some new) e)
 
 -- a changed last table of an array
 pub record LastChanged (edit : Branches → Option Branches) (bodies made : Bodies) : Type 0 where

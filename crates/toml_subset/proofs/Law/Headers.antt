@@ -4,8 +4,8 @@ use Rattle.std.proofs.lemmas.Bool.Decides.{nat_tests}
 use Rattle.deny_text.specs.declared.span.Span.{Span}
 use Rattle.toml_subset.specs.Data.{depth_limit}
 use Rattle.toml_subset.specs.Reading.{section_of}
-use Rattle.toml_subset.specs.TableFaults.{Inside, table_node_at, inside_any, refused, taken_over_fault, open_table_fault, header_fault, appended_fault, open_array_fault, array_header_fault}
-use Rattle.toml_subset.specs.Tables.{by_header, implicit, dotted, Node, Branches, closed, growing, tables, unbranched, last, has_key, added, changed, through_any, along, take_over, open_table, append_to, open_array, within}
+use Rattle.toml_subset.specs.TableFaults.{Inside, table_node_at, inside_any, fault_at_key, taken_over_fault, open_table_fault, header_fault, appended_fault, open_array_fault, array_header_fault}
+use Rattle.toml_subset.specs.Tables.{by_header, implicit, dotted, Node, Branches, closed, growing, tables, unbranched, last, has_key, branches_with_key, branches_with_edit, through_any, edit_along, take_over, open_table, append_to, open_array, edit_within}
 use Rattle.toml_subset.specs.declared.error.SyntaxError.{SyntaxError}
 use Rattle.toml_subset.specs.declared.error.SyntaxReason.TheVariants.{TooDeep}
 use Rattle.toml_subset.specs.declared.string.Key.{Key}
@@ -19,7 +19,7 @@ module _ (change : Node → Option Node) (fresh : Node) (fault : Key → Node �
     (free : (key : Key) (above : ℕ) → absent key above ≡ None → above ≤ depth_limit → above + node_depth fresh ≤ depth_limit)
     (back : (key : Key) (above : ℕ) → above + node_depth fresh ≤ depth_limit → absent key above ≡ None) where
   abbrev edit_by : Key → Branches → Option Branches
-  edit_by key branches = cond (has_key key branches) (changed change key branches) (Some (added key fresh branches))
+  edit_by key branches = cond (has_key key branches) (branches_with_edit change key branches) (Some (branches_with_key key fresh branches))
 
   abbrev fault_by : Key → ℕ → Option Node → Option SyntaxError
   fault_by key above (Some node) = fault key node
@@ -30,7 +30,7 @@ module _ (change : Node → Option Node) (fresh : Node) (fault : Key → Node �
       ⊎_elim
       (λ h. let changed_it = is_changed change key branches new h.1 in let same = (changes key changed_it.node changed_it.made changed_it.is).1 in changed_it.grows (omega arith))
       (λ h. let same = ap depth (is_some _ new h.1) in let grown = added_depth key fresh branches in omega arith)
-      (if_is (has_key key branches) (changed change key branches) (Some (added key fresh branches)) (Some new) e)
+      (if_is (has_key key branches) (branches_with_edit change key branches) (Some (branches_with_key key fresh branches)) (Some new) e)
 
   pub edit_below : (key : Key) (branches new : Branches) (above : ℕ) → fault_by key above (table_node_at key branches) ≡ None → edit_by key branches ≡ Some new
       → above + depth branches ≤ depth_limit → above + depth new ≤ depth_limit
@@ -47,7 +47,7 @@ module _ (change : Node → Option Node) (fresh : Node) (fault : Key → Node �
       let same = ap depth (is_some _ new h.1) in
       let grown = added_depth key fresh branches in
       omega arith)
-      (if_is (has_key key branches) (changed change key branches) (Some (added key fresh branches)) (Some new) e)
+      (if_is (has_key key branches) (branches_with_edit change key branches) (Some (branches_with_key key fresh branches)) (Some new) e)
 
   pub edit_free : (key : Key) (branches new : Branches) (above : ℕ) → edit_by key branches ≡ Some new → above + depth new ≤ depth_limit
       → fault_by key above (table_node_at key branches) ≡ None
@@ -60,7 +60,7 @@ module _ (change : Node → Option Node) (fresh : Node) (fault : Key → Node �
       let same = ap depth (is_some _ new h.1) in
       let grown = added_depth key fresh branches in
       ap (fault_by key above) (has_none key branches h.0) ∙ back key above (omega arith))
-      (if_is (has_key key branches) (changed change key branches) (Some (added key fresh branches)) (Some new) e)
+      (if_is (has_key key branches) (branches_with_edit change key branches) (Some (branches_with_key key fresh branches)) (Some new) e)
 
 -- table headers
 
@@ -72,14 +72,14 @@ taken at key (growing span dotted branches) made e = absurd (cc)
 taken at key (tables span bodies) made e = absurd (cc)
 
 abbrev absent_table : Key → ℕ → Option SyntaxError
-absent_table key above = cond (eqb above depth_limit) (refused TooDeep key) None
+absent_table key above = cond (eqb above depth_limit) (fault_at_key TooDeep key) None
 
 table_free : (key : Key) (above : ℕ) → absent_table key above ≡ None → above ≤ depth_limit → above + 1 ≤ depth_limit
 table_free key above e low =
-    ⊎_elim (λ h. let other = h.1 in absurd (cc)) (λ h. grind (arith, nat_tests)) (if_is (eqb above depth_limit) (refused TooDeep key) None None e)
+    ⊎_elim (λ h. let other = h.1 in absurd (cc)) (λ h. grind (arith, nat_tests)) (if_is (eqb above depth_limit) (fault_at_key TooDeep key) None None e)
 
 table_back : (key : Key) (above : ℕ) → above + 1 ≤ depth_limit → absent_table key above ≡ None
-table_back key above room = if_false (eqb above depth_limit) (refused TooDeep key) None (grind (arith, nat_tests))
+table_back key above room = if_false (eqb above depth_limit) (fault_at_key TooDeep key) None (grind (arith, nat_tests))
 
 abbrev fresh_table : Span → Node
 fresh_table at = growing at by_header unbranched
@@ -93,7 +93,7 @@ table_fault_is at key branches above =
 abbrev Any : ℕ → List Key → Type 0
 Any above keys = Unit {0}
 
-pub header_below : (at : Span) (keys : List Key) (root new : Branches) → header_fault keys root ≡ None → along implicit through_any (open_table at) keys root ≡ Some new
+pub header_below : (at : Span) (keys : List Key) (root new : Branches) → header_fault keys root ≡ None → edit_along implicit through_any (open_table at) keys root ≡ Some new
     → depth root ≤ depth_limit → depth new ≤ depth_limit
 header_below at keys root new none e low =
     let under = way_below implicit through_any inside_any (open_table at) open_table_fault Any any_entered
@@ -103,7 +103,7 @@ header_below at keys root new none e low =
     (λ key next more node found above is room. tt) (λ key next more above room. tt) keys root new 0 none e tt (omega arith) in
     omega arith
 
-pub header_free : (at : Span) (keys : List Key) (root new : Branches) → along implicit through_any (open_table at) keys root ≡ Some new
+pub header_free : (at : Span) (keys : List Key) (root new : Branches) → edit_along implicit through_any (open_table at) keys root ≡ Some new
     → depth new ≤ depth_limit → header_fault keys root ≡ None
 header_free at keys root new e low =
     (way_free implicit through_any inside_any (open_table at) open_table_fault Any any_entered
@@ -114,7 +114,7 @@ header_free at keys root new e low =
     ))
     (λ key next more node found above is room. tt) (λ key next more above room. tt) keys root new 0 e (omega arith)).0
 
-pub header_grows : (at : Span) (keys : List Key) (root new : Branches) → along implicit through_any (open_table at) keys root ≡ Some new → depth root ≤ depth new
+pub header_grows : (at : Span) (keys : List Key) (root new : Branches) → edit_along implicit through_any (open_table at) keys root ≡ Some new → depth root ≤ depth new
 header_grows at keys root new e =
     way_grows implicit through_any inside_any (open_table at) open_table_fault Any any_entered
     (edit_grown (take_over at) (fresh_table at) taken_over_fault absent_table (taken at) table_free table_back) keys root new e
@@ -128,14 +128,14 @@ appended at key (tables span bodies) made e =
     (refl, let same = ap node_depth (is_some _ made e) in let whole = with_table_depth at bodies in omega arith)
 
 abbrev absent_array : Key → ℕ → Option SyntaxError
-absent_array key above = cond (nat_lt (above + 1) depth_limit) None (refused TooDeep key)
+absent_array key above = cond (nat_lt (above + 1) depth_limit) None (fault_at_key TooDeep key)
 
 array_free : (key : Key) (above : ℕ) → absent_array key above ≡ None → above ≤ depth_limit → above + 2 ≤ depth_limit
 array_free key above e low =
-    ⊎_elim (λ h. grind (arith, nat_tests)) (λ h. let other = h.1 in absurd (cc)) (if_is (nat_lt (above + 1) depth_limit) None (refused TooDeep key) None e)
+    ⊎_elim (λ h. grind (arith, nat_tests)) (λ h. let other = h.1 in absurd (cc)) (if_is (nat_lt (above + 1) depth_limit) None (fault_at_key TooDeep key) None e)
 
 array_back : (key : Key) (above : ℕ) → above + 2 ≤ depth_limit → absent_array key above ≡ None
-array_back key above room = if_true (nat_lt (above + 1) depth_limit) None (refused TooDeep key) (grind (arith, nat_tests))
+array_back key above room = if_true (nat_lt (above + 1) depth_limit) None (fault_at_key TooDeep key) (grind (arith, nat_tests))
 
 abbrev fresh_array : Span → Node
 fresh_array at = tables at (last at unbranched)
@@ -146,7 +146,7 @@ array_fault_is at key branches above =
     elim (table_node_at key branches) as (λ o. elim o [ Some node ↦ appended_fault key node | None ↦ absent_array key above ]
     ≡ fault_by (append_to at) (fresh_array at) appended_fault absent_array (appended at) array_free array_back key above o) [ Some node ↦ refl | None ↦ refl ]
 
-pub array_header_below : (at : Span) (keys : List Key) (root new : Branches) → array_header_fault keys root ≡ None → along implicit through_any (open_array at) keys root ≡ Some new
+pub array_header_below : (at : Span) (keys : List Key) (root new : Branches) → array_header_fault keys root ≡ None → edit_along implicit through_any (open_array at) keys root ≡ Some new
     → depth root ≤ depth_limit → depth new ≤ depth_limit
 array_header_below at keys root new none e low =
     let under = way_below implicit through_any inside_any (open_array at) open_array_fault Any any_entered
@@ -156,7 +156,7 @@ array_header_below at keys root new none e low =
     (λ key next more node found above is room. tt) (λ key next more above room. tt) keys root new 0 none e tt (omega arith) in
     omega arith
 
-pub array_header_free : (at : Span) (keys : List Key) (root new : Branches) → along implicit through_any (open_array at) keys root ≡ Some new
+pub array_header_free : (at : Span) (keys : List Key) (root new : Branches) → edit_along implicit through_any (open_array at) keys root ≡ Some new
     → depth new ≤ depth_limit → array_header_fault keys root ≡ None
 array_header_free at keys root new e low =
     (way_free implicit through_any inside_any (open_array at) open_array_fault Any any_entered
@@ -167,7 +167,7 @@ array_header_free at keys root new e low =
     ))
     (λ key next more node found above is room. tt) (λ key next more above room. tt) keys root new 0 e (omega arith)).0
 
-pub array_header_grows : (at : Span) (keys : List Key) (root new : Branches) → along implicit through_any (open_array at) keys root ≡ Some new → depth root ≤ depth new
+pub array_header_grows : (at : Span) (keys : List Key) (root new : Branches) → edit_along implicit through_any (open_array at) keys root ≡ Some new → depth root ≤ depth new
 array_header_grows at keys root new e =
     way_grows implicit through_any inside_any (open_array at) open_array_fault Any any_entered
     (edit_grown (append_to at) (fresh_array at) appended_fault absent_array (appended at) array_free array_back) keys root new e
@@ -208,7 +208,7 @@ record WithinAt (here : Inside) (edit : Branches → Option Branches) (root new 
   pub least : here.1 + depth made ≤ above + depth new
   pub grows : depth here.0 ≤ depth made → depth root ≤ depth new
 
-within_at : (section : List Key) (edit : Branches → Option Branches) (root new : Branches) (above : ℕ) → within section edit root ≡ Some new
+within_at : (section : List Key) (edit : Branches → Option Branches) (root new : Branches) (above : ℕ) → edit_within section edit root ≡ Some new
     → WithinAt (section_of section root above) edit root new above
 within_at [] edit root new above e = record {
   made = new;
@@ -219,8 +219,8 @@ within_at [] edit root new above e = record {
   grows = λ more_deep. more_deep;
 }
 within_at (key ∷ more) edit root new above e =
-    let change = is_changed (through_any (within more edit)) key root new e in
-    let into = any_entered (within more edit) change.node change.made change.is in
+    let change = is_changed (through_any (edit_within more edit)) key root new e in
+    let into = any_entered (edit_within more edit) change.node change.made change.is in
     let found = into.found in
     let rest = within_at more edit found.0 into.new (above + found.1) into.is in
     let same : section_of (key ∷ more) root above ≡ section_of more found.0 (above + found.1) =
@@ -236,7 +236,7 @@ within_at (key ∷ more) edit root new above e =
       grows = λ more_deep. change.grows (into.grows (rest.grows more_deep));
     })
 
-pub is_within : (section : List Key) (edit : Branches → Option Branches) (root new : Branches) (above : ℕ) → within section edit root ≡ Some new
+pub is_within : (section : List Key) (edit : Branches → Option Branches) (root new : Branches) (above : ℕ) → edit_within section edit root ≡ Some new
     → Within section edit root new above
 is_within section edit root new above e =
     let at = within_at section edit root new above e in

@@ -3,7 +3,7 @@ use Rattle.std.proofs.Common.{◌≡◌, ℕ, zero, suc, ◌+◌, ◌-◌, ◌<�
 use Rattle.std.proofs.lemmas.Bool.Decides.{nat_tests}
 use Rattle.std.proofs.lemmas.List.Sums.{prefix_len-le-length}
 use Rattle.std.specs.List.{prefix_len}
-use Rattle.toml_subset.specs.Answer.{TomlReading, fault_at, stuck, then_read, unless}
+use Rattle.toml_subset.specs.Answer.{TomlReading, fault_at, stop_error, then_read, fault_or}
 use Rattle.deny_text.specs.Character.{goes_on}
 use Rattle.toml_subset.specs.Bytes.{quote, apostrophe, backslash, dot, equals, hash, comma, open_bracket, close_bracket, open_brace, close_brace, is_bare, is_run, may_stand}
 use Rattle.toml_subset.specs.Data.{depth_limit}
@@ -13,12 +13,12 @@ use Rattle.toml_subset.specs.Keys.{IsKey, AreKeys}
 use Rattle.toml_subset.specs.Lines.{Document, no_lines}
 use Rattle.toml_subset.specs.Numbers.{Class, unsupported, number_form, number_range, integer, decimal, class_of, is_digit_in}
 use Rattle.toml_subset.specs.Places.{from_to, passes_at, stands, run_end, run_at, after_blanks, after_comment, behind_line_end, next_line, after_space, char_end, in_comment}
-use Rattle.toml_subset.specs.Reading.{number_read, shared_len, word_read, read_scalar, cut_in_comment, space_fault, array_items_behind, made, entries_behind, entry_put, array_read, table_read, table_from, read_value, read_items, read_entries, enough, value_at, section_of, LineFound, line_rest, with_root, is_blank_line, pair_put, pair_from, header_from, array_header_from, line_from, read_lines, read_text}
+use Rattle.toml_subset.specs.Reading.{number_read, shared_len, word_read, read_scalar, cut_in_comment, space_fault, array_items_behind, edit_reading, entries_behind, entry_put, array_read, table_read, table_from, read_value, read_items, read_entries, call_bound, value_at, section_of, LineFound, line_rest, with_root, is_blank_line, pair_put, pair_from, header_from, array_header_from, line_from, read_lines, read_text}
 use Rattle.toml_subset.specs.Raw.{word_of}
 use Rattle.toml_subset.specs.StringReading.{scalar_fault, escape_is_cut, escape_fault, part_fault, Pieces, after_part, read_pieces, string_from, read_string, begins_long, read_key, KeysFound, keys_behind, read_keys, keys_at, equals_behind, read_left}
 use Rattle.toml_subset.specs.Strings.{Quoting, mark_of, has_escapes, StringPiece, StringPart, piece, closing, broken, opening, part_at, ArePieces, IsString}
-use Rattle.toml_subset.specs.TableFaults.{Inside, table_node_at, inside_any, inside_dotted, refused, way_fault, new_key_fault, put_fault, taken_over_fault, open_table_fault, header_fault, appended_fault, open_array_fault, array_header_fault}
-use Rattle.toml_subset.specs.Tables.{Node, Branches, by_header, implicit, dotted, closed, growing, tables, unbranched, has_key, put}
+use Rattle.toml_subset.specs.TableFaults.{Inside, table_node_at, inside_any, inside_dotted, fault_at_key, way_fault, new_key_fault, put_fault, taken_over_fault, open_table_fault, header_fault, appended_fault, open_array_fault, array_header_fault}
+use Rattle.toml_subset.specs.Tables.{Node, Branches, by_header, implicit, dotted, closed, growing, tables, unbranched, has_key, branches_with_value}
 use Rattle.toml_subset.specs.declared.error.SyntaxError.{SyntaxError}
 use Rattle.toml_subset.specs.declared.error.SyntaxReason.{SyntaxReason}
 use Rattle.toml_subset.specs.declared.error.SyntaxReason.TheVariants.{Unexpected, InvalidEscape, ControlCharacter, RedefinedTable, TooDeep}
@@ -58,7 +58,7 @@ some_if : (b : Bool) (text : List ℕ) (x y : Option SyntaxError) → (b ≡ tru
 some_if true text x y first second = first refl
 some_if false text x y first second = second refl
 
-unless_lies : {A : Type 0} (text : List ℕ) (fault : Option SyntaxError) (o : TomlReading A) → SomeLies text fault → ErrLies text o → ErrLies text (unless fault o)
+unless_lies : {A : Type 0} (text : List ℕ) (fault : Option SyntaxError) (o : TomlReading A) → SomeLies text fault → ErrLies text o → ErrLies text (fault_or fault o)
 unless_lies text (Some fault) o here further = here
 unless_lies text None o here further = further
 
@@ -68,7 +68,7 @@ run_inside p text i inside = let least = prefix_len-le-length p (drop i text) in
 char_lies : (reason : SyntaxReason) (text : List ℕ) (i j : ℕ) → i ≤ j → j < length text → Lies text (fault_at reason i (char_end text j))
 char_lies reason text i j le inside = let whole = run_inside goes_on text (j + 1) (omega arith) in (omega arith, omega arith)
 
-stuck_lies : (text : List ℕ) (i : ℕ) → Lies text (stuck text i)
+stuck_lies : (text : List ℕ) (i : ℕ) → Lies text (stop_error text i)
 stuck_lies text i =
     if_so (nat_lt i (length text)) text _ _ (λ h. let inside : i < length text = grind (arith, nat_tests) in char_lies Unexpected text i i (omega arith) inside)
     (λ h. (omega arith, omega arith))
@@ -123,7 +123,7 @@ pieces_lie (suc n) kind text i = after_part_lies kind text i (read_pieces n kind
 
 string_lies : (text : List ℕ) (i : ℕ) → ErrLies text (read_string text i)
 string_lies text i =
-    elim (opening text i) as (λ o. ErrLies text (elim o [ Some first ↦ string_from text first | None ↦ Err (stuck text i) ])) [
+    elim (opening text i) as (λ o. ErrLies text (elim o [ Some first ↦ string_from text first | None ↦ Err (stop_error text i) ])) [
       | Some first ↦ then_lies text _ (read_pieces (suc (length text)) first.0 text first.1) (pieces_lie (suc (length text)) first.0 text first.1) (λ x is. tt)
       | None ↦ stuck_lies text i
     ]
@@ -195,10 +195,10 @@ way_lies inside end points text [] branches above lie = tt
 way_lies inside end points text (key ∷ []) branches above lie = points text key branches above lie.0
 way_lies inside end points text (key ∷ next ∷ more) branches above lie =
     elim (table_node_at key branches) as (λ o. SomeLies text (elim o [
-      | Some node ↦ elim (inside node) [ Some found ↦ way_fault inside end (next ∷ more) found.0 (above + found.1) | None ↦ refused RedefinedTable key ]
-      | None ↦ cond (eqb above depth_limit) (refused TooDeep key) (way_fault inside end (next ∷ more) unbranched (above + 1))
+      | Some node ↦ elim (inside node) [ Some found ↦ way_fault inside end (next ∷ more) found.0 (above + found.1) | None ↦ fault_at_key RedefinedTable key ]
+      | None ↦ cond (eqb above depth_limit) (fault_at_key TooDeep key) (way_fault inside end (next ∷ more) unbranched (above + 1))
     ])) [
-      | Some node ↦ elim (inside node) as (λ o. SomeLies text (elim o [ Some found ↦ way_fault inside end (next ∷ more) found.0 (above + found.1) | None ↦ refused RedefinedTable key ])) [
+      | Some node ↦ elim (inside node) as (λ o. SomeLies text (elim o [ Some found ↦ way_fault inside end (next ∷ more) found.0 (above + found.1) | None ↦ fault_at_key RedefinedTable key ])) [
         | Some found ↦ way_lies inside end points text (next ∷ more) found.0 (above + found.1) lie.1
         | None ↦ lie.0
       ]
@@ -217,7 +217,7 @@ taken_points text key (tables span bodies) lie = lie
 
 open_table_points : PointsAt open_table_fault
 open_table_points text key branches above lie =
-    elim (table_node_at key branches) as (λ o. SomeLies text (elim o [ Some node ↦ taken_over_fault key node | None ↦ cond (eqb above depth_limit) (refused TooDeep key) None ])) [
+    elim (table_node_at key branches) as (λ o. SomeLies text (elim o [ Some node ↦ taken_over_fault key node | None ↦ cond (eqb above depth_limit) (fault_at_key TooDeep key) None ])) [
       | Some node ↦ taken_points text key node lie
       | None ↦ some_if (eqb above depth_limit) text _ _ (λ h. lie) (λ h. tt)
     ]
@@ -229,7 +229,7 @@ appended_points text key (tables span bodies) lie = tt
 
 open_array_points : PointsAt open_array_fault
 open_array_points text key branches above lie =
-    elim (table_node_at key branches) as (λ o. SomeLies text (elim o [ Some node ↦ appended_fault key node | None ↦ cond (nat_lt (above + 1) depth_limit) None (refused TooDeep key) ])) [
+    elim (table_node_at key branches) as (λ o. SomeLies text (elim o [ Some node ↦ appended_fault key node | None ↦ cond (nat_lt (above + 1) depth_limit) None (fault_at_key TooDeep key) ])) [
       | Some node ↦ appended_points text key node lie
       | None ↦ some_if (nat_lt (above + 1) depth_limit) text _ _ (λ h. tt) (λ h. lie)
     ]
@@ -272,7 +272,7 @@ space_lies text i =
     (omega arith, omega arith))
     (λ h. stuck_lies text j)
 
-made_lies : {A : Type 0} (text : List ℕ) (o : Option A) → ErrLies text (made text o)
+made_lies : {A : Type 0} (text : List ℕ) (o : Option A) → ErrLies text (edit_reading text o)
 made_lies text (Some x) = tt
 made_lies text None = stuck_lies text (length text)
 
@@ -316,7 +316,7 @@ mutual
       (way_lies inside_dotted new_key_fault new_key_points text left.0 branches above (keys_spans text i left.0 at.0 at.1))
       (then_lies text (entry_put (read_entries n text above) text left.0 branches) (read_value n text high left.1) (value_lies n text high left.1)
       (λ v is.
-      then_lies text (entries_behind (read_entries n text above) text v.2) (made text (put left.0 (closed v.0 v.1) branches)) (made_lies text _)
+      then_lies text (entries_behind (read_entries n text above) text v.2) (edit_reading text (branches_with_value left.0 (closed v.0 v.1) branches)) (made_lies text _)
       (λ new is_new.
       let k = after_blanks text v.2 in
       if_lies (stands text k close_brace) text _ _ (λ last_one. tt)
@@ -336,7 +336,7 @@ rest_lies text i document =
     let j = after_comment text b in
     elim (next_line text i) as (λ o. next_line text i ≡ o → ErrLies {A = LineFound} text (elim o [
       | Some next ↦ Ok (document, next)
-      | None ↦ cond (stands text b hash) (Err (fault_at ControlCharacter j (j + 1))) (Err (stuck text j))
+      | None ↦ cond (stands text b hash) (Err (fault_at ControlCharacter j (j + 1))) (Err (stop_error text j))
     ])) [
       | Some next ↦ λ is. tt
       | None ↦ λ is.
@@ -351,7 +351,7 @@ rest_lies text i document =
     ] refl
 
 with_root_lies : (text : List ℕ) (i : ℕ) (section : List Key) (root : Option Branches) → ErrLies text (with_root text i section root)
-with_root_lies text i section root = then_lies text _ (made text root) (made_lies text root) (λ b is. rest_lies text i _)
+with_root_lies text i section root = then_lies text _ (edit_reading text root) (made_lies text root) (λ b is. rest_lies text i _)
 
 pair_lies : (text : List ℕ) (document : Document) (j : ℕ) (left : KeysFound) → read_left text j ≡ Ok left → ErrLies text (pair_from text document left)
 pair_lies text document j left is_left =
@@ -359,7 +359,7 @@ pair_lies text document j left is_left =
     let at = left_sound text j left is_left in
     unless_lies text (put_fault left.0 here.0 here.1) _
     (way_lies inside_dotted new_key_fault new_key_points text left.0 here.0 here.1 (keys_spans text j left.0 at.0 at.1))
-    (then_lies text (pair_put text left.0 document) (value_at text (here.1 + (length left.0 - 1)) left.1) (value_lies (enough text) text _ left.1)
+    (then_lies text (pair_put text left.0 document) (value_at text (here.1 + (length left.0 - 1)) left.1) (value_lies (call_bound text) text _ left.1)
     (λ v is. with_root_lies text v.2 document.section _))
 
 header_lies : (text : List ℕ) (i k : ℕ) (document : Document) (keys : KeysFound) → keys_at text k ≡ Ok keys → ErrLies text (header_from text i document keys)

@@ -2,8 +2,8 @@
 use Rattle.std.proofs.Common.{◌≡◌, ℕ, ◌+◌, ◌<◌, ⊎_elim, Bool, true, false, cond, eqb, List, [], ◌∷◌, length, Option, Some, None, option_map, refl, ap, sym, subst, ◌∙◌, arith}
 use Rattle.deny_text.specs.declared.span.Span.{Span}
 use Rattle.toml_subset.specs.Data.{depth_limit}
-use Rattle.toml_subset.specs.TableFaults.{Inside, table_node_at, last_of, inside_any, inside_dotted, refused, way_fault, new_key_fault, put_fault, taken_over_fault, open_table_fault, header_fault, appended_fault, open_array_fault, array_header_fault}
-use Rattle.toml_subset.specs.Tables.{Mark, by_header, implicit, dotted, Node, Branches, Bodies, closed, growing, tables, last, body, unbranched, branch, same_key, has_key, added, changed, in_last, through_any, through_dotted, along, put_new, put, take_over, open_table, with_table, append_to, open_array}
+use Rattle.toml_subset.specs.TableFaults.{Inside, table_node_at, last_of, inside_any, inside_dotted, fault_at_key, way_fault, new_key_fault, put_fault, taken_over_fault, open_table_fault, header_fault, appended_fault, open_array_fault, array_header_fault}
+use Rattle.toml_subset.specs.Tables.{Mark, by_header, implicit, dotted, Node, Branches, Bodies, closed, growing, tables, last, body, unbranched, branch, same_key, has_key, branches_with_key, branches_with_edit, in_last, through_any, through_dotted, edit_along, put_new, branches_with_value, take_over, open_table, with_table, append_to, open_array}
 use Rattle.toml_subset.specs.declared.error.SyntaxError.{SyntaxError}
 use Rattle.toml_subset.specs.declared.error.SyntaxReason.TheVariants.{DuplicateKey, RedefinedTable, TooDeep}
 use Rattle.toml_subset.specs.declared.string.Key.{Key}
@@ -24,7 +24,7 @@ some_has key (branch other here more) node e =
     (λ h. if_false (same_key key other) true (has_key key more) h.0 ∙ some_has key more node h.1)
     (if_is (same_key key other) (Some here) (table_node_at key more) (Some node) e)
 
-change_made : (f : Node → Option Node) (key : Key) (branches : Branches) (node : Node) → table_node_at key branches ≡ Some node → IsMade (f node) → IsMade (changed f key branches)
+change_made : (f : Node → Option Node) (key : Key) (branches : Branches) (node : Node) → table_node_at key branches ≡ Some node → IsMade (f node) → IsMade (branches_with_edit f key branches)
 change_made f key unbranched node e made = absurd (cc)
 change_made f key (branch other here more) node e made =
     ⊎_elim
@@ -33,7 +33,7 @@ change_made f key (branch other here more) node e made =
     let first = map_made (λ new. branch other new more) (f here) (subst (λ n. IsMade (f n)) (sym same) made) in
     (first.0, if_true (same_key key other) _ _ h.0 ∙ first.1))
     (λ h.
-    let rest = map_made (branch other here) (changed f key more) (change_made f key more node h.1 made) in
+    let rest = map_made (branch other here) (branches_with_edit f key more) (change_made f key more node h.1 made) in
     (rest.0, if_false (same_key key other) _ _ h.0 ∙ rest.1))
     (if_is (same_key key other) (Some here) (table_node_at key more) (Some node) e)
 
@@ -41,18 +41,18 @@ module _ (mark : Mark) (through : Through) (inside : Node → Option Inside) (ed
     (ends : (key : Key) (branches : Branches) (above : ℕ) → end key branches above ≡ None → IsMade (edit key branches))
     (enters : (f : Branches → Option Branches) (node : Node) (found : Inside) → inside node ≡ Some found → IsMade (f found.0) → IsMade (through f node)) where
   pub way_made : (keys : List Key) (branches : Branches) (above : ℕ) → 0 < length keys → way_fault inside end keys branches above ≡ None
-      → IsMade (along mark through edit keys branches)
+      → IsMade (edit_along mark through edit keys branches)
   way_made [] branches above some free = absurd (omega arith)
   way_made (key ∷ []) branches above some free = ends key branches above free
   way_made (key ∷ next ∷ more) branches above some free =
       let here = sym (way_step inside end key next more branches above) ∙ free in
-      elim (table_node_at key branches) as (λ o. table_node_at key branches ≡ o → node_fault inside end key next more above o ≡ None → IsMade (along mark through edit (key ∷ next ∷ more) branches)) [
+      elim (table_node_at key branches) as (λ o. table_node_at key branches ≡ o → node_fault inside end key next more above o ≡ None → IsMade (edit_along mark through edit (key ∷ next ∷ more) branches)) [
         | Some node ↦ λ there is.
-            elim (inside node) as (λ o. inside node ≡ o → inside_fault inside end key next more above o ≡ None → IsMade (along mark through edit (key ∷ next ∷ more) branches)) [
+            elim (inside node) as (λ o. inside node ≡ o → inside_fault inside end key next more above o ≡ None → IsMade (edit_along mark through edit (key ∷ next ∷ more) branches)) [
               | Some found ↦ λ into rest.
                   let under = way_made (next ∷ more) found.0 (above + found.1) (omega arith) rest in
-                  let change = change_made (through (along mark through edit (next ∷ more))) key branches node there
-                  (enters (along mark through edit (next ∷ more)) node found into under) in (
+                  let change = change_made (through (edit_along mark through edit (next ∷ more))) key branches node there
+                  (enters (edit_along mark through edit (next ∷ more)) node found into under) in (
                     change.0,
                     along_step mark through edit key next more branches
                         ∙ ap (along_by mark through edit key next more branches) (some_has key branches node there) ∙ change.1,
@@ -62,19 +62,19 @@ module _ (mark : Mark) (through : Through) (inside : Node → Option Inside) (ed
         | None ↦ λ there is.
             ⊎_elim (λ h. let other = h.1 in absurd (cc))
             (λ h.
-            let under = map_made (new_table mark key branches) (along mark through edit (next ∷ more) unbranched)
+            let under = map_made (new_table mark key branches) (edit_along mark through edit (next ∷ more) unbranched)
             (way_made (next ∷ more) unbranched (above + 1) (omega arith) h.1) in (
               under.0,
               along_step mark through edit key next more branches
                   ∙ ap (along_by mark through edit key next more branches) (none_has key branches there) ∙ under.1,
             ))
-            (if_is (eqb above depth_limit) (refused TooDeep key) (way_fault inside end (next ∷ more) unbranched (above + 1)) None is)
+            (if_is (eqb above depth_limit) (fault_at_key TooDeep key) (way_fault inside end (next ∷ more) unbranched (above + 1)) None is)
       ] refl here
 
 put_ends : (node : Node) (key : Key) (branches : Branches) (above : ℕ) → new_key_fault key branches above ≡ None → IsMade (put_new node key branches)
 put_ends node key branches above free =
-    ⊎_elim (λ h. let other = h.1 in absurd (cc)) (λ h. (added key node branches, if_false (has_key key branches) None (Some (added key node branches)) h.0))
-    (if_is (has_key key branches) (refused DuplicateKey key) None None free)
+    ⊎_elim (λ h. let other = h.1 in absurd (cc)) (λ h. (branches_with_key key node branches, if_false (has_key key branches) None (Some (branches_with_key key node branches)) h.0))
+    (if_is (has_key key branches) (fault_at_key DuplicateKey key) None None free)
 
 dotted_enters : (f : Branches → Option Branches) (node : Node) (found : Inside) → inside_dotted node ≡ Some found → IsMade (f found.0) → IsMade (through_dotted f node)
 dotted_enters f (closed span content) found e made = absurd (cc)
@@ -86,7 +86,7 @@ dotted_enters f (growing span dotted branches) found e made =
 dotted_enters f (tables span bodies) found e made = absurd (cc)
 
 -- a value's key
-pub put_made : (keys : List Key) (node : Node) (branches : Branches) (above : ℕ) → 0 < length keys → put_fault keys branches above ≡ None → IsMade (put keys node branches)
+pub put_made : (keys : List Key) (node : Node) (branches : Branches) (above : ℕ) → 0 < length keys → put_fault keys branches above ≡ None → IsMade (branches_with_value keys node branches)
 put_made keys node branches above some free =
     way_made dotted through_dotted inside_dotted (put_new node) new_key_fault (put_ends node) dotted_enters keys branches above some free
 
@@ -119,25 +119,25 @@ appended at key (tables span bodies) free = (tables span (with_table at bodies),
 at_key : (f : Node → Option Node) (new : Node) (key : Key) (branches : Branches) (fault : Node → Option SyntaxError) (none : Option SyntaxError)
     → ((node : Node) → fault node ≡ None → IsMade (f node))
     → ◌≡◌ {A = Option SyntaxError} (elim (table_node_at key branches) [ Some node ↦ fault node | None ↦ none ]) None
-    → IsMade (cond (has_key key branches) (changed f key branches) (Some (added key new branches)))
+    → IsMade (cond (has_key key branches) (branches_with_edit f key branches) (Some (branches_with_key key new branches)))
 at_key f new key branches fault none goes free =
     elim (table_node_at key branches) as (λ o. table_node_at key branches ≡ o → ◌≡◌ {A = Option SyntaxError} (elim o [ Some node ↦ fault node | None ↦ none ]) None
-    → IsMade (cond (has_key key branches) (changed f key branches) (Some (added key new branches)))) [
+    → IsMade (cond (has_key key branches) (branches_with_edit f key branches) (Some (branches_with_key key new branches)))) [
       | Some node ↦ λ there is.
           let change = change_made f key branches node there (goes node is) in
           (change.0, if_true (has_key key branches) _ _ (some_has key branches node there) ∙ change.1)
-      | None ↦ λ there is. (added key new branches, if_false (has_key key branches) _ _ (none_has key branches there))
+      | None ↦ λ there is. (branches_with_key key new branches, if_false (has_key key branches) _ _ (none_has key branches there))
     ] refl free
 
 -- a header's table
-pub header_made : (at : Span) (keys : List Key) (root : Branches) → 0 < length keys → header_fault keys root ≡ None → IsMade (along implicit through_any (open_table at) keys root)
+pub header_made : (at : Span) (keys : List Key) (root : Branches) → 0 < length keys → header_fault keys root ≡ None → IsMade (edit_along implicit through_any (open_table at) keys root)
 header_made at keys root some free =
     way_made implicit through_any inside_any (open_table at) open_table_fault
     (λ key branches above none. at_key (take_over at) (growing at by_header unbranched) key branches (taken_over_fault key) _ (taken_over at key) none)
     any_enters keys root 0 some free
 
 -- a table of an array header
-pub array_header_made : (at : Span) (keys : List Key) (root : Branches) → 0 < length keys → array_header_fault keys root ≡ None → IsMade (along implicit through_any (open_array at) keys root)
+pub array_header_made : (at : Span) (keys : List Key) (root : Branches) → 0 < length keys → array_header_fault keys root ≡ None → IsMade (edit_along implicit through_any (open_array at) keys root)
 array_header_made at keys root some free =
     way_made implicit through_any inside_any (open_array at) open_array_fault
     (λ key branches above none. at_key (append_to at) (tables at (last at unbranched)) key branches (appended_fault key) _ (appended at key) none)

@@ -2,7 +2,7 @@
 use Rattle.std.proofs.Common.{◌≡◌, ℕ, zero, suc, ◌+◌, ◌≤◌, ⊎_elim, Bool, true, false, cond, eqb, ◌||◌, List, [], ◌∷◌, length, take, drop, Some, Ok, Err, true≢false, refl, ap, sym, subst, ◌∙◌, eqb-true, eq-eqb, arith}
 use Rattle.std.specs.List.{prefix_len}
 use Rattle.deny_text.specs.declared.span.Span.{Span}
-use Rattle.toml_subset.specs.Answer.{TomlReading, stuck, then_read}
+use Rattle.toml_subset.specs.Answer.{TomlReading, stop_error, then_read}
 use Rattle.toml_subset.specs.Bytes.{quote, apostrophe, is_run, begins_run}
 use Rattle.toml_subset.specs.Data as «data»
 use Rattle.toml_subset.specs.Data.{TomlContent, depth_of}
@@ -75,20 +75,20 @@ word_sound b text i r e =
     subst (ScalarAt text i) (is_ok (from_to i (i + shared), data.boolean b, i + shared) r h.1)
     (raw_boolean b, record { ends = ap (λ n. i + n) size; is = shared_whole (word_of b) (drop i text) size; spans = refl }, refl, refl))
     (λ h. absurd (not_ok _ r h.1))
-    (if_is (eqb shared (length (word_of b))) (Ok (from_to i (i + shared), data.boolean b, i + shared)) (Err (stuck text (i + shared))) (Ok r) e)
+    (if_is (eqb shared (length (word_of b))) (Ok (from_to i (i + shared), data.boolean b, i + shared)) (Err (stop_error text (i + shared))) (Ok r) e)
 
 word_is_read : (b : Bool) (text : List ℕ) (i : ℕ) (span : Span) (next : ℕ) → IsWord text i b span next → word_read b text i ≡ Ok (span, data.boolean b, next)
 word_is_read b text i span next is =
     let shared = shared_len (word_of b) (drop i text) in
     let size : shared ≡ length (word_of b) = whole_shared (word_of b) (drop i text) is.is in
     let ends : i + shared ≡ next = ap (λ n. i + n) size ∙ sym is.ends in
-    if_true (eqb shared (length (word_of b))) (Ok (from_to i (i + shared), data.boolean b, i + shared)) (Err (stuck text (i + shared))) (eq-eqb shared (length (word_of b)) size)
+    if_true (eqb shared (length (word_of b))) (Ok (from_to i (i + shared), data.boolean b, i + shared)) (Err (stop_error text (i + shared))) (eq-eqb shared (length (word_of b)) size)
     ∙ ap (λ (k : ℕ). Ok (from_to i k, data.boolean b, k)) ends ∙ ap (λ (x : Span). Ok (x, data.boolean b, next)) (sym is.spans)
 
 -- all scalars
 
 abbrev false_from : List ℕ → ℕ → TomlReading ValueFound
-false_from text i = cond (stands text i 102) (word_read false text i) (Err (stuck text i))
+false_from text i = cond (stands text i 102) (word_read false text i) (Err (stop_error text i))
 
 abbrev true_from : List ℕ → ℕ → TomlReading ValueFound
 true_from text i = cond (stands text i 116) (word_read true text i) (false_from text i)
@@ -115,7 +115,7 @@ scalar_sound text i r e =
     ⊎_elim (λ l. word_sound true text i r l.1)
     (λ l.
     ⊎_elim (λ m. word_sound false text i r m.1) (λ m. absurd (not_ok _ r m.1))
-    (if_is (stands text i 102) (word_read false text i) (Err (stuck text i)) (Ok r) l.1))
+    (if_is (stands text i 102) (word_read false text i) (Err (stop_error text i)) (Ok r) l.1))
     (if_is (stands text i 116) (word_read true text i) (false_from text i) (Ok r) k.1))
     (if_is (stands text i quote || stands text i apostrophe) (string_value text i) (true_from text i) (Ok r) h.1))
     (if_is (begins_number text i) (number_from text i) (string_from text i) (Ok r) e)
@@ -184,7 +184,7 @@ boolean_read text i false span next is =
     if_false (begins_number text i) (number_from text i) (string_from text i) (no_number 102 refl f_special text i front)
     ∙ if_false (stands text i quote || stands text i apostrophe) (string_value text i) (true_from text i) (no_mark 102 refl refl text i front)
     ∙ if_false (stands text i 116) (word_read true text i) (false_from text i) (stands_other (λ b. eqb b 116) 102 refl text i front)
-    ∙ if_true (stands text i 102) (word_read false text i) (Err (stuck text i)) front ∙ word_is_read false text i span next is
+    ∙ if_true (stands text i 102) (word_read false text i) (Err (stop_error text i)) front ∙ word_is_read false text i span next is
 
 pub number_is_read : (text : List ℕ) (i : ℕ) (class : Class) (content : TomlContent) (span : Span) (next : ℕ) → IsNumber text i class span next
     → number_read text i class ≡ Ok (from_to i (run_end is_run text i), content, run_end is_run text i) → read_scalar text i ≡ Ok (span, content, next)

@@ -1,15 +1,15 @@
 -- A larger bound on how often reading calls itself changes no answer.
 use Rattle.std.proofs.Common.{◌≡◌, ℕ, zero, suc, ◌+◌, ◌-◌, ◌*◌, ◌<◌, ◌≤◌, Bool, true, false, cond, eqb, ◌||◌, List, length, Option, Some, None, Ok, Err, refl, ap, ◌∙◌, arith}
 use Rattle.std.proofs.lemmas.Bool.Decides.{nat_tests}
-use Rattle.toml_subset.specs.Answer.{TomlReading, then_read, unless}
+use Rattle.toml_subset.specs.Answer.{TomlReading, then_read, fault_or}
 use Rattle.toml_subset.specs.Bytes.{comma, open_bracket, close_bracket, open_brace, close_brace}
 use Rattle.toml_subset.specs.Data as «data»
 use Rattle.toml_subset.specs.Data.{depth_limit}
 use Rattle.toml_subset.specs.Places.{stands, after_blanks, after_space}
-use Rattle.toml_subset.specs.Reading.{ItemsFound, cut_in_comment, array_items_behind, made, entries_behind, entry_put, array_read, table_read, read_value, read_items, read_entries, enough, value_at}
+use Rattle.toml_subset.specs.Reading.{ItemsFound, cut_in_comment, array_items_behind, edit_reading, entries_behind, entry_put, array_read, table_read, read_value, read_items, read_entries, call_bound, value_at}
 use Rattle.toml_subset.specs.StringReading.{read_left}
 use Rattle.toml_subset.specs.TableFaults.{put_fault}
-use Rattle.toml_subset.specs.Tables.{Branches, unbranched, closed, put}
+use Rattle.toml_subset.specs.Tables.{Branches, unbranched, closed, branches_with_value}
 use Rattle.toml_subset.specs.declared.error.SyntaxError.{SyntaxError}
 use Rattle.toml_subset.proofs.Law.Basics.{made_ok}
 use Rattle.toml_subset.proofs.Law.Depths.{depth}
@@ -27,7 +27,7 @@ if_same : {A : Type 0} (b : Bool) (x y z w : A) → (b ≡ true → x ≡ z) →
 if_same true x y z w first second = first refl
 if_same false x y z w first second = second refl
 
-unless_same : {A : Type 0} (fault : Option SyntaxError) (x y : TomlReading A) → (fault ≡ None → x ≡ y) → unless fault x ≡ unless fault y
+unless_same : {A : Type 0} (fault : Option SyntaxError) (x y : TomlReading A) → (fault ≡ None → x ≡ y) → fault_or fault x ≡ fault_or fault y
 unless_same (Some fault) x y same = refl
 unless_same None x y same = same refl
 
@@ -103,10 +103,10 @@ mutual
       (λ v is.
       let stood = value_sound n text high left.1 v room is in
       let goes = value_goes text left.1 v.0 stood.0 v.2 stood.1 in
-      let edit = made text (put left.0 (closed v.0 v.1) branches) in
+      let edit = edit_reading text (branches_with_value left.0 (closed v.0 v.1) branches) in
       then_same (entries_behind (read_entries n text above) text v.2) (entries_behind (read_entries m text above) text v.2) edit edit refl
       (λ new is_new.
-      let put_it = made_ok text (put left.0 (closed v.0 v.1) branches) new is_new in
+      let put_it = made_ok text (branches_with_value left.0 (closed v.0 v.1) branches) new is_new in
       let under = put_below left.0 (closed v.0 v.1) branches new above free put_it stood.3 low in
       let k = after_blanks text v.2 in
       if_same (stands text k close_brace) _ _ _ _ (λ last_one. refl)
@@ -116,5 +116,5 @@ mutual
       entries_steady n m text above new (after_blanks text (k + 1)) under (omega arith) (omega arith))
       (λ none. refl))))))
 
-pub enough_calls : (text : List ℕ) (above i n : ℕ) → above ≤ depth_limit → enough text ≤ n → read_value n text above i ≡ value_at text above i
-enough_calls text above i n low more = value_steady n (enough text) text above i low (omega arith) (omega arith)
+pub enough_calls : (text : List ℕ) (above i n : ℕ) → above ≤ depth_limit → call_bound text ≤ n → read_value n text above i ≡ value_at text above i
+enough_calls text above i n low more = value_steady n (call_bound text) text above i low (omega arith) (omega arith)

@@ -3,7 +3,7 @@ use Rattle.std.proofs.Common.{◌≡◌, ℕ, zero, suc, ◌+◌, ◌<◌, ◌�
 use Rattle.std.proofs.lemmas.Bool.Decides.{nat_tests}
 use Rattle.std.specs.List.{prefix_len}
 use Rattle.deny_text.specs.declared.span.Span.{Span}
-use Rattle.toml_subset.specs.Answer.{TomlReading, stuck, then_read}
+use Rattle.toml_subset.specs.Answer.{TomlReading, stop_error, then_read}
 use Rattle.toml_subset.specs.Bytes.{quote, apostrophe, dot, equals, is_bare}
 use Rattle.toml_subset.specs.Keys.{IsKey, AreKeys}
 use Rattle.toml_subset.specs.Places.{front_is, from_to, passes_at, stands, run_at, after_blanks, behind_line_end}
@@ -29,23 +29,23 @@ part_sound kind text i rest r all (closing next) here e = subst (PiecesAt kind t
 part_sound kind text i rest r all broken here e = absurd (not_ok (part_fault kind text i) r e)
 
 pub pieces_sound : (n : ℕ) (kind : Quoting) (text : List ℕ) (i : ℕ) (r : Pieces) → read_pieces n kind text i ≡ Ok r → PiecesAt kind text i r
-pieces_sound zero kind text i r e = absurd (not_ok (stuck text i) r e)
+pieces_sound zero kind text i r e = absurd (not_ok (stop_error text i) r e)
 pieces_sound (suc n) kind text i r e = part_sound kind text i (read_pieces n kind text) r (pieces_sound n kind text) (part_at kind text i) refl e
 
 abbrev string_by : List ℕ → ℕ → Option (Quoting × ℕ) → TomlReading StringFound
 string_by text i (Some first) = string_from text first
-string_by text i None = Err (stuck text i)
+string_by text i None = Err (stop_error text i)
 
 string_step : (text : List ℕ) (i : ℕ) → read_string text i ≡ string_by text i (opening text i)
 string_step text i =
-    elim (opening text i) as (λ o. elim o [ Some first ↦ string_from text first | None ↦ Err (stuck text i) ] ≡ string_by text i o) [ Some first ↦ refl | None ↦ refl ]
+    elim (opening text i) as (λ o. elim o [ Some first ↦ string_from text first | None ↦ Err (stop_error text i) ] ≡ string_by text i o) [ Some first ↦ refl | None ↦ refl ]
 
 -- a string that stands at a place, with its kind
 abbrev pub StringAt : List ℕ → ℕ → StringFound → Type 0
 StringAt text i r = (first : Quoting × ℕ) × (opening text i ≡ Some first) × IsString text i first.0 r.0 r.1 r.2
 
 string_by_sound : (text : List ℕ) (i : ℕ) (o : Option (Quoting × ℕ)) (r : StringFound) → opening text i ≡ o → string_by text i o ≡ Ok r → StringAt text i r
-string_by_sound text i None r is e = absurd (not_ok (stuck text i) r e)
+string_by_sound text i None r is e = absurd (not_ok (stop_error text i) r e)
 string_by_sound text i (Some first) r is e =
     let body = then_ok (λ (x : Pieces). Ok (written_of x.0, from_to first.1 x.1, x.2)) (read_pieces (suc (length text)) first.0 text first.1) r e in
     subst (StringAt text i) (is_ok _ r body.2) (
@@ -168,16 +168,16 @@ key_sound text i r e =
     (λ k.
     let found = then_ok (λ (x : StringFound). Ok (key_of x)) (read_string text i) r k.1 in
     subst (KeyAt text i) (is_ok _ r found.2) (quoted_sound text i found.0 (string_sound text i found.0 found.1) k.0))
-    (if_is (begins_long text i) (Err (stuck text (i + 2))) (quoted_read text i) (Ok r) h.1))
-    (if_is (passes_at is_bare text i) (Ok (bare_key text i)) (cond (begins_long text i) (Err (stuck text (i + 2))) (quoted_read text i)) (Ok r) e)
+    (if_is (begins_long text i) (Err (stop_error text (i + 2))) (quoted_read text i) (Ok r) h.1))
+    (if_is (passes_at is_bare text i) (Ok (bare_key text i)) (cond (begins_long text i) (Err (stop_error text (i + 2))) (quoted_read text i)) (Ok r) e)
 
 quoted_key_read : (text : List ℕ) (i : ℕ) (kind : Quoting) (key : Key) (next : ℕ) → IsString text i kind key.name key.span next → next ≤ length text
     → (kind ≡ long_basic → ⊥) → (kind ≡ long_literal → ⊥) → read_key text i ≡ Ok (key, next)
 quoted_key_read text i kind key next is inside not_basic not_literal =
     let other : passes_at is_bare text i ≡ false =
     ⊎_elim (λ q. stands_other is_bare quote refl text i q) (λ q. stands_other is_bare apostrophe refl text i q) (opening_front text i (kind, is.first) is.opens) in
-    if_false (passes_at is_bare text i) (Ok (bare_key text i)) (cond (begins_long text i) (Err (stuck text (i + 2))) (quoted_read text i)) other
-    ∙ if_false (begins_long text i) (Err (stuck text (i + 2))) (quoted_read text i) (short_begins text i (kind, is.first) is.opens not_basic not_literal)
+    if_false (passes_at is_bare text i) (Ok (bare_key text i)) (cond (begins_long text i) (Err (stop_error text (i + 2))) (quoted_read text i)) other
+    ∙ if_false (begins_long text i) (Err (stop_error text (i + 2))) (quoted_read text i) (short_begins text i (kind, is.first) is.opens not_basic not_literal)
     ∙ ap (then_read (λ (r : StringFound). Ok (key_of r))) (string_read text i kind key.name key.span next is inside)
 
 pub key_read : (text : List ℕ) (i : ℕ) (key : Key) (next : ℕ) → IsKey text i key next → next ≤ length text → read_key text i ≡ Ok (key, next)
@@ -187,7 +187,7 @@ key_read text i key next (inl bare) inside =
     let made : bare_key text i ≡ (key, next) =
     ap (λ (k : ℕ). (record { name = record { text = run_at is_bare text i; escaped = false }; span = from_to i k }, k)) (sym ends)
     ∙ ap (λ (x : Key). (x, next)) (sym bare.is) in
-    if_true (passes_at is_bare text i) (Ok (bare_key text i)) (cond (begins_long text i) (Err (stuck text (i + 2))) (quoted_read text i)) (run_some is_bare text i (omega arith))
+    if_true (passes_at is_bare text i) (Ok (bare_key text i)) (cond (begins_long text i) (Err (stop_error text (i + 2))) (quoted_read text i)) (run_some is_bare text i (omega arith))
     ∙ ap (λ (x : KeyFound). Ok x) made
 key_read text i key next (inr (inl is)) inside = quoted_key_read text i basic key next is inside (λ e. cc) (λ e. cc)
 key_read text i key next (inr (inr is)) inside = quoted_key_read text i literal key next is inside (λ e. cc) (λ e. cc)
@@ -207,7 +207,7 @@ behind_sound text i rest first r all is e =
     (then_read (λ (more : KeysFound). Ok (first.0 ∷ more.0, more.1)) (rest (after_blanks text (after_blanks text first.1 + 1)))) (Ok (first.0 ∷ [], first.1)) (Ok r) e)
 
 pub keys_sound : (n : ℕ) (text : List ℕ) (i : ℕ) (r : KeysFound) → read_keys n text i ≡ Ok r → KeysAt text i r
-keys_sound zero text i r e = absurd (not_ok (stuck text i) r e)
+keys_sound zero text i r e = absurd (not_ok (stop_error text i) r e)
 keys_sound (suc n) text i r e =
     let first = then_ok (keys_behind (read_keys n text) text) (read_key text i) r e in
     behind_sound text i (read_keys n text) first.0 r (keys_sound n text) (key_sound text i first.0 first.1) first.2
@@ -261,10 +261,10 @@ left_sound text i r e =
     (λ h. subst (LeftAt text i) (is_ok _ r h.1) (keys.0.1, keys_sound (suc (length text)) text i keys.0 keys.1, h.0, refl))
     (λ h. absurd (not_ok _ r h.1))
     (if_is (stands text (after_blanks text keys.0.1) equals) (Ok (keys.0.0, after_blanks text (after_blanks text keys.0.1 + 1)))
-    (Err (stuck text (after_blanks text keys.0.1))) (Ok r) keys.2)
+    (Err (stop_error text (after_blanks text keys.0.1))) (Ok r) keys.2)
 
 pub left_read : (text : List ℕ) (i : ℕ) (keys : List Key) (k : ℕ) → AreKeys text i keys k → stands text (after_blanks text k) equals ≡ true → k ≤ length text
     → read_left text i ≡ Ok (keys, after_blanks text (after_blanks text k + 1))
 left_read text i keys k is at inside =
     ap (then_read (equals_behind text)) (keys_read (suc (length text)) text i keys k is inside (omega arith))
-    ∙ if_true (stands text (after_blanks text k) equals) (Ok (keys, after_blanks text (after_blanks text k + 1))) (Err (stuck text (after_blanks text k))) at
+    ∙ if_true (stands text (after_blanks text k) equals) (Ok (keys, after_blanks text (after_blanks text k + 1))) (Err (stop_error text (after_blanks text k))) at

@@ -4,17 +4,17 @@ use Rattle.std.proofs.lemmas.Bool.Decides.{nat_tests}
 use Rattle.std.proofs.lemmas.List.{drop-drop}
 use Rattle.std.specs.List.{prefix_len}
 use Rattle.deny_text.specs.declared.span.Span.{Span}
-use Rattle.toml_subset.specs.Answer.{TomlReading, fault_at, stuck, then_read, unless}
+use Rattle.toml_subset.specs.Answer.{TomlReading, fault_at, stop_error, then_read, fault_or}
 use Rattle.toml_subset.specs.Bytes.{quote, apostrophe, hash, comma, open_bracket, close_bracket, open_brace, close_brace, begins_run, may_stand}
 use Rattle.toml_subset.specs.Data as «data»
 use Rattle.toml_subset.specs.Data.{TomlContent, Items, depth_of, items_depth, depth_limit}
 use Rattle.toml_subset.specs.Numbers.{integer, decimal}
 use Rattle.toml_subset.specs.Places.{front_is, from_to, passes_at, stands, run_end, after_blanks, after_blanks_and_comment, after_lines_of, after_space}
 use Rattle.toml_subset.specs.Raw.{Raw, RawItems, RawEntries, raw_text, raw_integer, raw_decimal, raw_boolean, raw_array, raw_table, raw_none, raw_item, raw_empty, raw_entry, IsValue, AreItems, AreItemsBehind, AreEntries, AreEntriesBehind}
-use Rattle.toml_subset.specs.Reading.{ValueFound, ItemsFound, EntriesFound, read_scalar, space_fault, cut_in_comment, array_items_behind, array_items_from, made, entries_behind, entry_put, entries_from, array_read, table_read, table_from, value_from, read_value, read_items, read_entries}
+use Rattle.toml_subset.specs.Reading.{ValueFound, ItemsFound, EntriesFound, read_scalar, space_fault, cut_in_comment, array_items_behind, array_items_from, edit_reading, entries_behind, entry_put, entries_from, array_read, table_read, table_from, value_from, read_value, read_items, read_entries}
 use Rattle.toml_subset.specs.StringReading.{KeysFound, read_left}
 use Rattle.toml_subset.specs.TableFaults.{put_fault}
-use Rattle.toml_subset.specs.Tables.{Branches, unbranched, closed, put, entries_of, meant, items_meant, entries_meant}
+use Rattle.toml_subset.specs.Tables.{Branches, unbranched, closed, branches_with_value, entries_of, meant, items_meant, entries_meant}
 use Rattle.toml_subset.specs.declared.error.SyntaxReason.TheVariants.{TooDeep}
 use Rattle.toml_subset.specs.declared.string.Key.{Key}
 use Rattle.toml_subset.proofs.Law.Basics.{then_some, map_some, is_some, is_ok, not_ok, then_ok, unless_ok, made_ok, if_is, if_true, if_false}
@@ -104,12 +104,12 @@ module _ (above : ℕ) (text : List ℕ) (value : ℕ → ℕ → TomlReading Va
       (λ h.
       ⊎_elim (λ k. let are = rest_ok branches (after_blanks text (j + 1)) r low k.1 in (raw_entry are.keys are.span are.value are.more, (k.0, are.stand), are.mean, are.low))
       (λ k. absurd (not_ok _ r k.1))
-      (if_is (stands text j comma) (rest branches (after_blanks text (j + 1))) (Err (stuck text j)) (Ok r) h.1))
-      (if_is (stands text j close_brace) (Ok (branches, j + 1)) (cond (stands text j comma) (rest branches (after_blanks text (j + 1))) (Err (stuck text j))) (Ok r) e)
+      (if_is (stands text j comma) (rest branches (after_blanks text (j + 1))) (Err (stop_error text j)) (Ok r) h.1))
+      (if_is (stands text j close_brace) (Ok (branches, j + 1)) (cond (stands text j comma) (rest branches (after_blanks text (j + 1))) (Err (stop_error text j))) (Ok r) e)
 
   abbrev entry_from : Branches → KeysFound → TomlReading EntriesFound
   entry_from branches left =
-      unless (put_fault left.0 branches above) (then_read (entry_put rest text left.0 branches) (value (above + (length left.0 - 1)) left.1))
+      fault_or (put_fault left.0 branches above) (then_read (entry_put rest text left.0 branches) (value (above + (length left.0 - 1)) left.1))
 
   entries_from_sound : (i : ℕ) (branches : Branches) → above + depth branches ≤ depth_limit → entries_from value rest text above branches i ≡ Ok r → EntriesAt above text branches i r
   entries_from_sound i branches low e =
@@ -120,8 +120,8 @@ module _ (above : ℕ) (text : List ℕ) (value : ℕ → ℕ → TomlReading Va
       let found = then_ok (entry_put rest text keys branches) (value (above + (length keys - 1)) left.0.1) r free.1 in
       let v = found.0 in
       let is = value_ok (above + (length keys - 1)) left.0.1 v (put_room keys branches above free.0 low) found.1 in
-      let new = then_ok (entries_behind rest text v.2) (made text (put keys (closed v.0 v.1) branches)) r found.2 in
-      let edit = made_ok text (put keys (closed v.0 v.1) branches) new.0 new.1 in
+      let new = then_ok (entries_behind rest text v.2) (edit_reading text (branches_with_value keys (closed v.0 v.1) branches)) r found.2 in
+      let edit = made_ok text (branches_with_value keys (closed v.0 v.1) branches) new.0 new.1 in
       let under = put_below keys (closed v.0 v.1) branches new.0 above free.0 edit is.3 low in
       let behind = entries_behind_sound v.2 new.0 under new.2 in
       record {
@@ -130,7 +130,7 @@ module _ (above : ℕ) (text : List ℕ) (value : ℕ → ℕ → TomlReading Va
         value = is.0;
         more = behind.0;
         stand = (v.2, (at.0, at.1, at.2, subst (λ k. IsValue text k v.0 is.0 v.2) (sym at.3) is.1), behind.1);
-        mean = ap (option_and_then (λ content. option_and_then (entries_meant behind.0) (put keys (closed v.0 content) branches))) is.2
+        mean = ap (option_and_then (λ content. option_and_then (entries_meant behind.0) (branches_with_value keys (closed v.0 content) branches))) is.2
             ∙ ap (option_and_then (entries_meant behind.0)) edit ∙ behind.2;
         low = behind.3;
       }
@@ -193,20 +193,20 @@ module _ (above : ℕ) (text : List ℕ) (items : ℕ → TomlReading ItemsFound
 
 mutual
   pub value_sound : (n : ℕ) (text : List ℕ) (above i : ℕ) (r : ValueFound) → above ≤ depth_limit → read_value n text above i ≡ Ok r → ValueAt above text i r
-  value_sound zero text above i r low e = absurd (not_ok (stuck text i) r e)
+  value_sound zero text above i r low e = absurd (not_ok (stop_error text i) r e)
   value_sound (suc n) text above i r low e =
       value_from_sound above text (read_items n text (above + 1)) (read_entries n text (above + 1) unbranched)
       (λ k x room is. items_sound n text (above + 1) k x room is) (λ k x room is. entries_sound n text (above + 1) unbranched k x (omega arith) is) i r low e
 
   pub items_sound : (n : ℕ) (text : List ℕ) (above i : ℕ) (r : ItemsFound) → above ≤ depth_limit → read_items n text above i ≡ Ok r → ItemsAt above text i r
-  items_sound zero text above i r low e = absurd (not_ok (stuck text i) r e)
+  items_sound zero text above i r low e = absurd (not_ok (stop_error text i) r e)
   items_sound (suc n) text above i r low e =
       items_from_sound above text (read_value n text above) (read_items n text above) (λ k x is. value_sound n text above k x low is)
       (λ k x is. items_sound n text above k x low is) low r i e
 
   pub entries_sound : (n : ℕ) (text : List ℕ) (above : ℕ) (branches : Branches) (i : ℕ) (r : EntriesFound) → above + depth branches ≤ depth_limit
       → read_entries n text above branches i ≡ Ok r → EntriesAt above text branches i r
-  entries_sound zero text above branches i r low e = absurd (not_ok (stuck text i) r e)
+  entries_sound zero text above branches i r low e = absurd (not_ok (stop_error text i) r e)
   entries_sound (suc n) text above branches i r low e =
       entries_from_sound above text (read_value n text) (read_entries n text above) (λ high k x room is. value_sound n text high k x room is)
       (λ bs k x room is. entries_sound n text above bs k x room is) r i branches low e
@@ -274,8 +274,8 @@ value_other c q a n t f b e text i span (raw_table entries) next is = stands_oth
 pub entries_grow : (entries : RawEntries) (branches new : Branches) → entries_meant entries branches ≡ Some new → depth branches ≤ depth new
 entries_grow raw_empty branches new e = let same = ap depth (is_some branches new e) in omega arith
 entries_grow (raw_entry keys span value more) branches new e =
-    let first = then_some (λ content. option_and_then (entries_meant more) (put keys (closed span content) branches)) (meant value) new e in
-    let edit = then_some (entries_meant more) (put keys (closed span first.0) branches) new first.2 in
+    let first = then_some (λ content. option_and_then (entries_meant more) (branches_with_value keys (closed span content) branches)) (meant value) new e in
+    let edit = then_some (entries_meant more) (branches_with_value keys (closed span first.0) branches) new first.2 in
     let one = put_grows keys (closed span first.0) branches edit.0 edit.1 in
     let two = entries_grow more edit.0 new edit.2 in
     omega arith
@@ -298,7 +298,7 @@ scalar_first items entries text above i bracket brace =
 
 abbrev left_from : (ℕ → ℕ → TomlReading ValueFound) → (Branches → ℕ → TomlReading EntriesFound) → List ℕ → ℕ → Branches → KeysFound → TomlReading EntriesFound
 left_from value rest text above branches left =
-    unless (put_fault left.0 branches above) (then_read (entry_put rest text left.0 branches) (value (above + (length left.0 - 1)) left.1))
+    fault_or (put_fault left.0 branches above) (then_read (entry_put rest text left.0 branches) (value (above + (length left.0 - 1)) left.1))
 
 or_first : (a b : Bool) → a ≡ true → (a || b) ≡ true
 or_first a b h = ap (λ x. x || b) h
@@ -345,13 +345,13 @@ module _ (n : ℕ) (text : List ℕ) (above : ℕ) (rest : Branches → ℕ → 
       → entries_behind rest text k branches ≡ Ok (new, next)
   further_read k branches raw_empty next new are mean low inside room =
       let j = after_blanks text k in
-      if_true (stands text j close_brace) (Ok (branches, j + 1)) (cond (stands text j comma) (rest branches (after_blanks text (j + 1))) (Err (stuck text j))) are.0
+      if_true (stands text j close_brace) (Ok (branches, j + 1)) (cond (stands text j comma) (rest branches (after_blanks text (j + 1))) (Err (stop_error text j))) are.0
       ∙ ap (λ (x : ℕ). Ok (branches, x)) (sym are.1) ∙ ap (λ (x : Branches). Ok (x, next)) (is_some branches new mean)
   further_read k branches (raw_entry keys span raw more) next new are mean low inside room =
       let j = after_blanks text k in
-      if_false (stands text j close_brace) (Ok (branches, j + 1)) (cond (stands text j comma) (rest branches (after_blanks text (j + 1))) (Err (stuck text j)))
+      if_false (stands text j close_brace) (Ok (branches, j + 1)) (cond (stands text j comma) (rest branches (after_blanks text (j + 1))) (Err (stop_error text j)))
       (stands_other (λ b. eqb b close_brace) comma refl text j are.0)
-      ∙ if_true (stands text j comma) (rest branches (after_blanks text (j + 1))) (Err (stuck text j)) are.0
+      ∙ if_true (stands text j comma) (rest branches (after_blanks text (j + 1))) (Err (stop_error text j)) are.0
       ∙ rest_read branches (after_blanks text (j + 1)) keys span raw more next new are.1 mean low inside (omega arith)
 
 mutual
@@ -475,15 +475,15 @@ mutual
       let end = are.1.0 in
       let at = after_blanks text (after_blanks text end + 1) in
       let high = above + (length keys - 1) in
-      let first = then_some (λ content. option_and_then (entries_meant more) (put keys (closed span content) branches)) (meant raw) new mean in
-      let edit = then_some (entries_meant more) (put keys (closed span first.0) branches) new first.2 in
+      let first = then_some (λ content. option_and_then (entries_meant more) (branches_with_value keys (closed span content) branches)) (meant raw) new mean in
+      let edit = then_some (entries_meant more) (branches_with_value keys (closed span first.0) branches) new first.2 in
       let grows = entries_grow more edit.0 new edit.2 in
       let free = put_free keys (closed span first.0) branches edit.0 above edit.1 (omega arith) in
       let key = keys_go text i keys end are.1.1 in
       let goes = value_goes text at span raw k are.1.3 in
       let further = entries_behind_go text (after_blanks text k) more next are.2 in
       ap (then_read (left_from value rest text above branches)) (left_read text i keys end are.1.1 are.1.2 (omega arith))
-      ∙ ap (λ o. unless o (then_read (entry_put rest text keys branches) (value high at))) free.0
+      ∙ ap (λ o. fault_or o (then_read (entry_put rest text keys branches) (value high at))) free.0
       ∙ ap (then_read (entry_put rest text keys branches)) (value_read n text high at span raw k first.0 are.1.3 first.1 free.1 (omega arith) (omega arith))
-      ∙ ap (λ o. then_read (entries_behind rest text k) (made text o)) edit.1
+      ∙ ap (λ o. then_read (entries_behind rest text k) (edit_reading text o)) edit.1
       ∙ further_read n text above rest (entries_read n text above) k edit.0 more next new are.2 edit.2 low inside (omega arith)

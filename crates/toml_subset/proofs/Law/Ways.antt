@@ -2,8 +2,8 @@
 use Rattle.std.proofs.Common.{◌≡◌, ℕ, ◌+◌, ◌-◌, ◌<◌, ◌≤◌, ⊎_elim, Bool, true, false, cond, eqb, max, List, [], ◌∷◌, length, Option, Some, None, option_map, refl, ap, sym, ◌∙◌, arith}
 use Rattle.std.proofs.lemmas.Bool.Decides.{nat_tests}
 use Rattle.toml_subset.specs.Data.{depth_limit}
-use Rattle.toml_subset.specs.TableFaults.{Inside, table_node_at, inside_dotted, refused, way_fault, new_key_fault, put_fault}
-use Rattle.toml_subset.specs.Tables.{Mark, dotted, Node, Branches, growing, unbranched, has_key, added, changed, through_dotted, along, put_new, put}
+use Rattle.toml_subset.specs.TableFaults.{Inside, table_node_at, inside_dotted, fault_at_key, way_fault, new_key_fault, put_fault}
+use Rattle.toml_subset.specs.Tables.{Mark, dotted, Node, Branches, growing, unbranched, has_key, branches_with_key, branches_with_edit, through_dotted, edit_along, put_new, branches_with_value}
 use Rattle.toml_subset.specs.declared.error.SyntaxError.{SyntaxError}
 use Rattle.toml_subset.specs.declared.error.SyntaxReason.TheVariants.{RedefinedTable, TooDeep}
 use Rattle.toml_subset.specs.declared.string.Key.{Key}
@@ -21,38 +21,38 @@ Edit = Key → Branches → Option Branches
 
 abbrev pub inside_fault : (Node → Option Inside) → EndFault → Key → Key → List Key → ℕ → Option Inside → Option SyntaxError
 inside_fault inside end key next more above (Some found) = way_fault inside end (next ∷ more) found.0 (above + found.1)
-inside_fault inside end key next more above None = refused RedefinedTable key
+inside_fault inside end key next more above None = fault_at_key RedefinedTable key
 
 abbrev pub node_fault : (Node → Option Inside) → EndFault → Key → Key → List Key → ℕ → Option Node → Option SyntaxError
 node_fault inside end key next more above (Some node) = inside_fault inside end key next more above (inside node)
 node_fault inside end key next more above None =
-    cond (eqb above depth_limit) (refused TooDeep key) (way_fault inside end (next ∷ more) unbranched (above + 1))
+    cond (eqb above depth_limit) (fault_at_key TooDeep key) (way_fault inside end (next ∷ more) unbranched (above + 1))
 
 pub way_step : (inside : Node → Option Inside) (end : EndFault) (key next : Key) (more : List Key) (branches : Branches) (above : ℕ)
     → way_fault inside end (key ∷ next ∷ more) branches above ≡ node_fault inside end key next more above (table_node_at key branches)
 way_step inside end key next more branches above =
     elim (table_node_at key branches) as (λ o. elim o [
-      | Some node ↦ elim (inside node) [ Some found ↦ way_fault inside end (next ∷ more) found.0 (above + found.1) | None ↦ refused RedefinedTable key ]
-      | None ↦ cond (eqb above depth_limit) (refused TooDeep key) (way_fault inside end (next ∷ more) unbranched (above + 1))
+      | Some node ↦ elim (inside node) [ Some found ↦ way_fault inside end (next ∷ more) found.0 (above + found.1) | None ↦ fault_at_key RedefinedTable key ]
+      | None ↦ cond (eqb above depth_limit) (fault_at_key TooDeep key) (way_fault inside end (next ∷ more) unbranched (above + 1))
     ] ≡ node_fault inside end key next more above o) [
-      | Some node ↦ elim (inside node) as (λ o. elim o [ Some found ↦ way_fault inside end (next ∷ more) found.0 (above + found.1) | None ↦ refused RedefinedTable key ]
+      | Some node ↦ elim (inside node) as (λ o. elim o [ Some found ↦ way_fault inside end (next ∷ more) found.0 (above + found.1) | None ↦ fault_at_key RedefinedTable key ]
           ≡ inside_fault inside end key next more above o) [ Some found ↦ refl | None ↦ refl ]
       | None ↦ refl
     ]
 
 abbrev pub new_table : Mark → Key → Branches → Branches → Branches
-new_table mark key branches inner = added key (growing key.span mark inner) branches
+new_table mark key branches inner = branches_with_key key (growing key.span mark inner) branches
 
 abbrev pub along_by : Mark → Through → Edit → Key → Key → List Key → Branches → Bool → Option Branches
-along_by mark through edit key next more branches true = changed (through (along mark through edit (next ∷ more))) key branches
-along_by mark through edit key next more branches false = option_map (new_table mark key branches) (along mark through edit (next ∷ more) unbranched)
+along_by mark through edit key next more branches true = branches_with_edit (through (edit_along mark through edit (next ∷ more))) key branches
+along_by mark through edit key next more branches false = option_map (new_table mark key branches) (edit_along mark through edit (next ∷ more) unbranched)
 
 pub along_step : (mark : Mark) (through : Through) (edit : Edit) (key next : Key) (more : List Key) (branches : Branches)
-    → along mark through edit (key ∷ next ∷ more) branches ≡ along_by mark through edit key next more branches (has_key key branches)
+    → edit_along mark through edit (key ∷ next ∷ more) branches ≡ along_by mark through edit key next more branches (has_key key branches)
 along_step mark through edit key next more branches =
     elim (has_key key branches) as (λ b. elim b [
-      | true ↦ changed (through (along mark through edit (next ∷ more))) key branches
-      | false ↦ option_map (λ inner. added key (growing key.span mark inner) branches) (along mark through edit (next ∷ more) unbranched)
+      | true ↦ branches_with_edit (through (edit_along mark through edit (next ∷ more))) key branches
+      | false ↦ option_map (λ inner. branches_with_key key (growing key.span mark inner) branches) (edit_along mark through edit (next ∷ more) unbranched)
     ] ≡ along_by mark through edit key next more branches b) [ true ↦ refl | false ↦ refl ]
 
 module _ (mark : Mark) (through : Through) (inside : Node → Option Inside) (edit : Edit) (end : EndFault) (Room : ℕ → List Key → Type 0)
@@ -62,7 +62,7 @@ module _ (mark : Mark) (through : Through) (inside : Node → Option Inside) (ed
       → above + depth branches ≤ depth_limit → above + depth new ≤ depth_limit)
       → ((key next : Key) (more : List Key) (node : Node) (found : Inside) (above : ℕ) → inside node ≡ Some found → Room above (key ∷ next ∷ more) → Room (above + found.1) (next ∷ more))
       → ((key next : Key) (more : List Key) (above : ℕ) → Room above (key ∷ next ∷ more) → Room (above + 1) (next ∷ more))
-      → (keys : List Key) (branches new : Branches) (above : ℕ) → way_fault inside end keys branches above ≡ None → along mark through edit keys branches ≡ Some new
+      → (keys : List Key) (branches new : Branches) (above : ℕ) → way_fault inside end keys branches above ≡ None → edit_along mark through edit keys branches ≡ Some new
       → Room above keys → above + depth branches ≤ depth_limit → above + depth new ≤ depth_limit
   way_below ends goes makes [] branches new above free e room low = absurd (cc)
   way_below ends goes makes (key ∷ []) branches new above free e room low = ends key branches new above free e room low
@@ -71,8 +71,8 @@ module _ (mark : Mark) (through : Through) (inside : Node → Option Inside) (ed
       let refused_not = sym (way_step inside end key next more branches above) ∙ free in
       elim (has_key key branches) as (λ b. has_key key branches ≡ b → along_by mark through edit key next more branches b ≡ Some new → above + depth new ≤ depth_limit) [
         | true ↦ λ has is.
-            let change = is_changed (through (along mark through edit (next ∷ more))) key branches new is in
-            let into = enters (along mark through edit (next ∷ more)) change.node change.made change.is in
+            let change = is_changed (through (edit_along mark through edit (next ∷ more))) key branches new is in
+            let into = enters (edit_along mark through edit (next ∷ more)) change.node change.made change.is in
             let found = into.found in
             let inner = into.inner in
             let there = node_at_depth key branches change.node change.there in
@@ -82,7 +82,7 @@ module _ (mark : Mark) (through : Through) (inside : Node → Option Inside) (ed
             (goes key next more change.node found above into.enters room) (omega arith) in
             change.below above depth_limit low (into.below above depth_limit (omega arith) (omega arith))
         | false ↦ λ has is.
-            let made = map_some (new_table mark key branches) (along mark through edit (next ∷ more) unbranched) new is in
+            let made = map_some (new_table mark key branches) (edit_along mark through edit (next ∷ more) unbranched) new is in
             let here = sym (ap (node_fault inside end key next more above) (has_none key branches has)) ∙ refused_not in
             let same = ap depth made.2 in
             let grown = added_depth key (growing key.span mark made.0) branches in
@@ -91,7 +91,7 @@ module _ (mark : Mark) (through : Through) (inside : Node → Option Inside) (ed
             let differs : above < depth_limit = grind (arith, nat_tests) in
             let under = way_below ends goes makes (next ∷ more) unbranched made.0 (above + 1) h.1 made.1 (makes key next more above room) (omega arith) in
             omega arith)
-            (if_is (eqb above depth_limit) (refused TooDeep key) (way_fault inside end (next ∷ more) unbranched (above + 1)) None here)
+            (if_is (eqb above depth_limit) (fault_at_key TooDeep key) (way_fault inside end (next ∷ more) unbranched (above + 1)) None here)
       ] refl stepped
 
   -- an edit that leaves the tree shallow is refused nowhere
@@ -99,7 +99,7 @@ module _ (mark : Mark) (through : Through) (inside : Node → Option Inside) (ed
       → (end key branches above ≡ None) × Room above (key ∷ []))
       → ((key next : Key) (more : List Key) (node : Node) (found : Inside) (above : ℕ) → inside node ≡ Some found → Room (above + found.1) (next ∷ more) → Room above (key ∷ next ∷ more))
       → ((key next : Key) (more : List Key) (above : ℕ) → Room (above + 1) (next ∷ more) → Room above (key ∷ next ∷ more))
-      → (keys : List Key) (branches new : Branches) (above : ℕ) → along mark through edit keys branches ≡ Some new → above + depth new ≤ depth_limit
+      → (keys : List Key) (branches new : Branches) (above : ℕ) → edit_along mark through edit keys branches ≡ Some new → above + depth new ≤ depth_limit
       → (way_fault inside end keys branches above ≡ None) × Room above keys
   way_free ends goes makes [] branches new above e low = absurd (cc)
   way_free ends goes makes (key ∷ []) branches new above e low = ends key branches new above e low
@@ -108,8 +108,8 @@ module _ (mark : Mark) (through : Through) (inside : Node → Option Inside) (ed
       elim (has_key key branches) as (λ b. has_key key branches ≡ b → along_by mark through edit key next more branches b ≡ Some new
       → (way_fault inside end (key ∷ next ∷ more) branches above ≡ None) × Room above (key ∷ next ∷ more)) [
         | true ↦ λ has is.
-            let change = is_changed (through (along mark through edit (next ∷ more))) key branches new is in
-            let into = enters (along mark through edit (next ∷ more)) change.node change.made change.is in
+            let change = is_changed (through (edit_along mark through edit (next ∷ more))) key branches new is in
+            let into = enters (edit_along mark through edit (next ∷ more)) change.node change.made change.is in
             let found = into.found in
             let most = into.least in
             let least = change.least in
@@ -119,31 +119,31 @@ module _ (mark : Mark) (through : Through) (inside : Node → Option Inside) (ed
               goes key next more change.node found above into.enters rest.1,
             )
         | false ↦ λ has is.
-            let made = map_some (new_table mark key branches) (along mark through edit (next ∷ more) unbranched) new is in
+            let made = map_some (new_table mark key branches) (edit_along mark through edit (next ∷ more) unbranched) new is in
             let same = ap depth made.2 in
             let grown = added_depth key (growing key.span mark made.0) branches in
             let rest = way_free ends goes makes (next ∷ more) unbranched made.0 (above + 1) made.1 (omega arith) in
             let differs : eqb above depth_limit ≡ false = grind (arith, nat_tests) in (
               way_step inside end key next more branches above ∙ ap (node_fault inside end key next more above) (has_none key branches has)
-                  ∙ if_false (eqb above depth_limit) (refused TooDeep key) (way_fault inside end (next ∷ more) unbranched (above + 1)) differs ∙ rest.0,
+                  ∙ if_false (eqb above depth_limit) (fault_at_key TooDeep key) (way_fault inside end (next ∷ more) unbranched (above + 1)) differs ∙ rest.0,
               makes key next more above rest.1,
             )
       ] refl stepped
 
   -- an edit makes no tree shallower
   pub way_grows : ((key : Key) (branches new : Branches) → edit key branches ≡ Some new → depth branches ≤ depth new)
-      → (keys : List Key) (branches new : Branches) → along mark through edit keys branches ≡ Some new → depth branches ≤ depth new
+      → (keys : List Key) (branches new : Branches) → edit_along mark through edit keys branches ≡ Some new → depth branches ≤ depth new
   way_grows ends [] branches new e = absurd (cc)
   way_grows ends (key ∷ []) branches new e = ends key branches new e
   way_grows ends (key ∷ next ∷ more) branches new e =
       let stepped = sym (along_step mark through edit key next more branches) ∙ e in
       elim (has_key key branches) as (λ b. along_by mark through edit key next more branches b ≡ Some new → depth branches ≤ depth new) [
         | true ↦ λ is.
-            let change = is_changed (through (along mark through edit (next ∷ more))) key branches new is in
-            let into = enters (along mark through edit (next ∷ more)) change.node change.made change.is in
+            let change = is_changed (through (edit_along mark through edit (next ∷ more))) key branches new is in
+            let into = enters (edit_along mark through edit (next ∷ more)) change.node change.made change.is in
             change.grows (into.grows (way_grows ends (next ∷ more) into.found.0 into.new into.is))
         | false ↦ λ is.
-            let made = map_some (new_table mark key branches) (along mark through edit (next ∷ more) unbranched) new is in
+            let made = map_some (new_table mark key branches) (edit_along mark through edit (next ∷ more) unbranched) new is in
             let same = ap depth made.2 in
             let grown = added_depth key (growing key.span mark made.0) branches in
             omega arith
@@ -154,9 +154,9 @@ module _ (mark : Mark) (through : Through) (inside : Node → Option Inside) (ed
 abbrev Fits : ℕ → ℕ → List Key → Type 0
 Fits size above keys = above + (length keys - 1) + size ≤ depth_limit
 
-put_new_is : (node : Node) (key : Key) (branches new : Branches) → put_new node key branches ≡ Some new → (has_key key branches ≡ false) × (added key node branches ≡ new)
+put_new_is : (node : Node) (key : Key) (branches new : Branches) → put_new node key branches ≡ Some new → (has_key key branches ≡ false) × (branches_with_key key node branches ≡ new)
 put_new_is node key branches new e =
-    ⊎_elim (λ h. let other = h.1 in absurd (cc)) (λ h. (h.0, is_some _ new h.1)) (if_is (has_key key branches) None (Some (added key node branches)) (Some new) e)
+    ⊎_elim (λ h. let other = h.1 in absurd (cc)) (λ h. (h.0, is_some _ new h.1)) (if_is (has_key key branches) None (Some (branches_with_key key node branches)) (Some new) e)
 
 put_grown : (node : Node) (key : Key) (branches new : Branches) → put_new node key branches ≡ Some new → depth new ≡ max (depth branches) (node_depth node)
 put_grown node key branches new e = ap depth (sym (put_new_is node key branches new e).1) ∙ added_depth key node branches
@@ -165,7 +165,7 @@ put_end : (node : Node) (key : Key) (branches new : Branches) (above : ℕ) → 
     → Fits (node_depth node) above (key ∷ []) → above + depth branches ≤ depth_limit → above + depth new ≤ depth_limit
 put_end node key branches new above free e room low = let grown = put_grown node key branches new e in omega arith
 
-pub put_below : (keys : List Key) (node : Node) (branches new : Branches) (above : ℕ) → put_fault keys branches above ≡ None → put keys node branches ≡ Some new
+pub put_below : (keys : List Key) (node : Node) (branches new : Branches) (above : ℕ) → put_fault keys branches above ≡ None → branches_with_value keys node branches ≡ Some new
     → above + (length keys - 1) + node_depth node ≤ depth_limit → above + depth branches ≤ depth_limit → above + depth new ≤ depth_limit
 put_below keys node branches new above free e room low =
     way_below dotted through_dotted inside_dotted (put_new node) new_key_fault (Fits (node_depth node)) dotted_entered (put_end node)
@@ -179,14 +179,14 @@ put_ends node key branches new above e low =
     let grown = put_grown node key branches new e in
     (if_false (has_key key branches) _ None is.0, omega arith)
 
-pub put_free : (keys : List Key) (node : Node) (branches new : Branches) (above : ℕ) → put keys node branches ≡ Some new → above + depth new ≤ depth_limit
+pub put_free : (keys : List Key) (node : Node) (branches new : Branches) (above : ℕ) → branches_with_value keys node branches ≡ Some new → above + depth new ≤ depth_limit
     → (put_fault keys branches above ≡ None) × (above + (length keys - 1) + node_depth node ≤ depth_limit)
 put_free keys node branches new above e low =
     way_free dotted through_dotted inside_dotted (put_new node) new_key_fault (Fits (node_depth node)) dotted_entered (put_ends node)
     (λ key next more inner found high is fits. let one = dotted_one inner found is in omega arith) (λ key next more high fits. omega arith)
     keys branches new above e low
 
-pub put_grows : (keys : List Key) (node : Node) (branches new : Branches) → put keys node branches ≡ Some new → depth branches ≤ depth new
+pub put_grows : (keys : List Key) (node : Node) (branches new : Branches) → branches_with_value keys node branches ≡ Some new → depth branches ≤ depth new
 put_grows keys node branches new e =
     way_grows dotted through_dotted inside_dotted (put_new node) new_key_fault (Fits 0) dotted_entered
     (λ key some more is. let grown = put_grown node key some more is in omega arith) keys branches new e
@@ -213,5 +213,5 @@ put_room (key ∷ next ∷ more) branches above free low =
       | None ↦ λ there is.
           ⊎_elim (λ h. let other = h.1 in absurd (cc))
           (λ h. let differs : above < depth_limit = grind (arith, nat_tests) in let under = put_room (next ∷ more) unbranched (above + 1) h.1 (omega arith) in omega arith)
-          (if_is (eqb above depth_limit) (refused TooDeep key) (way_fault inside_dotted new_key_fault (next ∷ more) unbranched (above + 1)) None is)
+          (if_is (eqb above depth_limit) (fault_at_key TooDeep key) (way_fault inside_dotted new_key_fault (next ∷ more) unbranched (above + 1)) None is)
     ] refl here

@@ -2,17 +2,17 @@
 use Rattle.std.proofs.Common.{◌≡◌, ℕ, zero, suc, ◌+◌, ◌-◌, ◌<◌, ◌≤◌, ⊎_elim, Bool, true, false, cond, eqb, nat_lt, ◌||◌, ◌&&◌, List, [], ◌∷◌, length, Option, Some, None, Ok, Err, option_map, option_and_then, true≢false, refl, ap, sym, subst, ◌∙◌, arith}
 use Rattle.std.proofs.lemmas.Bool.Decides.{nat_tests}
 use Rattle.deny_text.specs.declared.span.Span.{Span}
-use Rattle.toml_subset.specs.Answer.{TomlReading, fault_at, stuck, then_read, unless}
+use Rattle.toml_subset.specs.Answer.{TomlReading, fault_at, stop_error, then_read, fault_or}
 use Rattle.toml_subset.specs.Bytes.{quote, apostrophe, hash, line_feed, carriage_return, open_bracket, close_bracket, may_stand, is_blank}
 use Rattle.toml_subset.specs.Data.{Toml, depth_limit}
 use Rattle.toml_subset.specs.Keys.{AreKeys}
 use Rattle.toml_subset.specs.Lines.{Statement, blank_line, pair, table_header, array_header, Document, no_lines, IsStatement, AreLines, after_line, after_lines}
 use Rattle.toml_subset.specs.Places.{from_to, passes_at, stands, run_end, after_blanks, after_comment, behind_line_end, next_line}
 use Rattle.toml_subset.specs.Raw.{IsValue}
-use Rattle.toml_subset.specs.Reading.{made, enough, value_at, section_of, LineFound, line_rest, with_root, pair_put, pair_from, header_from, array_header_from, is_blank_line, line_from, read_lines, whole, read_text}
+use Rattle.toml_subset.specs.Reading.{edit_reading, call_bound, value_at, section_of, LineFound, line_rest, with_root, pair_put, pair_from, header_from, array_header_from, is_blank_line, line_from, read_lines, root_value, read_text}
 use Rattle.toml_subset.specs.StringReading.{KeysFound, keys_at, read_left}
 use Rattle.toml_subset.specs.TableFaults.{put_fault, header_fault, array_header_fault}
-use Rattle.toml_subset.specs.Tables.{Branches, closed, implicit, put, along, through_any, open_table, open_array, within, meant}
+use Rattle.toml_subset.specs.Tables.{Branches, closed, implicit, branches_with_value, edit_along, through_any, open_table, open_array, edit_within, meant}
 use Rattle.toml_subset.specs.Text.{IsText}
 use Rattle.toml_subset.specs.declared.error.SyntaxReason.TheVariants.{ControlCharacter}
 use Rattle.toml_subset.specs.declared.string.Key.{Key}
@@ -30,13 +30,13 @@ use Rattle.toml_subset.proofs.Law.Ways.{put_below, put_free, put_grows, put_room
 abbrev rest_by : List ℕ → ℕ → Document → Option ℕ → TomlReading LineFound
 rest_by text i document (Some next) = Ok (document, next)
 rest_by text i document None =
-    let j = after_comment text (after_blanks text i) in cond (stands text (after_blanks text i) hash) (Err (fault_at ControlCharacter j (j + 1))) (Err (stuck text j))
+    let j = after_comment text (after_blanks text i) in cond (stands text (after_blanks text i) hash) (Err (fault_at ControlCharacter j (j + 1))) (Err (stop_error text j))
 
 rest_step : (text : List ℕ) (i : ℕ) (document : Document) → line_rest text i document ≡ rest_by text i document (next_line text i)
 rest_step text i document =
     elim (next_line text i) as (λ o. elim o [
       | Some next ↦ Ok (document, next)
-      | None ↦ (let j = after_comment text (after_blanks text i) in cond (stands text (after_blanks text i) hash) (Err (fault_at ControlCharacter j (j + 1))) (Err (stuck text j)))
+      | None ↦ (let j = after_comment text (after_blanks text i) in cond (stands text (after_blanks text i) hash) (Err (fault_at ControlCharacter j (j + 1))) (Err (stop_error text j)))
     ] ≡ rest_by text i document o) [ Some next ↦ refl | None ↦ refl ]
 
 rest_by_sound : (text : List ℕ) (i : ℕ) (document : Document) (r : LineFound) (o : Option ℕ) → rest_by text i document o ≡ Ok r → (o ≡ Some r.1) × (document ≡ r.0)
@@ -45,7 +45,7 @@ rest_by_sound text i document r (Some next) e =
 rest_by_sound text i document r None e =
     let j = after_comment text (after_blanks text i) in
     ⊎_elim (λ h. absurd (not_ok _ r h.1)) (λ h. absurd (not_ok _ r h.1))
-    (if_is (stands text (after_blanks text i) hash) (Err (fault_at ControlCharacter j (j + 1))) (Err (stuck text j)) (Ok r) e)
+    (if_is (stands text (after_blanks text i) hash) (Err (fault_at ControlCharacter j (j + 1))) (Err (stop_error text j)) (Ok r) e)
 
 rest_sound : (text : List ℕ) (i : ℕ) (document : Document) (r : LineFound) → line_rest text i document ≡ Ok r → (next_line text i ≡ Some r.1) × (document ≡ r.0)
 rest_sound text i document r e = rest_by_sound text i document r (next_line text i) (sym (rest_step text i document) ∙ e)
@@ -59,7 +59,7 @@ with root section = record { root = root; section = section }
 with_root_sound : (text : List ℕ) (i : ℕ) (section : List Key) (o : Option Branches) (r : LineFound) → with_root text i section o ≡ Ok r
     → (root : Branches) × (o ≡ Some root) × (next_line text i ≡ Some r.1) × (with root section ≡ r.0)
 with_root_sound text i section o r e =
-    let found = then_ok (λ (b : Branches). line_rest text i (with b section)) (made text o) r e in
+    let found = then_ok (λ (b : Branches). line_rest text i (with b section)) (edit_reading text o) r e in
     let rest = rest_sound text i (with found.0 section) r found.2 in
     (found.0, made_ok text o found.0 found.1, rest.0, rest.1)
 
@@ -85,15 +85,15 @@ pair_sound text j document left r low is_left e =
     let v = found.0 in
     let inner = section_inner document.section document.root 0 in
     let high = put_room keys here.0 here.1 free.0 (omega arith) in
-    let is = value_sound (enough text) text (here.1 + (length keys - 1)) left.1 v high found.1 in
-    let put_it = with_root_sound text v.2 document.section (within document.section (put keys (closed v.0 v.1)) document.root) r found.2 in
-    let inside = is_within document.section (put keys (closed v.0 v.1)) document.root put_it.0 0 put_it.1 in
+    let is = value_sound (call_bound text) text (here.1 + (length keys - 1)) left.1 v high found.1 in
+    let put_it = with_root_sound text v.2 document.section (edit_within document.section (branches_with_value keys (closed v.0 v.1)) document.root) r found.2 in
+    let inside = is_within document.section (branches_with_value keys (closed v.0 v.1)) document.root put_it.0 0 put_it.1 in
     let under = put_below keys (closed v.0 v.1) here.0 inside.made here.1 free.0 inside.is is.3 (omega arith) in
     let whole_low = inside.below depth_limit (omega arith) under in
     let same = ap (λ (d : Document). depth d.root) put_it.3 in (
       pair keys v.0 is.0,
       (v.2, (at.0, at.1, at.2, subst (λ k. IsValue text k v.0 is.0 v.2) (sym at.3) is.1), put_it.2),
-      ap (option_and_then (λ content. option_map (λ root. with root document.section) (within document.section (put keys (closed v.0 content)) document.root))) is.2
+      ap (option_and_then (λ content. option_map (λ root. with root document.section) (edit_within document.section (branches_with_value keys (closed v.0 content)) document.root))) is.2
           ∙ ap (option_map (λ root. with root document.section)) put_it.1 ∙ ap (λ (d : Document). Some d) put_it.3,
       omega arith,
     )
@@ -103,7 +103,7 @@ header_sound : (text : List ℕ) (j : ℕ) (document : Document) (keys : KeysFou
     → header_from text j document keys ≡ Ok r → LineAt text j document r
 header_sound text j document keys r low at one is_keys e =
     let k = after_blanks text keys.1 in
-    let new = along implicit through_any (open_table (from_to j (k + 1))) keys.0 document.root in
+    let new = edit_along implicit through_any (open_table (from_to j (k + 1))) keys.0 document.root in
     ⊎_elim
     (λ h.
     let free = unless_ok (header_fault keys.0 document.root) (with_root text (k + 1) keys.0 new) r h.1 in
@@ -116,15 +116,15 @@ header_sound text j document keys r low at one is_keys e =
       omega arith,
     ))
     (λ h. absurd (not_ok _ r h.1))
-    (if_is (stands text k close_bracket) (unless (header_fault keys.0 document.root) (with_root text (k + 1) keys.0 new)) (Err (stuck text k)) (Ok r) e)
+    (if_is (stands text k close_bracket) (fault_or (header_fault keys.0 document.root) (with_root text (k + 1) keys.0 new)) (Err (stop_error text k)) (Ok r) e)
 
 array_header_sound : (text : List ℕ) (j : ℕ) (document : Document) (keys : KeysFound) (r : LineFound) → depth document.root ≤ depth_limit
     → stands text j open_bracket ≡ true → stands text (j + 1) open_bracket ≡ true → keys_at text (after_blanks text (j + 2)) ≡ Ok keys
     → array_header_from text j document keys ≡ Ok r → LineAt text j document r
 array_header_sound text j document keys r low at two is_keys e =
     let k = after_blanks text keys.1 in
-    let new = along implicit through_any (open_array (from_to j (k + 2))) keys.0 document.root in
-    let made_it = unless (array_header_fault keys.0 document.root) (with_root text (k + 2) keys.0 new) in
+    let new = edit_along implicit through_any (open_array (from_to j (k + 2))) keys.0 document.root in
+    let made_it = fault_or (array_header_fault keys.0 document.root) (with_root text (k + 2) keys.0 new) in
     ⊎_elim
     (λ h.
     ⊎_elim
@@ -138,9 +138,9 @@ array_header_sound text j document keys r low at two is_keys e =
       ap (option_map (λ root. with root keys.0)) edit.1 ∙ ap (λ (d : Document). Some d) edit.3,
       omega arith,
     ))
-    (λ l. absurd (not_ok _ r l.1)) (if_is (stands text (k + 1) close_bracket) made_it (Err (stuck text (k + 1))) (Ok r) h.1))
+    (λ l. absurd (not_ok _ r l.1)) (if_is (stands text (k + 1) close_bracket) made_it (Err (stop_error text (k + 1))) (Ok r) h.1))
     (λ h. absurd (not_ok _ r h.1))
-    (if_is (stands text k close_bracket) (cond (stands text (k + 1) close_bracket) made_it (Err (stuck text (k + 1)))) (Err (stuck text k)) (Ok r) e)
+    (if_is (stands text k close_bracket) (cond (stands text (k + 1) close_bracket) made_it (Err (stop_error text (k + 1)))) (Err (stop_error text k)) (Ok r) e)
 
 abbrev array_line : List ℕ → Document → ℕ → TomlReading LineFound
 array_line text document j = then_read (array_header_from text j document) (keys_at text (after_blanks text (j + 2)))
@@ -184,7 +184,7 @@ LinesAt text i document r = (lines : List Statement) × AreLines text i lines ×
 
 pub lines_sound : (n : ℕ) (text : List ℕ) (i : ℕ) (document r : Document) → i ≤ length text → depth document.root ≤ depth_limit → read_lines n text i document ≡ Ok r
     → LinesAt text i document r
-lines_sound zero text i document r inside low e = absurd (not_ok (stuck text i) r e)
+lines_sound zero text i document r inside low e = absurd (not_ok (stop_error text i) r e)
 lines_sound (suc n) text i document r inside low e =
     ⊎_elim
     (λ h.
@@ -202,7 +202,7 @@ lines_sound (suc n) text i document r inside low e =
 
 pub text_sound : (text : List ℕ) (value : Toml) → read_text text ≡ Ok value → IsText text value
 text_sound text value e =
-    let found = then_ok (λ (document : Document). Ok (whole text document)) (read_lines (suc (length text)) text 0 no_lines) value e in
+    let found = then_ok (λ (document : Document). Ok (root_value text document)) (read_lines (suc (length text)) text 0 no_lines) value e in
     let lines = lines_sound (suc (length text)) text 0 no_lines found.0 (omega arith) (omega arith) found.1 in
     record {
       lines = lines.0;
@@ -285,9 +285,9 @@ line_read text j document new (pair keys span raw) k next blank is ends mean low
     let end = is.0 in
     let at = after_blanks text (after_blanks text end + 1) in
     let high = here.1 + (length keys - 1) in
-    let first = then_some (λ content. option_map (λ root. with root document.section) (within document.section (put keys (closed span content)) document.root)) (meant raw) new mean in
-    let edit = map_some (λ root. with root document.section) (within document.section (put keys (closed span first.0)) document.root) new first.2 in
-    let inside_it = is_within document.section (put keys (closed span first.0)) document.root edit.0 0 edit.1 in
+    let first = then_some (λ content. option_map (λ root. with root document.section) (edit_within document.section (branches_with_value keys (closed span content)) document.root)) (meant raw) new mean in
+    let edit = map_some (λ root. with root document.section) (edit_within document.section (branches_with_value keys (closed span first.0)) document.root) new first.2 in
+    let inside_it = is_within document.section (branches_with_value keys (closed span first.0)) document.root edit.0 0 edit.1 in
     let least = inside_it.least in
     let same = ap (λ (d : Document). depth d.root) edit.2 in
     let free = put_free keys (closed span first.0) here.0 inside_it.made here.1 inside_it.is (omega arith) in
@@ -296,66 +296,66 @@ line_read text j document new (pair keys span raw) k next blank is ends mean low
     past_blank text j document (key_line text j keys end is.1)
     ∙ if_false (stands text j open_bracket) (bracket_line text document j) (pair_line text document j) (keys_other open_bracket refl refl refl text j keys end is.1)
     ∙ ap (then_read (pair_from text document)) (left_read text j keys end is.1 is.2 (omega arith))
-    ∙ ap (λ o. unless o (then_read (pair_put text keys document) (value_at text high at))) free.0
-    ∙ ap (then_read (pair_put text keys document)) (value_read (enough text) text high at span raw k first.0 is.3 first.1 free.1 inside (omega arith))
-    ∙ with_root_read text k document.section (within document.section (put keys (closed span first.0)) document.root) edit.0 next edit.1 ends
+    ∙ ap (λ o. fault_or o (then_read (pair_put text keys document) (value_at text high at))) free.0
+    ∙ ap (then_read (pair_put text keys document)) (value_read (call_bound text) text high at span raw k first.0 is.3 first.1 free.1 inside (omega arith))
+    ∙ with_root_read text k document.section (edit_within document.section (branches_with_value keys (closed span first.0)) document.root) edit.0 next edit.1 ends
     ∙ ap (λ (d : Document). Ok (d, next)) edit.2
 line_read text j document new (table_header span keys) k next blank is ends mean low inside =
     let end = is.2.0 in
     let b = after_blanks text end in
     let place = is.2.3 in
-    let edit = map_some (λ root. with root keys) (along implicit through_any (open_table span) keys document.root) new mean in
+    let edit = map_some (λ root. with root keys) (edit_along implicit through_any (open_table span) keys document.root) new mean in
     let same = ap (λ (d : Document). depth d.root) edit.2 in
     let free = header_free span keys document.root edit.0 edit.1 (omega arith) in
     let spans : from_to j (b + 1) ≡ span = ap (from_to j) (sym is.2.3) ∙ sym is.2.4 in
-    let tree : along implicit through_any (open_table (from_to j (b + 1))) keys document.root ≡ Some edit.0 =
-    ap (λ (x : Span). along implicit through_any (open_table x) keys document.root) spans ∙ edit.1 in
-    let made_it = unless (header_fault keys document.root) (with_root text (b + 1) keys (along implicit through_any (open_table (from_to j (b + 1))) keys document.root)) in
+    let tree : edit_along implicit through_any (open_table (from_to j (b + 1))) keys document.root ≡ Some edit.0 =
+    ap (λ (x : Span). edit_along implicit through_any (open_table x) keys document.root) spans ∙ edit.1 in
+    let made_it = fault_or (header_fault keys document.root) (with_root text (b + 1) keys (edit_along implicit through_any (open_table (from_to j (b + 1))) keys document.root)) in
     past_blank text j document (begins_line_byte open_bracket refl refl refl refl text j is.0)
     ∙ if_true (stands text j open_bracket) (bracket_line text document j) (pair_line text document j) is.0
     ∙ if_false (stands text (j + 1) open_bracket) (array_line text document j) (table_line text document j) is.1
     ∙ ap (then_read (header_from text j document)) (keys_read (suc (length text)) text (after_blanks text (j + 1)) keys end is.2.1 (omega arith) (omega arith))
-    ∙ if_true (stands text b close_bracket) made_it (Err (stuck text b)) is.2.2
-    ∙ ap (λ o. unless o (with_root text (b + 1) keys (along implicit through_any (open_table (from_to j (b + 1))) keys document.root))) free
-    ∙ with_root_read text (b + 1) keys (along implicit through_any (open_table (from_to j (b + 1))) keys document.root) edit.0 next tree (ap (next_line text) (sym is.2.3) ∙ ends)
+    ∙ if_true (stands text b close_bracket) made_it (Err (stop_error text b)) is.2.2
+    ∙ ap (λ o. fault_or o (with_root text (b + 1) keys (edit_along implicit through_any (open_table (from_to j (b + 1))) keys document.root))) free
+    ∙ with_root_read text (b + 1) keys (edit_along implicit through_any (open_table (from_to j (b + 1))) keys document.root) edit.0 next tree (ap (next_line text) (sym is.2.3) ∙ ends)
     ∙ ap (λ (d : Document). Ok (d, next)) edit.2
 line_read text j document new (array_header span keys) k next blank is ends mean low inside =
     let end = is.2.0 in
     let b = after_blanks text end in
     let place = is.2.4 in
-    let edit = map_some (λ root. with root keys) (along implicit through_any (open_array span) keys document.root) new mean in
+    let edit = map_some (λ root. with root keys) (edit_along implicit through_any (open_array span) keys document.root) new mean in
     let same = ap (λ (d : Document). depth d.root) edit.2 in
     let free = array_header_free span keys document.root edit.0 edit.1 (omega arith) in
     let spans : from_to j (b + 2) ≡ span = ap (from_to j) (sym is.2.4) ∙ sym is.2.5 in
-    let tree : along implicit through_any (open_array (from_to j (b + 2))) keys document.root ≡ Some edit.0 =
-    ap (λ (x : Span). along implicit through_any (open_array x) keys document.root) spans ∙ edit.1 in
-    let made_it = unless (array_header_fault keys document.root) (with_root text (b + 2) keys (along implicit through_any (open_array (from_to j (b + 2))) keys document.root)) in
+    let tree : edit_along implicit through_any (open_array (from_to j (b + 2))) keys document.root ≡ Some edit.0 =
+    ap (λ (x : Span). edit_along implicit through_any (open_array x) keys document.root) spans ∙ edit.1 in
+    let made_it = fault_or (array_header_fault keys document.root) (with_root text (b + 2) keys (edit_along implicit through_any (open_array (from_to j (b + 2))) keys document.root)) in
     past_blank text j document (begins_line_byte open_bracket refl refl refl refl text j is.0)
     ∙ if_true (stands text j open_bracket) (bracket_line text document j) (pair_line text document j) is.0
     ∙ if_true (stands text (j + 1) open_bracket) (array_line text document j) (table_line text document j) is.1
     ∙ ap (then_read (array_header_from text j document)) (keys_read (suc (length text)) text (after_blanks text (j + 2)) keys end is.2.1 (omega arith) (omega arith))
-    ∙ if_true (stands text b close_bracket) (cond (stands text (b + 1) close_bracket) made_it (Err (stuck text (b + 1)))) (Err (stuck text b)) is.2.2
-    ∙ if_true (stands text (b + 1) close_bracket) made_it (Err (stuck text (b + 1))) is.2.3
-    ∙ ap (λ o. unless o (with_root text (b + 2) keys (along implicit through_any (open_array (from_to j (b + 2))) keys document.root))) free
-    ∙ with_root_read text (b + 2) keys (along implicit through_any (open_array (from_to j (b + 2))) keys document.root) edit.0 next tree (ap (next_line text) (sym is.2.4) ∙ ends)
+    ∙ if_true (stands text b close_bracket) (cond (stands text (b + 1) close_bracket) made_it (Err (stop_error text (b + 1)))) (Err (stop_error text b)) is.2.2
+    ∙ if_true (stands text (b + 1) close_bracket) made_it (Err (stop_error text (b + 1))) is.2.3
+    ∙ ap (λ o. fault_or o (with_root text (b + 2) keys (edit_along implicit through_any (open_array (from_to j (b + 2))) keys document.root))) free
+    ∙ with_root_read text (b + 2) keys (edit_along implicit through_any (open_array (from_to j (b + 2))) keys document.root) edit.0 next tree (ap (next_line text) (sym is.2.4) ∙ ends)
     ∙ ap (λ (d : Document). Ok (d, next)) edit.2
 
 line_grows : (s : Statement) (document new : Document) → after_line s document ≡ Some new → depth document.root ≤ depth new.root
 line_grows blank_line document new e = let same = ap (λ (d : Document). depth d.root) (is_some document new e) in omega arith
 line_grows (pair keys span raw) document new e =
-    let first = then_some (λ content. option_map (λ root. with root document.section) (within document.section (put keys (closed span content)) document.root)) (meant raw) new e in
-    let edit = map_some (λ root. with root document.section) (within document.section (put keys (closed span first.0)) document.root) new first.2 in
-    let inside = is_within document.section (put keys (closed span first.0)) document.root edit.0 0 edit.1 in
+    let first = then_some (λ content. option_map (λ root. with root document.section) (edit_within document.section (branches_with_value keys (closed span content)) document.root)) (meant raw) new e in
+    let edit = map_some (λ root. with root document.section) (edit_within document.section (branches_with_value keys (closed span first.0)) document.root) new first.2 in
+    let inside = is_within document.section (branches_with_value keys (closed span first.0)) document.root edit.0 0 edit.1 in
     let grown = inside.grows (put_grows keys (closed span first.0) (section_of document.section document.root 0).0 inside.made inside.is) in
     let same = ap (λ (d : Document). depth d.root) edit.2 in
     omega arith
 line_grows (table_header span keys) document new e =
-    let edit = map_some (λ root. with root keys) (along implicit through_any (open_table span) keys document.root) new e in
+    let edit = map_some (λ root. with root keys) (edit_along implicit through_any (open_table span) keys document.root) new e in
     let grown = header_grows span keys document.root edit.0 edit.1 in
     let same = ap (λ (d : Document). depth d.root) edit.2 in
     omega arith
 line_grows (array_header span keys) document new e =
-    let edit = map_some (λ root. with root keys) (along implicit through_any (open_array span) keys document.root) new e in
+    let edit = map_some (λ root. with root keys) (edit_along implicit through_any (open_array span) keys document.root) new e in
     let grown = array_header_grows span keys document.root edit.0 edit.1 in
     let same = ap (λ (d : Document). depth d.root) edit.2 in
     omega arith
@@ -402,7 +402,7 @@ line_forward text i document r inside low e =
 
 pub text_complete : (text : List ℕ) (value : Toml) → IsText text value → read_text text ≡ Ok value
 text_complete text value is =
-    ap (then_read (λ (document : Document). Ok (whole text document))) (lines_read (suc (length text)) text 0 is.lines no_lines is.document is.stand is.makes is.shallow (omega arith))
+    ap (then_read (λ (document : Document). Ok (root_value text document))) (lines_read (suc (length text)) text 0 is.lines no_lines is.document is.stand is.makes is.shallow (omega arith))
     ∙ ap (λ (x : Toml). Ok x) (sym is.is)
 
 pub one_value : (text : List ℕ) (a b : Toml) → IsText text a → IsText text b → a ≡ b

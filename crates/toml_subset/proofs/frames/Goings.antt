@@ -1,14 +1,14 @@
 -- What reading owes of a frame is the definition, read on from it.
 use Rattle.std.proofs.Common.{◌≡◌, ℕ, suc, ◌+◌, ◌-◌, ◌<◌, ◌≤◌, Bool, true, false, cond, eqb, max, ◌||◌, List, length, Option, Some, None, Ok, Err, refl, ap, sym, ◌∙◌, arith}
-use Rattle.toml_subset.specs.Answer.{TomlReading, fault_at, then_read, unless}
+use Rattle.toml_subset.specs.Answer.{TomlReading, fault_at, then_read, fault_or}
 use Rattle.toml_subset.specs.Bytes.{comma, open_bracket, close_bracket, open_brace, close_brace}
 use Rattle.toml_subset.specs.Data as «data»
 use Rattle.toml_subset.specs.Data.{Items, depth_of, items_depth, depth_limit}
 use Rattle.toml_subset.specs.Places.{stands, after_blanks, after_space}
-use Rattle.toml_subset.specs.Reading.{ValueFound, ItemsFound, read_scalar, space_fault, cut_in_comment, array_items_behind, array_items_from, entry_put, entries_from, array_read, table_read, table_from, value_from, enough, value_at}
+use Rattle.toml_subset.specs.Reading.{ValueFound, ItemsFound, read_scalar, space_fault, cut_in_comment, array_items_behind, array_items_from, entry_put, entries_from, array_read, table_read, table_from, value_from, call_bound, value_at}
 use Rattle.toml_subset.specs.StringReading.{KeysFound, read_left}
 use Rattle.toml_subset.specs.TableFaults.{put_fault}
-use Rattle.toml_subset.specs.Tables.{Branches, unbranched, closed, put, entries_of}
+use Rattle.toml_subset.specs.Tables.{Branches, unbranched, closed, branches_with_value, entries_of}
 use Rattle.toml_subset.specs.declared.error.SyntaxError.{SyntaxError}
 use Rattle.toml_subset.specs.declared.error.SyntaxReason.TheVariants.{TooDeep}
 use Rattle.toml_subset.specs.declared.string.Key.{Key}
@@ -22,20 +22,20 @@ use Rattle.toml_subset.proofs.Law.Ways.{put_below, put_room}
 use Rattle.toml_subset.specs.declared.frames.between.Next.{Next}
 use Rattle.toml_subset.specs.declared.frames.between.Next.TheVariants.{Closed, Further}
 use Rattle.toml_subset.specs.frames.Between.{item_place, behind_item, entry_place, behind_entry}
-use Rattle.toml_subset.specs.frames.Frames.{Frame, in_array, in_table, inside, IsShallowFrame, items_at, entries_at, joined, with_last, joined_found, on_with, array_on, entry_on, table_on}
+use Rattle.toml_subset.specs.frames.Frames.{Frame, in_array, in_table, depth_within, IsShallowFrame, items_at, entries_at, joined_items, with_last, joined_found, on_with, array_on, entry_on, table_on}
 
 -- the definition, one call opened
 
 pub value_on : (text : List ℕ) (above i : ℕ) → above ≤ depth_limit
     → value_at text above i ≡ value_from (items_at text (above + 1)) (entries_at text (above + 1) unbranched) text above i
-value_on text above i low = value_steady (enough text) (suc (enough text)) text above i low (omega arith) (omega arith)
+value_on text above i low = value_steady (call_bound text) (suc (call_bound text)) text above i low (omega arith) (omega arith)
 
 items_on : (text : List ℕ) (above i : ℕ) → above ≤ depth_limit → items_at text above i ≡ array_items_from (value_at text above) (items_at text above) text i
-items_on text above i low = items_steady (enough text) (suc (enough text)) text above i low (omega arith) (omega arith)
+items_on text above i low = items_steady (call_bound text) (suc (call_bound text)) text above i low (omega arith) (omega arith)
 
 entries_on : (text : List ℕ) (above : ℕ) (branches : Branches) (i : ℕ) → above + depth branches ≤ depth_limit
     → entries_at text above branches i ≡ entries_from (value_at text) (entries_at text above) text above branches i
-entries_on text above branches i low = entries_steady (enough text) (suc (enough text)) text above branches i low (omega arith) (omega arith)
+entries_on text above branches i low = entries_steady (call_bound text) (suc (call_bound text)) text above branches i low (omega arith) (omega arith)
 
 -- reading on behind an answer
 
@@ -47,7 +47,7 @@ then_same : {A B : Type 0} (f g : A → TomlReading B) (o : TomlReading A) → (
 then_same f g (Ok x) same = same x
 then_same f g (Err fault) same = refl
 
-then_unless : {A B : Type 0} (f : A → TomlReading B) (fault : Option SyntaxError) (o : TomlReading A) → then_read f (unless fault o) ≡ unless fault (then_read f o)
+then_unless : {A B : Type 0} (f : A → TomlReading B) (fault : Option SyntaxError) (o : TomlReading A) → then_read f (fault_or fault o) ≡ fault_or fault (then_read f o)
 then_unless f (Some fault) o = refl
 then_unless f None o = refl
 
@@ -67,7 +67,7 @@ next_place f g false false fault x n o p first second = refl
 
 -- items in a row
 
-joined_last : (items : Items) (v : ValueFound) (more : Items) → joined (with_last items v) more ≡ joined items (data.item v.0 v.1 more)
+joined_last : (items : Items) (v : ValueFound) (more : Items) → joined_items (with_last items v) more ≡ joined_items items (data.item v.0 v.1 more)
 joined_last data.no_item v more = refl
 joined_last (data.item span content rest) v more = ap (data.item span content) (joined_last rest v more)
 
@@ -80,7 +80,7 @@ joined_more : (items : Items) (v : ValueFound) (o : TomlReading ItemsFound)
 joined_more items v (Ok r) = ap (λ (all : Items). Ok (all, r.1)) (sym (joined_last items v r.0))
 joined_more items v (Err fault) = refl
 
-joined_depth : (a b : Items) → items_depth (joined a b) ≡ max (items_depth a) (items_depth b)
+joined_depth : (a b : Items) → items_depth (joined_items a b) ≡ max (items_depth a) (items_depth b)
 joined_depth data.no_item b = omega arith
 joined_depth (data.item span content rest) b = let more = joined_depth rest b in omega arith
 
@@ -139,14 +139,14 @@ array_goes_on text start above items v low =
 
 -- an inline table
 
-unless_same : {A : Type 0} (fault : Option SyntaxError) (x y : TomlReading A) → x ≡ y → unless fault x ≡ unless fault y
-unless_same fault x y same = ap (unless fault) same
+unless_same : {A : Type 0} (fault : Option SyntaxError) (x y : TomlReading A) → x ≡ y → fault_or fault x ≡ fault_or fault y
+unless_same fault x y same = ap (fault_or fault) same
 
 table_entry : (text : List ℕ) (start above : ℕ) (branches : Branches) (i : ℕ) → above + 1 + depth branches ≤ depth_limit
     → then_read (table_read start) (entries_at text (above + 1) branches i) ≡ then_read (entry_on text start above branches) (read_left text i)
 table_entry text start above branches i low =
     let rest = entries_at text (above + 1) in
-    let entry = λ (left : KeysFound). unless (put_fault left.0 branches (above + 1))
+    let entry = λ (left : KeysFound). fault_or (put_fault left.0 branches (above + 1))
     (then_read (entry_put rest text left.0 branches) (value_at text (above + 1 + (length left.0 - 1)) left.1)) in
     ap (then_read (table_read start)) (entries_on text (above + 1) branches i low)
     ∙ then_then (table_read start) entry (read_left text i)
@@ -154,10 +154,10 @@ table_entry text start above branches i low =
     (λ left.
     let value = value_at text (above + 1 + (length left.0 - 1)) left.1 in
     then_unless (table_read start) (put_fault left.0 branches (above + 1)) (then_read (entry_put rest text left.0 branches) value)
-    ∙ ap (unless (put_fault left.0 branches (above + 1))) (then_then (table_read start) (entry_put rest text left.0 branches) value))
+    ∙ ap (fault_or (put_fault left.0 branches (above + 1))) (then_then (table_read start) (entry_put rest text left.0 branches) value))
 
 pub table_goes_on : (text : List ℕ) (start above : ℕ) (branches : Branches) (keys : List Key) (v : ValueFound) (new : Branches)
-    → put keys (closed v.0 v.1) branches ≡ Some new → above + 1 + depth new ≤ depth_limit
+    → branches_with_value keys (closed v.0 v.1) branches ≡ Some new → above + 1 + depth new ≤ depth_limit
     → on_with text (in_table start above branches keys) v ≡ then_read (table_on text start above new) (behind_entry text v.2)
 table_goes_on text start above branches keys v new is low =
     let j = after_blanks text v.2 in
@@ -209,17 +209,17 @@ pub items_shallow : (start above : ℕ) (items : Items) (v : ValueFound) → IsS
 items_shallow start above items v low room = let both = joined_depth items (data.item v.0 v.1 data.no_item) in omega arith
 
 pub entries_shallow : (start above : ℕ) (branches : Branches) (keys : List Key) (v : ValueFound) (new : Branches) → IsShallowFrame (in_table start above branches keys)
-    → above + 1 + (length keys - 1) + depth_of v.1 ≤ depth_limit → put keys (closed v.0 v.1) branches ≡ Some new
+    → above + 1 + (length keys - 1) + depth_of v.1 ≤ depth_limit → branches_with_value keys (closed v.0 v.1) branches ≡ Some new
     → above + depth_of (data.table (entries_of new)) ≤ depth_limit
 entries_shallow start above branches keys v new low room is =
     let held = low.0 in
     let below = put_below keys (closed v.0 v.1) branches new (above + 1) low.1 is room (omega arith) in omega arith
 
-pub inside_shallow : (frame : Frame) → IsShallowFrame frame → inside frame ≤ depth_limit
+pub inside_shallow : (frame : Frame) → IsShallowFrame frame → depth_within frame ≤ depth_limit
 inside_shallow (in_array start above items) low = omega arith
 inside_shallow (in_table start above branches keys) low = let held = low.0 in put_room keys branches (above + 1) low.1 (omega arith)
 
 pub found_goes : (text : List ℕ) (above i : ℕ) (v : ValueFound) → above ≤ depth_limit → value_at text above i ≡ Ok v → (i < v.2) × (v.2 ≤ length text)
 found_goes text above i v low is =
-    let stood = value_sound (enough text) text above i v low is in
+    let stood = value_sound (call_bound text) text above i v low is in
     (value_goes text i v.0 stood.0 v.2 stood.1, value_in text i v.0 stood.0 v.2 stood.1)

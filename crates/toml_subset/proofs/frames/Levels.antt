@@ -3,12 +3,12 @@ use Rattle.std.proofs.Common.{◌≡◌, ℕ, zero, suc, ◌+◌, ◌-◌, ◌<�
 use Rattle.std.proofs.lemmas.Bool.Decides.{nat_tests}
 use Rattle.std.proofs.lemmas.Slice.Eq.{bytes_eq-Decides}
 use Rattle.deny_text.specs.declared.span.Span.{Span}
-use Rattle.toml_subset.specs.Answer.{TomlReading, then_read, unless}
+use Rattle.toml_subset.specs.Answer.{TomlReading, then_read, fault_or}
 use Rattle.toml_subset.specs.Data.{depth_limit}
 use Rattle.toml_subset.specs.Lines.{Document}
 use Rattle.toml_subset.specs.Reading.{ValueFound, section_of, line_rest, with_root as with_root_at, pair_put}
-use Rattle.toml_subset.specs.TableFaults.{Inside, put_fault, table_node_at, last_of, inside_any, refused, way_fault, taken_over_fault, open_table_fault, header_fault, appended_fault, open_array_fault, array_header_fault}
-use Rattle.toml_subset.specs.Tables.{Mark, by_header, implicit, dotted, Node, Branches, Bodies, closed, growing, tables, unbranched, branch, last, body, same_key, has_key, added, changed, in_last, through_any, along, take_over, open_table, with_table, append_to, open_array, put, within}
+use Rattle.toml_subset.specs.TableFaults.{Inside, put_fault, table_node_at, last_of, inside_any, fault_at_key, way_fault, taken_over_fault, open_table_fault, header_fault, appended_fault, open_array_fault, array_header_fault}
+use Rattle.toml_subset.specs.Tables.{Mark, by_header, implicit, dotted, Node, Branches, Bodies, closed, growing, tables, unbranched, branch, last, body, same_key, has_key, branches_with_key, branches_with_edit, in_last, through_any, edit_along, take_over, open_table, with_table, append_to, open_array, branches_with_value, edit_within}
 use Rattle.toml_subset.specs.declared.error.SyntaxError.{SyntaxError}
 use Rattle.toml_subset.specs.declared.error.SyntaxReason.TheVariants.{RedefinedTable, TooDeep}
 use Rattle.toml_subset.specs.declared.string.Key.{Key}
@@ -16,7 +16,7 @@ use Rattle.toml_subset.proofs.Law.Basics.{map_some, is_some, is_ok, not_ok, if_i
 use Rattle.toml_subset.proofs.Law.Depths.{depth, node_depth, bodies_depth, node_at_depth, any_inner}
 use Rattle.toml_subset.proofs.Law.Headers.{header_below, array_header_below, is_within, section_inner}
 use Rattle.toml_subset.proofs.Law.Ways.{put_below, node_fault, inside_fault, way_step, along_by, along_step, new_table}
-use Rattle.toml_subset.specs.frames.Levels.{Around, alone, behind, steps_in, bodies_to, around_node, TableLevel, hole, replaced, found_at, size, plugged, all_plugged, steps, Cursor, at_root, before_last, last_place, all_of, opened, fresh, refusal, further, into_old, into_new, into_found, into_part, into_parts, into_header, Lead, IsWay, IsOpened}
+use Rattle.toml_subset.specs.frames.Levels.{Around, alone, behind, steps_in, bodies_to, around_node, TableLevel, hole, branches_with_node, found_at, size, table_with_inner, all_plugged, steps, Cursor, at_root, before_last, last_place, all_of, header_branches, new_around, refusal, cursor_below, into_old, into_new, into_found, into_part, into_parts, into_header, Lead, IsWay, IsOpened}
 use Rattle.toml_subset.specs.declared.frames.part.HeaderPart.{HeaderPart}
 use Rattle.toml_subset.specs.declared.frames.part.HeaderPart.TheVariants.{Through, Table, Array}
 
@@ -44,9 +44,9 @@ up f = (suc f.0, f.1)
 pub record Found (key : Key) (table : Branches) (i : ℕ) (node : Node) : Type 0 where
   pub there : table_node_at key table ≡ Some node
   pub has : has_key key table ≡ true
-  pub change : (f : Node → Option Node) → changed f key table ≡ option_map (λ new. replaced i new table) (f node)
-  pub again : (new : Node) → found_at key (replaced i new table) ≡ Some (i, new)
-  pub twice : (a b : Node) → replaced i b (replaced i a table) ≡ replaced i b table
+  pub change : (f : Node → Option Node) → branches_with_edit f key table ≡ option_map (λ new. branches_with_node i new table) (f node)
+  pub again : (new : Node) → found_at key (branches_with_node i new table) ≡ Some (i, new)
+  pub twice : (a b : Node) → branches_with_node i b (branches_with_node i a table) ≡ branches_with_node i b table
 
 pub is_found : (key : Key) (table : Branches) (i : ℕ) (node : Node) → found_at key table ≡ Some (i, node) → Found key table i node
 is_found key unbranched i node e = absurd (cc)
@@ -55,7 +55,7 @@ is_found key (branch other here more) i node e =
     (λ h. subst (λ (x : ℕ × Node). Found key (branch other here more) x.0 x.1) (is_some (0, here) (i, node) h.1) (record {
       there = if_true (same_key key other) (Some here) (table_node_at key more) h.0;
       has = if_true (same_key key other) true (has_key key more) h.0;
-      change = λ f. if_true (same_key key other) (option_map (λ new. branch other new more) (f here)) (option_map (branch other here) (changed f key more)) h.0;
+      change = λ f. if_true (same_key key other) (option_map (λ new. branch other new more) (f here)) (option_map (branch other here) (branches_with_edit f key more)) h.0;
       again = λ new. if_true (same_key key other) (Some (0, new)) (option_map up (found_at key more)) h.0;
       twice = λ a b. refl;
     }))
@@ -65,10 +65,10 @@ is_found key (branch other here more) i node e =
     subst (λ (x : ℕ × Node). Found key (branch other here more) x.0 x.1) rest.2 (record {
       there = if_false (same_key key other) (Some here) (table_node_at key more) h.0 ∙ inner.there;
       has = if_false (same_key key other) true (has_key key more) h.0 ∙ inner.has;
-      change = λ f. if_false (same_key key other) (option_map (λ new. branch other new more) (f here)) (option_map (branch other here) (changed f key more)) h.0
+      change = λ f. if_false (same_key key other) (option_map (λ new. branch other new more) (f here)) (option_map (branch other here) (branches_with_edit f key more)) h.0
           ∙ ap (option_map (branch other here)) (inner.change f)
-          ∙ map_twice (branch other here) (λ new. replaced rest.0.0 new more) (f rest.0.1);
-      again = λ new. if_false (same_key key other) (Some (0, here)) (option_map up (found_at key (replaced rest.0.0 new more))) h.0 ∙ ap (option_map up) (inner.again new);
+          ∙ map_twice (branch other here) (λ new. branches_with_node rest.0.0 new more) (f rest.0.1);
+      again = λ new. if_false (same_key key other) (Some (0, here)) (option_map up (found_at key (branches_with_node rest.0.0 new more))) h.0 ∙ ap (option_map up) (inner.again new);
       twice = λ a b. ap (branch other here) (inner.twice a b);
     }))
     (if_is (same_key key other) (Some (0, here)) (option_map up (found_at key more)) (Some (i, node)) e)
@@ -76,8 +76,8 @@ is_found key (branch other here more) i node e =
 pub record Missing (key : Key) (table : Branches) : Type 0 where
   pub there : table_node_at key table ≡ None
   pub has : has_key key table ≡ false
-  pub again : (new : Node) → found_at key (added key new table) ≡ Some (size table, new)
-  pub back : (a b : Node) → replaced (size table) b (added key a table) ≡ added key b table
+  pub again : (new : Node) → found_at key (branches_with_key key new table) ≡ Some (size table, new)
+  pub back : (a b : Node) → branches_with_node (size table) b (branches_with_key key a table) ≡ branches_with_key key b table
 
 same_self : (key : Key) → same_key key key ≡ true
 same_self key = (bytes_eq-Decides key.name.text key.name.text).1 refl
@@ -96,7 +96,7 @@ is_missing key (branch other here more) e =
     record {
       there = if_false (same_key key other) (Some here) (table_node_at key more) h.0 ∙ rest.there;
       has = if_false (same_key key other) true (has_key key more) h.0 ∙ rest.has;
-      again = λ new. if_false (same_key key other) (Some (0, here)) (option_map up (found_at key (added key new more))) h.0 ∙ ap (option_map up) (rest.again new);
+      again = λ new. if_false (same_key key other) (Some (0, here)) (option_map up (found_at key (branches_with_key key new more))) h.0 ∙ ap (option_map up) (rest.again new);
       back = λ a b. ap (branch other here) (rest.back a b);
     })
     (if_is (same_key key other) (Some (0, here)) (option_map up (found_at key more)) None e)
@@ -138,21 +138,21 @@ through_around f (behind span before at) inner =
 abbrev Opens : Node → Around × Branches → Type 0
 Opens node found = (inside_any node ≡ Some (found.1, steps_in found.0)) × ((f : Branches → Option Branches) → through_any f node ≡ option_map (around_node found.0) (f found.1))
 
-opens : (node : Node) (found : Around × Branches) → opened Through node ≡ Some found → Opens node found
+opens : (node : Node) (found : Around × Branches) → header_branches Through node ≡ Some found → Opens node found
 opens (closed span content) found e = absurd (cc)
 opens (growing span mark inner) found e = subst (Opens (growing span mark inner)) (is_some (alone span mark, inner) found e) (refl, λ f. refl)
 opens (tables span bodies) found e =
     subst (Opens (tables span bodies)) (is_some (behind span (before_last bodies) (last_place bodies), last_of bodies) found e)
     (refl, λ f. ap (option_map (tables span)) (last_in f bodies) ∙ map_twice (tables span) (bodies_to (before_last bodies) (last_place bodies)) (f (last_of bodies)))
 
-opens_none : (node : Node) → opened Through node ≡ None → inside_any node ≡ None
+opens_none : (node : Node) → header_branches Through node ≡ None → inside_any node ≡ None
 opens_none (closed span content) e = refl
 opens_none (growing span mark inner) e = absurd (cc)
 opens_none (tables span bodies) e = absurd (cc)
 
 -- what the last part opens
 
-takes : (at : Span) (key : Key) (node : Node) (found : Around × Branches) → opened (Table at) node ≡ Some found
+takes : (at : Span) (key : Key) (node : Node) (found : Around × Branches) → header_branches (Table at) node ≡ Some found
     → (taken_over_fault key node ≡ None) × (take_over at node ≡ Some (around_node found.0 found.1))
 takes at key (closed span content) found e = absurd (cc)
 takes at key (growing span by_header inner) found e = absurd (cc)
@@ -161,14 +161,14 @@ takes at key (growing span implicit inner) found e =
 takes at key (growing span dotted inner) found e = absurd (cc)
 takes at key (tables span bodies) found e = absurd (cc)
 
-takes_none : (at : Span) (key : Key) (node : Node) → opened (Table at) node ≡ None → taken_over_fault key node ≡ refused RedefinedTable key
+takes_none : (at : Span) (key : Key) (node : Node) → header_branches (Table at) node ≡ None → taken_over_fault key node ≡ fault_at_key RedefinedTable key
 takes_none at key (closed span content) e = refl
 takes_none at key (growing span by_header inner) e = refl
 takes_none at key (growing span implicit inner) e = absurd (cc)
 takes_none at key (growing span dotted inner) e = refl
 takes_none at key (tables span bodies) e = refl
 
-appends : (at : Span) (key : Key) (node : Node) (found : Around × Branches) → opened (Array at) node ≡ Some found
+appends : (at : Span) (key : Key) (node : Node) (found : Around × Branches) → header_branches (Array at) node ≡ Some found
     → (appended_fault key node ≡ None) × (append_to at node ≡ Some (around_node found.0 found.1))
 appends at key (closed span content) found e = absurd (cc)
 appends at key (growing span mark inner) found e = absurd (cc)
@@ -178,7 +178,7 @@ appends at key (tables span bodies) found e = (
       ∙ ap (λ (x : Around × Branches). Some (around_node x.0 x.1)) (is_some (behind span (all_of bodies) at, unbranched) found e),
 )
 
-appends_none : (at : Span) (key : Key) (node : Node) → opened (Array at) node ≡ None → appended_fault key node ≡ refused RedefinedTable key
+appends_none : (at : Span) (key : Key) (node : Node) → header_branches (Array at) node ≡ None → appended_fault key node ≡ fault_at_key RedefinedTable key
 appends_none at key (closed span content) e = refl
 appends_none at key (growing span mark inner) e = refl
 appends_none at key (tables span bodies) e = absurd (cc)
@@ -208,8 +208,8 @@ node_end (Array at) key node = appended_fault key node
 
 abbrev none_end : HeaderPart → Key → ℕ → Option SyntaxError
 none_end Through key above = None
-none_end (Table at) key above = cond (eqb above depth_limit) (refused TooDeep key) None
-none_end (Array at) key above = cond (nat_lt (above + 1) depth_limit) None (refused TooDeep key)
+none_end (Table at) key above = cond (eqb above depth_limit) (fault_at_key TooDeep key) None
+none_end (Array at) key above = cond (nat_lt (above + 1) depth_limit) None (fault_at_key TooDeep key)
 
 abbrev node_edit : HeaderPart → Node → Option Node
 node_edit Through node = None
@@ -228,27 +228,27 @@ fault_by part key above None = none_end part key above
 fault_is : (part : HeaderPart) → IsLast part → (key : Key) (branches : Branches) (above : ℕ) → end_fault part key branches above ≡ fault_by part key above (table_node_at key branches)
 fault_is Through never key branches above = absurd never
 fault_is (Table at) is key branches above =
-    elim (table_node_at key branches) as (λ o. elim o [ Some node ↦ taken_over_fault key node | None ↦ cond (eqb above depth_limit) (refused TooDeep key) None ]
+    elim (table_node_at key branches) as (λ o. elim o [ Some node ↦ taken_over_fault key node | None ↦ cond (eqb above depth_limit) (fault_at_key TooDeep key) None ]
     ≡ fault_by (Table at) key above o) [ Some node ↦ refl | None ↦ refl ]
 fault_is (Array at) is key branches above =
-    elim (table_node_at key branches) as (λ o. elim o [ Some node ↦ appended_fault key node | None ↦ cond (nat_lt (above + 1) depth_limit) None (refused TooDeep key) ]
+    elim (table_node_at key branches) as (λ o. elim o [ Some node ↦ appended_fault key node | None ↦ cond (nat_lt (above + 1) depth_limit) None (fault_at_key TooDeep key) ]
     ≡ fault_by (Array at) key above o) [ Some node ↦ refl | None ↦ refl ]
 
 abbrev edit_by : HeaderPart → Key → Branches → Bool → Option Branches
-edit_by part key branches b = cond b (changed (node_edit part) key branches) (Some (added key (new_node part) branches))
+edit_by part key branches b = cond b (branches_with_edit (node_edit part) key branches) (Some (branches_with_key key (new_node part) branches))
 
 edit_is : (part : HeaderPart) → IsLast part → (key : Key) (branches : Branches) → end_edit part key branches ≡ edit_by part key branches (has_key key branches)
 edit_is Through never key branches = absurd never
 edit_is (Table at) is key branches = refl
 edit_is (Array at) is key branches = refl
 
-node_opens : (part : HeaderPart) → IsLast part → (key : Key) (node : Node) (found : Around × Branches) → opened part node ≡ Some found
+node_opens : (part : HeaderPart) → IsLast part → (key : Key) (node : Node) (found : Around × Branches) → header_branches part node ≡ Some found
     → (node_end part key node ≡ None) × (node_edit part node ≡ Some (around_node found.0 found.1))
 node_opens Through never key node found e = absurd never
 node_opens (Table at) is key node found e = takes at key node found e
 node_opens (Array at) is key node found e = appends at key node found e
 
-node_refuses : (part : HeaderPart) → IsLast part → (key : Key) (node : Node) → opened part node ≡ None → node_end part key node ≡ refused RedefinedTable key
+node_refuses : (part : HeaderPart) → IsLast part → (key : Key) (node : Node) → header_branches part node ≡ None → node_end part key node ≡ fault_at_key RedefinedTable key
 node_refuses Through never key node e = absurd never
 node_refuses (Table at) is key node e = takes_none at key node e
 node_refuses (Array at) is key node e = appends_none at key node e
@@ -256,25 +256,25 @@ node_refuses (Array at) is key node e = appends_none at key node e
 abbrev MakesNew : HeaderPart → Key → ℕ → Around → Type 0
 MakesNew part key above around = (none_end part key above ≡ None) × (new_node part ≡ around_node around unbranched)
 
-makes_new : (part : HeaderPart) → IsLast part → (key : Key) (above : ℕ) (around : Around) → fresh part key above ≡ Some around → MakesNew part key above around
+makes_new : (part : HeaderPart) → IsLast part → (key : Key) (above : ℕ) (around : Around) → new_around part key above ≡ Some around → MakesNew part key above around
 makes_new Through never key above around e = absurd never
 makes_new (Table at) is key above around e =
     ⊎_elim (λ h. let never : None ≡ Some around = h.1 in absurd (cc))
-    (λ h. subst (MakesNew (Table at) key above) (is_some (alone at by_header) around h.1) (if_false (eqb above depth_limit) (refused TooDeep key) None h.0, refl))
+    (λ h. subst (MakesNew (Table at) key above) (is_some (alone at by_header) around h.1) (if_false (eqb above depth_limit) (fault_at_key TooDeep key) None h.0, refl))
     (if_is (eqb above depth_limit) None (Some (alone at by_header)) (Some around) e)
 makes_new (Array at) is key above around e =
     ⊎_elim
-    (λ h. subst (MakesNew (Array at) key above) (is_some (behind at [] at) around h.1) (if_true (nat_lt (above + 1) depth_limit) None (refused TooDeep key) h.0, refl))
+    (λ h. subst (MakesNew (Array at) key above) (is_some (behind at [] at) around h.1) (if_true (nat_lt (above + 1) depth_limit) None (fault_at_key TooDeep key) h.0, refl))
     (λ h. let never : None ≡ Some around = h.1 in absurd (cc))
     (if_is (nat_lt (above + 1) depth_limit) (Some (behind at [] at)) None (Some around) e)
 
-makes_none : (part : HeaderPart) → IsLast part → (key : Key) (above : ℕ) → fresh part key above ≡ None → none_end part key above ≡ refused TooDeep key
+makes_none : (part : HeaderPart) → IsLast part → (key : Key) (above : ℕ) → new_around part key above ≡ None → none_end part key above ≡ fault_at_key TooDeep key
 makes_none Through never key above e = absurd never
 makes_none (Table at) is key above e =
-    ⊎_elim (λ h. if_true (eqb above depth_limit) (refused TooDeep key) None h.0) (λ h. let never : Some (alone at by_header) ≡ None = h.1 in absurd (cc))
+    ⊎_elim (λ h. if_true (eqb above depth_limit) (fault_at_key TooDeep key) None h.0) (λ h. let never : Some (alone at by_header) ≡ None = h.1 in absurd (cc))
     (if_is (eqb above depth_limit) None (Some (alone at by_header)) None e)
 makes_none (Array at) is key above e =
-    ⊎_elim (λ h. let never : Some (behind at [] at) ≡ None = h.1 in absurd (cc)) (λ h. if_false (nat_lt (above + 1) depth_limit) None (refused TooDeep key) h.0)
+    ⊎_elim (λ h. let never : Some (behind at [] at) ≡ None = h.1 in absurd (cc)) (λ h. if_false (nat_lt (above + 1) depth_limit) None (fault_at_key TooDeep key) h.0)
     (if_is (nat_lt (above + 1) depth_limit) (Some (behind at [] at)) None None e)
 
 -- what a way came to: its fault, or the edit at its end, put together from the tables that were taken out
@@ -295,16 +295,16 @@ module _ (part : HeaderPart) (is : IsLast part) (key : Key) (c : Cursor) where
   abbrev Ends : TomlReading Cursor → Type 0
   Ends = Goes (end_fault part key c.here c.above) (end_edit part key c.here) (key ∷ []) c
 
-  old_ends : (i : ℕ) (node : Node) → found_at key c.here ≡ Some (i, node) → (o : Option (Around × Branches)) → opened part node ≡ o → Ends (into_old key c i o)
+  old_ends : (i : ℕ) (node : Node) → found_at key c.here ≡ Some (i, node) → (o : Option (Around × Branches)) → header_branches part node ≡ o → Ends (into_old key c i o)
   old_ends i node there (Some found) e =
       let at = is_found key c.here i node there in
       let opens_it = node_opens part is key node found e in
       record {
         free = fault_is part is key c.here c.above ∙ ap (fault_by part key c.above) at.there ∙ opens_it.0;
-        levels = record { table = replaced i (hole key) c.here; place = i; around = found.0 } ∷ [];
+        levels = record { table = branches_with_node i (hole key) c.here; place = i; around = found.0 } ∷ [];
         around = refl;
         is = edit_is part is key c.here ∙ ap (edit_by part key c.here) at.has ∙ at.change (node_edit part)
-            ∙ ap (option_map (λ new. replaced i new c.here)) opens_it.1 ∙ ap Some (sym (at.twice (hole key) (around_node found.0 found.1)));
+            ∙ ap (option_map (λ new. branches_with_node i new c.here)) opens_it.1 ∙ ap Some (sym (at.twice (hole key) (around_node found.0 found.1)));
         leads = ((hole key, at.again (hole key)), tt);
         deep = omega arith;
       }
@@ -312,16 +312,16 @@ module _ (part : HeaderPart) (is : IsLast part) (key : Key) (c : Cursor) where
       let at = is_found key c.here i node there in
       fault_is part is key c.here c.above ∙ ap (fault_by part key c.above) at.there ∙ node_refuses part is key node e
 
-  new_ends : found_at key c.here ≡ None → (o : Option Around) → fresh part key c.above ≡ o → Ends (into_new key c o)
+  new_ends : found_at key c.here ≡ None → (o : Option Around) → new_around part key c.above ≡ o → Ends (into_new key c o)
   new_ends none (Some around) e =
       let at = is_missing key c.here none in
       let makes = makes_new part is key c.above around e in
       record {
         free = fault_is part is key c.here c.above ∙ ap (fault_by part key c.above) at.there ∙ makes.0;
-        levels = record { table = added key (hole key) c.here; place = size c.here; around = around } ∷ [];
+        levels = record { table = branches_with_key key (hole key) c.here; place = size c.here; around = around } ∷ [];
         around = refl;
         is = edit_is part is key c.here ∙ ap (edit_by part key c.here) at.has
-            ∙ ap (λ n. Some (added key n c.here)) makes.1 ∙ ap Some (sym (at.back (hole key) (around_node around unbranched)));
+            ∙ ap (λ n. Some (branches_with_key key n c.here)) makes.1 ∙ ap Some (sym (at.back (hole key) (around_node around unbranched)));
         leads = ((hole key, at.again (hole key)), tt);
         deep = omega arith;
       }
@@ -330,8 +330,8 @@ module _ (part : HeaderPart) (is : IsLast part) (key : Key) (c : Cursor) where
       fault_is part is key c.here c.above ∙ ap (fault_by part key c.above) at.there ∙ makes_none part is key c.above e
 
   found_ends : (o : Option (ℕ × Node)) → found_at key c.here ≡ o → Ends (into_found part key c o)
-  found_ends (Some found) e = old_ends found.0 found.1 e (opened part found.1) refl
-  found_ends None e = new_ends e (fresh part key c.above) refl
+  found_ends (Some found) e = old_ends found.0 found.1 e (header_branches part found.1) refl
+  found_ends None e = new_ends e (new_around part key c.above) refl
 
   pub part_ends : Ends (into_part part key c)
   part_ends = found_ends (found_at key c.here) refl
@@ -339,13 +339,13 @@ module _ (part : HeaderPart) (is : IsLast part) (key : Key) (c : Cursor) where
 -- a part before the last
 
 step_on : (fault under : Option SyntaxError) (edit inner : Option Branches) (level : TableLevel) (key : Key) (more : List Key) (c next : Cursor) (answer : TomlReading Cursor)
-    → fault ≡ under → edit ≡ option_map (plugged level) inner → (node : Node) → found_at key level.table ≡ Some (level.place, node)
+    → fault ≡ under → edit ≡ option_map (table_with_inner level) inner → (node : Node) → found_at key level.table ≡ Some (level.place, node)
     → next.around ≡ c.around ++ level ∷ [] → next.above ≡ c.above + steps_in level.around → Goes under inner more next answer → Goes fault edit (key ∷ more) c answer
 step_on fault under edit inner level key more c next (Ok new) same_fault same_edit node leads around above rest = record {
   free = same_fault ∙ rest.free;
   levels = level ∷ rest.levels;
   around = rest.around ∙ ap (λ ls. ls ++ rest.levels) around ∙ append_assoc c.around (level ∷ []) rest.levels;
-  is = same_edit ∙ ap (option_map (plugged level)) rest.is;
+  is = same_edit ∙ ap (option_map (table_with_inner level)) rest.is;
   leads = ((node, leads), rest.leads);
   deep = let deep = rest.deep in omega arith;
 }
@@ -356,10 +356,10 @@ module _ (part : HeaderPart) (is : IsLast part) (key next : Key) (more : List Ke
   wanted = way_fault inside_any (end_fault part) (key ∷ next ∷ more) c.here c.above
 
   abbrev tail : Branches → Option Branches
-  tail = along implicit through_any (end_edit part) (next ∷ more)
+  tail = edit_along implicit through_any (end_edit part) (next ∷ more)
 
   abbrev whole_edit : Option Branches
-  whole_edit = along implicit through_any (end_edit part) (key ∷ next ∷ more) c.here
+  whole_edit = edit_along implicit through_any (end_edit part) (key ∷ next ∷ more) c.here
 
   abbrev Steps : TomlReading Cursor → Type 0
   Steps = Goes wanted whole_edit (key ∷ next ∷ more) c
@@ -373,26 +373,26 @@ module _ (part : HeaderPart) (is : IsLast part) (key next : Key) (more : List Ke
   edit_step : (b : Bool) → has_key key c.here ≡ b → whole_edit ≡ along_by implicit through_any (end_edit part) key next more c.here b
   edit_step b e = along_step implicit through_any (end_edit part) key next more c.here ∙ ap (along_by implicit through_any (end_edit part) key next more c.here) e
 
-  old_steps : Further → (i : ℕ) (node : Node) → found_at key c.here ≡ Some (i, node) → (o : Option (Around × Branches)) → opened Through node ≡ o
+  old_steps : Further → (i : ℕ) (node : Node) → found_at key c.here ≡ Some (i, node) → (o : Option (Around × Branches)) → header_branches Through node ≡ o
       → Steps (then_read (into_parts part (next ∷ more)) (into_old key c i o))
   old_steps rest i node there (Some found) e =
       let at = is_found key c.here i node there in
       let into = opens node found e in
-      let level : TableLevel = record { table = replaced i (hole key) c.here; place = i; around = found.0 } in
-      let d = further c (replaced i (hole key) c.here) i found.0 found.1 in
+      let level : TableLevel = record { table = branches_with_node i (hole key) c.here; place = i; around = found.0 } in
+      let d = cursor_below c (branches_with_node i (hole key) c.here) i found.0 found.1 in
       step_on wanted (way_fault inside_any (end_fault part) (next ∷ more) found.1 (c.above + steps_in found.0)) whole_edit (tail found.1) level key (next ∷ more) c d
       (into_parts part (next ∷ more) d)
       (fault_step (Some node) at.there ∙ ap (inside_fault inside_any (end_fault part) key next more c.above) into.0)
       (edit_step true at.has ∙ at.change (through_any tail)
-      ∙ ap (option_map (λ new. replaced i new c.here)) (into.1 tail)
-      ∙ map_twice (λ new. replaced i new c.here) (around_node found.0) (tail found.1)
-      ∙ map_same (λ x. replaced i (around_node found.0 x) c.here) (plugged level) (λ x. sym (at.twice (hole key) (around_node found.0 x))) (tail found.1))
+      ∙ ap (option_map (λ new. branches_with_node i new c.here)) (into.1 tail)
+      ∙ map_twice (λ new. branches_with_node i new c.here) (around_node found.0) (tail found.1)
+      ∙ map_same (λ x. branches_with_node i (around_node found.0 x) c.here) (table_with_inner level) (λ x. sym (at.twice (hole key) (around_node found.0 x))) (tail found.1))
       (hole key) (at.again (hole key)) refl refl (rest d)
   old_steps rest i node there None e =
       let at = is_found key c.here i node there in
       fault_step (Some node) at.there ∙ ap (inside_fault inside_any (end_fault part) key next more c.above) (opens_none node e)
 
-  new_steps : Further → found_at key c.here ≡ None → (o : Option Around) → fresh Through key c.above ≡ o
+  new_steps : Further → found_at key c.here ≡ None → (o : Option Around) → new_around Through key c.above ≡ o
       → Steps (then_read (into_parts part (next ∷ more)) (into_new key c o))
   new_steps rest none (Some around) e =
       let at = is_missing key c.here none in
@@ -400,29 +400,29 @@ module _ (part : HeaderPart) (is : IsLast part) (key next : Key) (more : List Ke
       (λ h.
       let same : alone key.span implicit ≡ around = is_some (alone key.span implicit) around h.1 in
       subst (λ a. Steps (then_read (into_parts part (next ∷ more)) (into_new key c (Some a)))) same
-      (let level : TableLevel = record { table = added key (hole key) c.here; place = size c.here; around = alone key.span implicit } in
-      let d = further c (added key (hole key) c.here) (size c.here) (alone key.span implicit) unbranched in
+      (let level : TableLevel = record { table = branches_with_key key (hole key) c.here; place = size c.here; around = alone key.span implicit } in
+      let d = cursor_below c (branches_with_key key (hole key) c.here) (size c.here) (alone key.span implicit) unbranched in
       step_on wanted (way_fault inside_any (end_fault part) (next ∷ more) unbranched (c.above + 1)) whole_edit (tail unbranched) level key (next ∷ more) c d
       (into_parts part (next ∷ more) d)
-      (fault_step None at.there ∙ if_false (eqb c.above depth_limit) (refused TooDeep key) (way_fault inside_any (end_fault part) (next ∷ more) unbranched (c.above + 1)) h.0)
+      (fault_step None at.there ∙ if_false (eqb c.above depth_limit) (fault_at_key TooDeep key) (way_fault inside_any (end_fault part) (next ∷ more) unbranched (c.above + 1)) h.0)
       (edit_step false at.has
-      ∙ map_same (new_table implicit key c.here) (plugged level) (λ x. sym (at.back (hole key) (growing key.span implicit x))) (tail unbranched))
+      ∙ map_same (new_table implicit key c.here) (table_with_inner level) (λ x. sym (at.back (hole key) (growing key.span implicit x))) (tail unbranched))
       (hole key) (at.again (hole key)) refl refl (rest d)))
       (if_is (eqb c.above depth_limit) None (Some (alone key.span implicit)) (Some around) e)
   new_steps rest none None e =
       let at = is_missing key c.here none in
       ⊎_elim
-      (λ h. fault_step None at.there ∙ if_true (eqb c.above depth_limit) (refused TooDeep key) (way_fault inside_any (end_fault part) (next ∷ more) unbranched (c.above + 1)) h.0)
+      (λ h. fault_step None at.there ∙ if_true (eqb c.above depth_limit) (fault_at_key TooDeep key) (way_fault inside_any (end_fault part) (next ∷ more) unbranched (c.above + 1)) h.0)
       (λ h. let never : Some (alone key.span implicit) ≡ None = h.1 in absurd (cc))
       (if_is (eqb c.above depth_limit) None (Some (alone key.span implicit)) None e)
 
   found_steps : Further → (o : Option (ℕ × Node)) → found_at key c.here ≡ o → Steps (then_read (into_parts part (next ∷ more)) (into_found Through key c o))
-  found_steps rest (Some found) e = old_steps rest found.0 found.1 e (opened Through found.1) refl
-  found_steps rest None e = new_steps rest e (fresh Through key c.above) refl
+  found_steps rest (Some found) e = old_steps rest found.0 found.1 e (header_branches Through found.1) refl
+  found_steps rest None e = new_steps rest e (new_around Through key c.above) refl
 
 -- all parts
 pub parts_go : (part : HeaderPart) → IsLast part → (keys : List Key) (c : Cursor) → 0 < length keys
-    → Goes (way_fault inside_any (end_fault part) keys c.here c.above) (along implicit through_any (end_edit part) keys c.here) keys c (into_parts part keys c)
+    → Goes (way_fault inside_any (end_fault part) keys c.here c.above) (edit_along implicit through_any (end_edit part) keys c.here) keys c (into_parts part keys c)
 parts_go part is [] c some = absurd (omega arith)
 parts_go part is (key ∷ []) c some = part_ends part is key c
 parts_go part is (key ∷ next ∷ more) c some =
@@ -431,7 +431,7 @@ parts_go part is (key ∷ next ∷ more) c some =
 -- a pair needs the open table alone
 
 pub within_way : (keys : List Key) (levels : List TableLevel) (here : Branches) (edit : Branches → Option Branches) → Lead keys levels
-    → within keys edit (all_plugged levels here) ≡ option_map (all_plugged levels) (edit here)
+    → edit_within keys edit (all_plugged levels here) ≡ option_map (all_plugged levels) (edit here)
 within_way [] [] here edit leads = map_own (edit here)
 within_way [] (level ∷ levels) here edit leads = absurd leads
 within_way (key ∷ keys) [] here edit leads = absurd leads
@@ -439,14 +439,14 @@ within_way (key ∷ keys) (level ∷ levels) here edit leads =
     let inner = all_plugged levels here in
     let node = around_node level.around inner in
     let first = is_found key level.table level.place leads.0.0 leads.0.1 in
-    let at = is_found key (replaced level.place node level.table) level.place node (first.again node) in
-    at.change (through_any (within keys edit))
-    ∙ ap (option_map (λ new. replaced level.place new (replaced level.place node level.table)))
-    (through_around (within keys edit) level.around inner ∙ ap (option_map (around_node level.around)) (within_way keys levels here edit leads.1))
-    ∙ ap (option_map (λ new. replaced level.place new (replaced level.place node level.table)))
+    let at = is_found key (branches_with_node level.place node level.table) level.place node (first.again node) in
+    at.change (through_any (edit_within keys edit))
+    ∙ ap (option_map (λ new. branches_with_node level.place new (branches_with_node level.place node level.table)))
+    (through_around (edit_within keys edit) level.around inner ∙ ap (option_map (around_node level.around)) (within_way keys levels here edit leads.1))
+    ∙ ap (option_map (λ new. branches_with_node level.place new (branches_with_node level.place node level.table)))
     (map_twice (around_node level.around) (all_plugged levels) (edit here))
-    ∙ map_twice (λ new. replaced level.place new (replaced level.place node level.table)) (λ x. around_node level.around (all_plugged levels x)) (edit here)
-    ∙ map_same (λ x. replaced level.place (around_node level.around (all_plugged levels x)) (replaced level.place node level.table)) (all_plugged (level ∷ levels))
+    ∙ map_twice (λ new. branches_with_node level.place new (branches_with_node level.place node level.table)) (λ x. around_node level.around (all_plugged levels x)) (edit here)
+    ∙ map_same (λ x. branches_with_node level.place (around_node level.around (all_plugged levels x)) (branches_with_node level.place node level.table)) (all_plugged (level ∷ levels))
     (λ x. first.twice node (around_node level.around (all_plugged levels x))) (edit here)
 
 abbrev inside_section : List Key → ℕ → Option Inside → Inside
@@ -480,15 +480,15 @@ section_way (key ∷ keys) (level ∷ levels) here above leads =
     let inner = all_plugged levels here in
     let node = around_node level.around inner in
     let first = is_found key level.table level.place leads.0.0 leads.0.1 in
-    let at = is_found key (replaced level.place node level.table) level.place node (first.again node) in
-    section_step key keys (plugged level inner) above ∙ ap (node_section keys above) at.there
+    let at = is_found key (branches_with_node level.place node level.table) level.place node (first.again node) in
+    section_step key keys (table_with_inner level inner) above ∙ ap (node_section keys above) at.there
     ∙ ap (inside_section keys above) (inside_around level.around inner)
     ∙ section_way keys levels here (above + steps_in level.around) leads.1
     ∙ more_above here (above + steps_in level.around + steps levels) (above + (steps_in level.around + steps levels)) (omega arith)
 
-pub plugged_last : (levels : List TableLevel) (level : TableLevel) (inner : Branches) → all_plugged (levels ++ level ∷ []) inner ≡ all_plugged levels (plugged level inner)
+pub plugged_last : (levels : List TableLevel) (level : TableLevel) (inner : Branches) → all_plugged (levels ++ level ∷ []) inner ≡ all_plugged levels (table_with_inner level inner)
 plugged_last [] level inner = refl
-plugged_last (x ∷ xs) level inner = ap (plugged x) (plugged_last xs level inner)
+plugged_last (x ∷ xs) level inner = ap (table_with_inner x) (plugged_last xs level inner)
 
 -- documents
 
@@ -524,18 +524,18 @@ module _ (document : Document) (c : Cursor) (way : IsWay document c) where
   opened_way fault edit keys low (Err refusal) went = went
 
   pub table_way : (at : Span) (keys : List Key) → 0 < length keys
-      → IsOpened (header_fault keys document.root) (along implicit through_any (open_table at) keys document.root) keys (into_header (Table at) keys c)
+      → IsOpened (header_fault keys document.root) (edit_along implicit through_any (open_table at) keys document.root) keys (into_header (Table at) keys c)
   table_way at keys some =
-      subst (λ root. IsOpened (header_fault keys root) (along implicit through_any (open_table at) keys root) keys (into_header (Table at) keys c)) (sym way.root)
-      (opened_way (header_fault keys root_cursor.here) (along implicit through_any (open_table at) keys root_cursor.here) keys
+      subst (λ root. IsOpened (header_fault keys root) (edit_along implicit through_any (open_table at) keys root) keys (into_header (Table at) keys c)) (sym way.root)
+      (opened_way (header_fault keys root_cursor.here) (edit_along implicit through_any (open_table at) keys root_cursor.here) keys
       (λ made free is. header_below at keys root_cursor.here made free is (subst (λ b. depth b ≤ depth_limit) way.root way.low))
       (into_header (Table at) keys c) (parts_go (Table at) tt keys root_cursor some))
 
   pub array_way : (at : Span) (keys : List Key) → 0 < length keys
-      → IsOpened (array_header_fault keys document.root) (along implicit through_any (open_array at) keys document.root) keys (into_header (Array at) keys c)
+      → IsOpened (array_header_fault keys document.root) (edit_along implicit through_any (open_array at) keys document.root) keys (into_header (Array at) keys c)
   array_way at keys some =
-      subst (λ root. IsOpened (array_header_fault keys root) (along implicit through_any (open_array at) keys root) keys (into_header (Array at) keys c)) (sym way.root)
-      (opened_way (array_header_fault keys root_cursor.here) (along implicit through_any (open_array at) keys root_cursor.here) keys
+      subst (λ root. IsOpened (array_header_fault keys root) (edit_along implicit through_any (open_array at) keys root) keys (into_header (Array at) keys c)) (sym way.root)
+      (opened_way (array_header_fault keys root_cursor.here) (edit_along implicit through_any (open_array at) keys root_cursor.here) keys
       (λ made free is. array_header_below at keys root_cursor.here made free is (subst (λ b. depth b ≤ depth_limit) way.root way.low))
       (into_header (Array at) keys c) (parts_go (Array at) tt keys root_cursor some))
 
@@ -548,7 +548,7 @@ bodies_some (body span branches more) = omega arith
 abbrev Deeper : Node → Around × Branches → Type 0
 Deeper node found = steps_in found.0 + depth found.1 ≤ node_depth node
 
-opened_inner : (part : HeaderPart) (node : Node) (found : Around × Branches) → opened part node ≡ Some found → Deeper node found
+opened_inner : (part : HeaderPart) (node : Node) (found : Around × Branches) → header_branches part node ≡ Some found → Deeper node found
 opened_inner Through node found e = any_inner node (found.1, steps_in found.0) (opens node found e).0
 opened_inner (Table at) (closed span content) found e = absurd (cc)
 opened_inner (Table at) (growing span by_header inner) found e = absurd (cc)
@@ -564,7 +564,7 @@ opened_inner (Array at) (tables span bodies) found e =
 abbrev Room : ℕ → Around → Type 0
 Room above around = above + steps_in around ≤ depth_limit
 
-pub fresh_room : (part : HeaderPart) (key : Key) (above : ℕ) (around : Around) → above ≤ depth_limit → fresh part key above ≡ Some around → Room above around
+pub fresh_room : (part : HeaderPart) (key : Key) (above : ℕ) (around : Around) → above ≤ depth_limit → new_around part key above ≡ Some around → Room above around
 fresh_room Through key above around low e =
     ⊎_elim (λ h. let never : None ≡ Some around = h.1 in absurd (cc))
     (λ h. subst (Room above) (is_some (alone key.span implicit) around h.1) (grind (arith, nat_tests)))
@@ -580,7 +580,7 @@ fresh_room (Array at) key above around low e =
 
 -- a table that stands there has room for what a part opens in it
 pub old_room : (part : HeaderPart) (key : Key) (c : Cursor) (i : ℕ) (node : Node) (found : Around × Branches) → c.above + depth c.here ≤ depth_limit
-    → found_at key c.here ≡ Some (i, node) → opened part node ≡ Some found → c.above + (steps_in found.0 + depth found.1) ≤ depth_limit
+    → found_at key c.here ≡ Some (i, node) → header_branches part node ≡ Some found → c.above + (steps_in found.0 + depth found.1) ≤ depth_limit
 old_room part key c i node found low there e =
     let at = is_found key c.here i node there in
     let under = node_at_depth key c.here node at.there in
@@ -591,21 +591,21 @@ abbrev IsLow : Cursor → Type 0
 IsLow c = c.above + depth c.here ≤ depth_limit
 
 module _ (part : HeaderPart) (key : Key) (c new : Cursor) (low : IsLow c) where
-  old_low : (i : ℕ) (node : Node) → found_at key c.here ≡ Some (i, node) → (o : Option (Around × Branches)) → opened part node ≡ o → into_old key c i o ≡ Ok new → IsLow new
+  old_low : (i : ℕ) (node : Node) → found_at key c.here ≡ Some (i, node) → (o : Option (Around × Branches)) → header_branches part node ≡ o → into_old key c i o ≡ Ok new → IsLow new
   old_low i node there (Some found) e is =
-      subst IsLow (is_ok (further c (replaced i (hole key) c.here) i found.0 found.1) new is)
+      subst IsLow (is_ok (cursor_below c (branches_with_node i (hole key) c.here) i found.0 found.1) new is)
       (let room = old_room part key c i node found low there e in omega arith)
   old_low i node there None e is = absurd (not_ok (refusal RedefinedTable key) new is)
 
-  new_low : (o : Option Around) → fresh part key c.above ≡ o → into_new key c o ≡ Ok new → IsLow new
+  new_low : (o : Option Around) → new_around part key c.above ≡ o → into_new key c o ≡ Ok new → IsLow new
   new_low (Some around) e is =
-      subst IsLow (is_ok (further c (added key (hole key) c.here) (size c.here) around unbranched) new is)
+      subst IsLow (is_ok (cursor_below c (branches_with_key key (hole key) c.here) (size c.here) around unbranched) new is)
       (let room = fresh_room part key c.above around (omega arith) e in omega arith)
   new_low None e is = absurd (not_ok (refusal TooDeep key) new is)
 
   found_low : (o : Option (ℕ × Node)) → found_at key c.here ≡ o → into_found part key c o ≡ Ok new → IsLow new
-  found_low (Some found) e is = old_low found.0 found.1 e (opened part found.1) refl is
-  found_low None e is = new_low (fresh part key c.above) refl is
+  found_low (Some found) e is = old_low found.0 found.1 e (header_branches part found.1) refl is
+  found_low None e is = new_low (new_around part key c.above) refl is
 
   pub part_low : into_part part key c ≡ Ok new → IsLow new
   part_low is = found_low (found_at key c.here) refl is
@@ -613,21 +613,21 @@ module _ (part : HeaderPart) (key : Key) (c new : Cursor) (low : IsLow c) where
 -- a pair, and a header, as lines of a document
 
 module _ (document : Document) (c : Cursor) (way : IsWay document c) (keys : List Key) (node : Node) (new : Branches) where
-  pair_edit : put keys node c.here ≡ Some new → within document.section (put keys node) document.root ≡ Some (all_plugged c.around new)
+  pair_edit : branches_with_value keys node c.here ≡ Some new → edit_within document.section (branches_with_value keys node) document.root ≡ Some (all_plugged c.around new)
   pair_edit is =
-      ap (within document.section (put keys node)) way.root ∙ within_way document.section c.around c.here (put keys node) way.leads
+      ap (edit_within document.section (branches_with_value keys node)) way.root ∙ within_way document.section c.around c.here (branches_with_value keys node) way.leads
       ∙ ap (option_map (all_plugged c.around)) is
 
   section_is : section_of document.section document.root 0 ≡ (c.here, c.above)
   section_is =
       ap (λ root. section_of document.section root 0) way.root ∙ section_way document.section c.around c.here 0 way.leads ∙ more_above c.here (0 + steps c.around) c.above (let deep = way.deep in omega arith)
 
-  pub pair_low : put_fault keys c.here c.above ≡ None → put keys node c.here ≡ Some new → c.above + (length keys - 1) + node_depth node ≤ depth_limit
+  pub pair_low : put_fault keys c.here c.above ≡ None → branches_with_value keys node c.here ≡ Some new → c.above + (length keys - 1) + node_depth node ≤ depth_limit
       → depth (all_plugged c.around new) ≤ depth_limit
   pair_low free is room =
-      let inside = is_within document.section (put keys node) document.root (all_plugged c.around new) 0 (pair_edit is) in
+      let inside = is_within document.section (branches_with_value keys node) document.root (all_plugged c.around new) 0 (pair_edit is) in
       let made : inside.made ≡ new =
-      is_some inside.made new (sym inside.is ∙ ap (λ (x : Inside). put keys node x.0) section_is ∙ is) in
+      is_some inside.made new (sym inside.is ∙ ap (λ (x : Inside). branches_with_value keys node x.0) section_is ∙ is) in
       let inner = section_inner document.section document.root 0 in
       let here = ap (λ (x : Inside). x.1 + depth x.0) section_is in
       let low = way.low in
@@ -638,13 +638,13 @@ module _ (document : Document) (c : Cursor) (way : IsWay document c) (keys : Lis
       omega arith
 
 pub pair_put_is : (text : List ℕ) (document : Document) (c : Cursor) (keys : List Key) (v : ValueFound) (new : Branches) → IsWay document c
-    → put keys (closed v.0 v.1) c.here ≡ Some new
+    → branches_with_value keys (closed v.0 v.1) c.here ≡ Some new
     → pair_put text keys document v ≡ line_rest text v.2 (with_root (all_plugged c.around new) document.section)
 pair_put_is text document c keys v new way is =
     ap (with_root_at text v.2 document.section) (pair_edit document c way keys (closed v.0 v.1) new is)
 
 pub header_line_is : (text : List ℕ) (i : ℕ) (keys : List Key) (fault : Option SyntaxError) (made : Option Branches) (answer : TomlReading Cursor) → IsOpened fault made keys answer
-    → unless fault (with_root_at text i keys made)
+    → fault_or fault (with_root_at text i keys made)
     ≡ then_read (λ (c : Cursor). line_rest text i (with_root (all_plugged c.around c.here) keys)) answer
-header_line_is text i keys fault made (Ok c) is = ap (λ f. unless f (with_root_at text i keys made)) is.0 ∙ ap (with_root_at text i keys) is.1
-header_line_is text i keys fault made (Err refusal) is = ap (λ f. unless f (with_root_at text i keys made)) is
+header_line_is text i keys fault made (Ok c) is = ap (λ f. fault_or f (with_root_at text i keys made)) is.0 ∙ ap (with_root_at text i keys) is.1
+header_line_is text i keys fault made (Err refusal) is = ap (λ f. fault_or f (with_root_at text i keys made)) is

@@ -4,7 +4,7 @@ use Rattle.std.proofs.lemmas.Bool.Decides.{nat_tests}
 use Rattle.toml_subset.specs.Answer.{TomlReading, then_read}
 use Rattle.toml_subset.specs.Lines.{Document, no_lines}
 use Rattle.toml_subset.specs.Places.{after_blanks}
-use Rattle.toml_subset.specs.Reading.{LineFound, line_from, read_lines, whole, read_text}
+use Rattle.toml_subset.specs.Reading.{LineFound, line_from, read_lines, root_value, read_text}
 use Rattle.toml_subset.specs.declared.error.SyntaxError.{SyntaxError}
 use Rattle.toml_subset.proofs.Law.Basics.{if_true, if_false}
 use Rattle.toml_subset.proofs.Law.Whole.{line_forward}
@@ -68,10 +68,10 @@ line_goes_on text c d i next are inside within new read way =
 pub line_refused : (text : List ℕ) (c : Cursor) (i : ℕ) (fault : SyntaxError) (are : AreLinesRead text c i) → i < length text
     → line_from text are.document (after_blanks text i) ≡ Err fault → read_text text ≡ Err fault
 line_refused text c i fault are inside read =
-    ap (then_read (λ (d : Document). Ok (whole text d))) (refused_by text i are.document are.left fault are.is are.room inside read)
+    ap (then_read (λ (d : Document). Ok (root_value text d))) (refused_by text i are.document are.left fault are.is are.room inside read)
 
 -- the text's end
-pub lines_end : (text : List ℕ) (c : Cursor) (i : ℕ) (are : AreLinesRead text c i) → length text ≤ i → read_text text ≡ Ok (whole text are.document)
+pub lines_end : (text : List ℕ) (c : Cursor) (i : ℕ) (are : AreLinesRead text c i) → length text ≤ i → read_text text ≡ Ok (root_value text are.document)
 lines_end text c i are past =
     let within = are.within in
-    ap (then_read (λ (d : Document). Ok (whole text d))) (ended_by text i are.document are.left are.is are.room (omega arith))
+    ap (then_read (λ (d : Document). Ok (root_value text d))) (ended_by text i are.document are.left are.is are.room (omega arith))

@@ -1,7 +1,7 @@
 -- Which turns reading takes.
 use Rattle.std.proofs.Common.{◌≡◌, ℕ, ◌+◌, ◌<◌, ◌≤◌, true, false, eqb, ◌||◌, List, length, Some, None, Ok, Err, refl, ap, ◌∙◌, arith}
 use Rattle.std.proofs.lemmas.Bool.Decides.{nat_tests}
-use Rattle.toml_subset.specs.Answer.{TomlReading, then_read, unless}
+use Rattle.toml_subset.specs.Answer.{TomlReading, then_read, fault_or}
 use Rattle.toml_subset.specs.Bytes.{open_bracket, open_brace}
 use Rattle.toml_subset.specs.Data as «data»
 use Rattle.toml_subset.specs.Data.{Items, depth_of, depth_limit}
@@ -9,7 +9,7 @@ use Rattle.toml_subset.specs.Places.{stands}
 use Rattle.toml_subset.specs.Reading.{ValueFound, read_scalar, value_at}
 use Rattle.toml_subset.specs.StringReading.{KeysFound, read_left}
 use Rattle.toml_subset.specs.TableFaults.{put_fault}
-use Rattle.toml_subset.specs.Tables.{Branches, unbranched, closed, put, entries_of}
+use Rattle.toml_subset.specs.Tables.{Branches, unbranched, closed, branches_with_value, entries_of}
 use Rattle.toml_subset.specs.declared.error.SyntaxError.{SyntaxError}
 use Rattle.toml_subset.specs.declared.number.Number.TheVariants.{Integer, Decimal}
 use Rattle.toml_subset.specs.declared.string.Key.{Key}
@@ -68,7 +68,7 @@ entry_turn_is text start above branches i left low is free inside =
     let place = at.3 in
     let answer = turn_answer text (waits (in_table start above branches left.0) left.1) in
     record {
-      answers = ap (then_read (entry_on text start above branches)) is ∙ ap (λ fault. unless fault answer) free;
+      answers = ap (then_read (entry_on text start above branches)) is ∙ ap (λ fault. fault_or fault answer) free;
       shallow = (refl, (low, free));
       goes = omega arith;
       within = inside;
@@ -78,7 +78,7 @@ pub entry_refused : (text : List ℕ) (start above : ℕ) (branches : Branches) 
     → read_left text i ≡ Ok left → put_fault left.0 branches (above + 1) ≡ Some fault → table_on text start above branches (Further i) ≡ Err fault
 entry_refused text start above branches i left fault is found =
     let answer = turn_answer text (waits (in_table start above branches left.0) left.1) in
-    ap (then_read (entry_on text start above branches)) is ∙ ap (λ f. unless f answer) found
+    ap (then_read (entry_on text start above branches)) is ∙ ap (λ f. fault_or f answer) found
 
 pub entry_unread : (text : List ℕ) (start above : ℕ) (branches : Branches) (i : ℕ) (fault : SyntaxError)
     → read_left text i ≡ Err fault → table_on text start above branches (Further i) ≡ Err fault
@@ -118,7 +118,7 @@ array_stops text start above items v fault room is =
 
 -- an inline table behind a further entry
 pub table_behind : (text : List ℕ) (start above : ℕ) (branches : Branches) (keys : List Key) (v : ValueFound) (new : Branches) (next : Next)
-    → put keys (closed v.0 v.1) branches ≡ Some new → above + depth_of (data.table (entries_of new)) ≤ depth_limit → behind_entry text v.2 ≡ Ok next
+    → branches_with_value keys (closed v.0 v.1) branches ≡ Some new → above + depth_of (data.table (entries_of new)) ≤ depth_limit → behind_entry text v.2 ≡ Ok next
     → on_with text (in_table start above branches keys) v ≡ table_on text start above new next
 table_behind text start above branches keys v new next made low is =
     table_goes_on text start above branches keys v new made (omega arith) ∙ ap (then_read (table_on text start above new)) is

@@ -11,7 +11,7 @@ use Rattle.std.proofs.lemmas.Map.Text.{is_eq-slice_cmp}
 use Rattle.std.proofs.lemmas.Slice.Eq.{bytes_eq-Decides}
 use Rattle.deny_text.specs.TextMap.{TextMapTo}
 use Rattle.toml_subset.specs.declared.string.Key.{Key}
-use Rattle.toml_subset.specs.key_index.KeyPlaces.{first_key_place, HasKeyPlaces, HasPlacesFrom, few, IsIndex}
+use Rattle.toml_subset.specs.key_index.KeyPlaces.{first_key_place, HasKeyPlaces, HasPlacesFrom, few_keys, IsIndex}
 
 -- a place, or else that of a further key
 abbrev or_last : Bool → ℕ → Option ℕ → Option ℕ
@@ -85,17 +85,17 @@ one_more_place first key more places has name =
 pub counted_from_zero : (places : TextMapTo ℕ) (keys : List Key) → HasPlacesFrom 0 places keys → HasKeyPlaces places keys
 counted_from_zero places keys has name = has name ∙ from_zero (first_key_place name keys)
 
-pub few_indexed : (places : TextMapTo ℕ) (keys : List Key) (key : Key) → length keys < few → IsIndex places (keys ++ key ∷ [])
+pub few_indexed : (places : TextMapTo ℕ) (keys : List Key) (key : Key) → length keys < few_keys → IsIndex places (keys ++ key ∷ [])
 few_indexed places keys key short long = let longs = length-append keys (key ∷ []) in absurd (omega arith)
 
 -- the first map, and one for a further key
-pub first_indexed : (places new : TextMapTo ℕ) (keys : List Key) (key : Key) → length keys ≡ few → HasPlacesFrom 0 places keys → first_key_place key.name.text keys ≡ None
-    → new ≡ insert places key.name.text few → IsIndex new (keys ++ key ∷ [])
+pub first_indexed : (places new : TextMapTo ℕ) (keys : List Key) (key : Key) → length keys ≡ few_keys → HasPlacesFrom 0 places keys → first_key_place key.name.text keys ≡ None
+    → new ≡ insert places key.name.text few_keys → IsIndex new (keys ++ key ∷ [])
 first_indexed places new keys key count has absent is long =
     subst (λ (m : TextMapTo ℕ). HasKeyPlaces m (keys ++ key ∷ [])) (ap (insert places key.name.text) count ∙ sym is)
     (has_places-push places keys key (counted_from_zero places keys has) absent)
 
-pub more_indexed : (places new : TextMapTo ℕ) (keys : List Key) (key : Key) → few < length keys → IsIndex places keys → first_key_place key.name.text keys ≡ None
+pub more_indexed : (places new : TextMapTo ℕ) (keys : List Key) (key : Key) → few_keys < length keys → IsIndex places keys → first_key_place key.name.text keys ≡ None
     → new ≡ insert places key.name.text (length keys) → IsIndex new (keys ++ key ∷ [])
 more_indexed places new keys key many index absent is long =
     subst (λ (m : TextMapTo ℕ). HasKeyPlaces m (keys ++ key ∷ [])) (sym is) (has_places-push places keys key (index many) absent)

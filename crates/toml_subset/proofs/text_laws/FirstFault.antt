@@ -8,7 +8,7 @@ use Rattle.toml_subset.specs.Data.{Toml, depth_limit}
 use Rattle.toml_subset.specs.Faults.{IsFirstFault}
 use Rattle.toml_subset.specs.Lines.{Statement, Document, AreLines, after_line, after_lines, no_lines}
 use Rattle.toml_subset.specs.Places.{stands, after_blanks}
-use Rattle.toml_subset.specs.Reading.{LineFound, line_from, read_lines, whole, read_text}
+use Rattle.toml_subset.specs.Reading.{LineFound, line_from, read_lines, root_value, read_text}
 use Rattle.toml_subset.specs.Text.{IsText}
 use Rattle.toml_subset.specs.declared.error.SyntaxError.{SyntaxError}
 use Rattle.toml_subset.proofs.Escapes.{behind_byte}
@@ -60,8 +60,8 @@ module _ (text : List ℕ) (m : ℕ) (ends : Ends text m) where
 err_same : (a b : SyntaxError) → ◌≡◌ {A = TomlReading Toml} (Err a) (Err b) → ◌≡◌ {A = TomlReading Document} (Err a) (Err b)
 err_same a b e = let same : a ≡ b = cc in ap (λ (f : SyntaxError). Err f) same
 
-lines_fault : (text : List ℕ) (fault : SyntaxError) (o : TomlReading Document) → then_read (λ (document : Document). Ok (whole text document)) o ≡ Err fault → o ≡ Err fault
-lines_fault text fault (Ok document) e = absurd (not_ok fault (whole text document) (sym e))
+lines_fault : (text : List ℕ) (fault : SyntaxError) (o : TomlReading Document) → then_read (λ (document : Document). Ok (root_value text document)) o ≡ Err fault → o ≡ Err fault
+lines_fault text fault (Ok document) e = absurd (not_ok fault (root_value text document) (sym e))
 lines_fault text fault (Err other) e = err_same other fault e
 
 no_front : (text : List ℕ) → IsUtf8 text → (fault : SyntaxError) → read_text text ≡ Err fault → (i : ℕ) (value : Toml) → fault.span.start ≤ i → stands text i line_feed ≡ true

@@ -3,12 +3,12 @@ use Rattle.std.proofs.Common.{◌≡◌, ℕ, zero, suc, ◌+◌, ◌-◌, ◌<�
 use Rattle.std.proofs.lemmas.Bool.Decides.{nat_tests}
 use Rattle.std.proofs.lemmas.Str.{IsCharBoundary-start}
 use Rattle.std.specs.Str.{IsCharBoundary, IsUtf8}
-use Rattle.toml_subset.specs.Answer.{TomlReading, fault_at, stuck, then_read, unless}
+use Rattle.toml_subset.specs.Answer.{TomlReading, fault_at, stop_error, then_read, fault_or}
 use Rattle.toml_subset.specs.Bytes.{hash, open_bracket, close_bracket, line_feed, carriage_return, may_stand}
 use Rattle.toml_subset.specs.Faults.{LineBegins, IsSyntaxFault}
 use Rattle.toml_subset.specs.Lines.{Document, no_lines}
 use Rattle.toml_subset.specs.Places.{stands, run_end, after_blanks, after_comment, behind_line_end, next_line}
-use Rattle.toml_subset.specs.Reading.{ValueFound, LineFound, enough, value_at, section_of, line_rest, with_root, pair_put, pair_from, header_from, array_header_from, is_blank_line, line_from, read_lines, whole, read_text}
+use Rattle.toml_subset.specs.Reading.{ValueFound, LineFound, call_bound, value_at, section_of, line_rest, with_root, pair_put, pair_from, header_from, array_header_from, is_blank_line, line_from, read_lines, root_value, read_text}
 use Rattle.toml_subset.specs.StringReading.{KeysFound, keys_at, read_left}
 use Rattle.toml_subset.specs.TableFaults.{put_fault, header_fault, array_header_fault}
 use Rattle.toml_subset.specs.Tables.{Branches}
@@ -71,7 +71,7 @@ module _ (text : List ℕ) (utf8 : IsUtf8 text) where
   if_line from true x y first second = first refl
   if_line from false x y first second = second refl
 
-  unless_line : (from : ℕ) (fault : Option SyntaxError) (o : TomlReading LineFound) → SomeFault text utf8 from fault → Line from o → Line from (unless fault o)
+  unless_line : (from : ℕ) (fault : Option SyntaxError) (o : TomlReading LineFound) → SomeFault text utf8 from fault → Line from o → Line from (fault_or fault o)
   unless_line from (Some fault) o here further = here
   unless_line from None o here further = further
 
@@ -98,7 +98,7 @@ module _ (text : List ℕ) (utf8 : IsUtf8 text) where
       let goes = comment_forward b in
       elim (next_line text i) as (λ o. next_line text i ≡ o → Line i (elim o [
         | Some next ↦ Ok (document, next)
-        | None ↦ cond (stands text b hash) (Err (fault_at ControlCharacter j (j + 1))) (Err (stuck text j))
+        | None ↦ cond (stands text b hash) (Err (fault_at ControlCharacter j (j + 1))) (Err (stop_error text j))
       ])) [
         | Some next ↦ λ is. (on i next is, next_border text utf8 i next is, next_begins text i next is)
         | None ↦ λ is.
@@ -139,7 +139,7 @@ module _ (text : List ℕ) (utf8 : IsUtf8 text) where
       let stood = left_sound text i left is_left in
       unless_line i (put_fault left.0 here.0 here.1) _ (put_is text utf8 i i stood.0 left.0 (omega arith) stood.1 stood.2 here.0 here.1)
       (then_line (λ (v : ValueFound). v.2) i (pair_put text left.0 document) (value_at text (here.1 + (length left.0 - 1)) left.1)
-      (weaker text utf8 (λ (v : ValueFound). v.2) i left.1 (value_at text (here.1 + (length left.0 - 1)) left.1) past (value_fine text utf8 (enough text) (here.1 + (length left.0 - 1)) left.1 border))
+      (weaker text utf8 (λ (v : ValueFound). v.2) i left.1 (value_at text (here.1 + (length left.0 - 1)) left.1) past (value_fine text utf8 (call_bound text) (here.1 + (length left.0 - 1)) left.1 border))
       (λ v is on_to at_end. root_line i v.2 on_to at.0 at_end document.section _)))
 
   module _ (line : ℕ) (begins : LineBegins text line) (border : IsCharBoundary text line) where
@@ -230,7 +230,7 @@ module _ (text : List ℕ) (utf8 : IsUtf8 text) where
       lines_on i n (line_from text document (after_blanks text i)) (a_line i (begins inside) at document) (λ r border more. lines_are n r.1 r.0 border more))
       (λ h. tt)
 
-  whole_lines : (o : TomlReading Document) → Lines 0 o → Lines 0 (then_read (λ (document : Document). Ok (whole text document)) o)
+  whole_lines : (o : TomlReading Document) → Lines 0 o → Lines 0 (then_read (λ (document : Document). Ok (root_value text document)) o)
   whole_lines (Ok document) is = tt
   whole_lines (Err fault) is = is
 

@@ -11,7 +11,7 @@ use Rattle.toml_subset.specs.Places.{passes_at, stands, after_blanks}
 use Rattle.toml_subset.specs.StringReading.{StringFound, read_string, begins_long, KeyFound, bare_key, quoted_key, read_key, KeysFound, keys_behind, read_keys, keys_at, equals_behind, read_left}
 use Rattle.toml_subset.specs.StringViews.{is_plain_part}
 use Rattle.toml_subset.specs.Strings.{Quoting, basic, literal, marks_in_row, StringPiece, ArePieces, IsString}
-use Rattle.toml_subset.specs.TableFaults.{Inside, table_node_at, inside_any, inside_dotted, refused, way_fault, new_key_fault, put_fault, taken_over_fault, open_table_fault, header_fault, appended_fault, open_array_fault, array_header_fault}
+use Rattle.toml_subset.specs.TableFaults.{Inside, table_node_at, inside_any, inside_dotted, fault_at_key, way_fault, new_key_fault, put_fault, taken_over_fault, open_table_fault, header_fault, appended_fault, open_array_fault, array_header_fault}
 use Rattle.toml_subset.specs.Tables.{Node, Branches, by_header, implicit, dotted, closed, growing, tables, unbranched, has_key}
 use Rattle.toml_subset.specs.declared.error.SyntaxError.{SyntaxError}
 use Rattle.toml_subset.specs.declared.error.SyntaxReason.{SyntaxReason}
@@ -183,14 +183,14 @@ module _ (text : List ℕ) (utf8 : IsUtf8 text) where
         let there = middle before key x more is in
         let on : all ≡ (before ++ key ∷ []) ++ x ∷ more = is ∙ sym (append_assoc before (key ∷ []) (x ∷ more)) in
         elim (table_node_at key branches) as (λ o. SomeFault text utf8 from (elim o [
-          | Some node ↦ elim (inside node) [ Some found ↦ way_fault inside end (x ∷ more) found.0 (above + found.1) | None ↦ refused RedefinedTable key ]
-          | None ↦ cond (eqb above depth_limit) (refused TooDeep key) (way_fault inside end (x ∷ more) unbranched (above + 1))
+          | Some node ↦ elim (inside node) [ Some found ↦ way_fault inside end (x ∷ more) found.0 (above + found.1) | None ↦ fault_at_key RedefinedTable key ]
+          | None ↦ cond (eqb above depth_limit) (fault_at_key TooDeep key) (way_fault inside end (x ∷ more) unbranched (above + 1))
         ])) [
-          | Some node ↦ elim (inside node) as (λ o. SomeFault text utf8 from (elim o [ Some found ↦ way_fault inside end (x ∷ more) found.0 (above + found.1) | None ↦ refused RedefinedTable key ])) [
+          | Some node ↦ elim (inside node) as (λ o. SomeFault text utf8 from (elim o [ Some found ↦ way_fault inside end (x ∷ more) found.0 (above + found.1) | None ↦ fault_at_key RedefinedTable key ])) [
             | Some found ↦ way_is inside end middle ends (before ++ key ∷ []) (x ∷ more) on found.0 (above + found.1)
             | None ↦ redefined before key (x ∷ more) is there
           ]
-          | None ↦ some_fault (eqb above depth_limit) (refused TooDeep key) (way_fault inside end (x ∷ more) unbranched (above + 1)) (λ h. deep before key (x ∷ more) is there)
+          | None ↦ some_fault (eqb above depth_limit) (fault_at_key TooDeep key) (way_fault inside end (x ∷ more) unbranched (above + 1)) (λ h. deep before key (x ∷ more) is there)
               (λ h. way_is inside end middle ends (before ++ key ∷ []) (x ∷ more) on unbranched (above + 1))
         ]
 
@@ -200,7 +200,7 @@ module _ (text : List ℕ) (utf8 : IsUtf8 text) where
   put_is from place next keys le are equals_there branches above =
       way_is of_pair from place next keys le are equals_there inside_dotted new_key_fault
       (λ before key x behind is. inl (x ∷ behind, omega arith, a_part of_pair from place next keys le are equals_there before key (x ∷ behind) is))
-      (λ before key is bs n. some_fault of_pair from place next keys le are equals_there (has_key key bs) (refused DuplicateKey key) None
+      (λ before key is bs n. some_fault of_pair from place next keys le are equals_there (has_key key bs) (fault_at_key DuplicateKey key) None
       (λ h. duplicate of_pair from place next keys le are equals_there before key [] is (a_part of_pair from place next keys le are equals_there before key [] is)) (λ h. tt))
       [] keys refl branches above
 
@@ -218,9 +218,9 @@ module _ (text : List ℕ) (utf8 : IsUtf8 text) where
 
     open_is : (before : List Key) (key : Key) → keys ≡ before ++ key ∷ [] → (branches : Branches) (above : ℕ) → SomeFault text utf8 from (open_table_fault key branches above)
     open_is before key is branches above =
-        elim (table_node_at key branches) as (λ o. SomeFault text utf8 from (elim o [ Some node ↦ taken_over_fault key node | None ↦ cond (eqb above depth_limit) (refused TooDeep key) None ])) [
+        elim (table_node_at key branches) as (λ o. SomeFault text utf8 from (elim o [ Some node ↦ taken_over_fault key node | None ↦ cond (eqb above depth_limit) (fault_at_key TooDeep key) None ])) [
           | Some node ↦ taken_is before key is node
-          | None ↦ some_fault of_header from place next keys le are role_is (eqb above depth_limit) (refused TooDeep key) None
+          | None ↦ some_fault of_header from place next keys le are role_is (eqb above depth_limit) (fault_at_key TooDeep key) None
               (λ h. deep of_header from place next keys le are role_is before key [] is (header_part before key [] is)) (λ h. tt)
         ]
 
@@ -240,9 +240,9 @@ module _ (text : List ℕ) (utf8 : IsUtf8 text) where
 
     open_array_is : (before : List Key) (key : Key) → keys ≡ before ++ key ∷ [] → (branches : Branches) (above : ℕ) → SomeFault text utf8 from (open_array_fault key branches above)
     open_array_is before key is branches above =
-        elim (table_node_at key branches) as (λ o. SomeFault text utf8 from (elim o [ Some node ↦ appended_fault key node | None ↦ cond (nat_lt (above + 1) depth_limit) None (refused TooDeep key) ])) [
+        elim (table_node_at key branches) as (λ o. SomeFault text utf8 from (elim o [ Some node ↦ appended_fault key node | None ↦ cond (nat_lt (above + 1) depth_limit) None (fault_at_key TooDeep key) ])) [
           | Some node ↦ appended_is before key is node
-          | None ↦ some_fault of_array_header from place next keys le are role_is (nat_lt (above + 1) depth_limit) None (refused TooDeep key) (λ h. tt)
+          | None ↦ some_fault of_array_header from place next keys le are role_is (nat_lt (above + 1) depth_limit) None (fault_at_key TooDeep key) (λ h. tt)
               (λ h. deep of_array_header from place next keys le are role_is before key [] is (array_part before key [] is))
         ]
 

@@ -6,7 +6,7 @@ use Rattle.std.proofs.lemmas.Str.{IsCharBoundary-end}
 use Rattle.std.specs.List.{prefix_len}
 use Rattle.std.specs.Prelude.{is_some as option_is_some}
 use Rattle.std.specs.Str.{IsCharBoundary, IsUtf8}
-use Rattle.toml_subset.specs.Answer.{TomlReading, fault_at, stuck, then_read, unless}
+use Rattle.toml_subset.specs.Answer.{TomlReading, fault_at, stop_error, then_read, fault_or}
 use Rattle.toml_subset.specs.Bytes.{backslash, may_stand}
 use Rattle.toml_subset.specs.Faults.{ArePiecesTo, BreaksOff, escape_end, digits_end, IsSyntaxFault}
 use Rattle.toml_subset.specs.Numbers.{is_digit_in}
@@ -83,7 +83,7 @@ module _ (text : List ℕ) (utf8 : IsUtf8 text) where
   SomeFault from (Some fault) = IsSyntaxFault text from fault
   SomeFault from None = Unit {0}
 
-  pub unless_fine : {A : Type 0} (end : A → ℕ) (from : ℕ) (fault : Option SyntaxError) (o : TomlReading A) → SomeFault from fault → (fault ≡ None → Fine end from o) → Fine end from (unless fault o)
+  pub unless_fine : {A : Type 0} (end : A → ℕ) (from : ℕ) (fault : Option SyntaxError) (o : TomlReading A) → SomeFault from fault → (fault ≡ None → Fine end from o) → Fine end from (fault_or fault o)
   unless_fine end from (Some fault) o here further = here
   unless_fine end from None o here further = further refl
 
@@ -95,13 +95,13 @@ module _ (text : List ℕ) (utf8 : IsUtf8 text) where
   unexpected : (i : ℕ) → i < length text → IsCharBoundary text i → IsSyntaxFault text i (fault_at Unexpected i (char_end text i))
   unexpected i inside at = record { begins = omega arith; ordered = omega arith; start_border = at; end_border = char_border text utf8 i inside; there = (inside, refl) }
 
-  pub stuck_from : (from i : ℕ) → from ≤ length text → from ≤ i → (i < length text → IsCharBoundary text i) → IsSyntaxFault text from (stuck text i)
+  pub stuck_from : (from i : ℕ) → from ≤ length text → from ≤ i → (i < length text → IsCharBoundary text i) → IsSyntaxFault text from (stop_error text i)
   stuck_from from i room le at =
       if_fault from (nat_lt i (length text)) (fault_at Unexpected i (char_end text i)) (fault_at UnexpectedEnd (length text) (length text))
       (λ h. let inside : i < length text = grind (arith, nat_tests) in fault_from from i (fault_at Unexpected i (char_end text i)) le (unexpected i inside (at inside)))
       (λ h. ended from room)
 
-  pub stuck_at : (i : ℕ) → IsCharBoundary text i → IsSyntaxFault text i (stuck text i)
+  pub stuck_at : (i : ℕ) → IsCharBoundary text i → IsSyntaxFault text i (stop_error text i)
   stuck_at i at = stuck_from i i at.0 (omega arith) (λ inside. at)
 
   -- strings
@@ -126,7 +126,7 @@ module _ (text : List ℕ) (utf8 : IsUtf8 text) where
         (λ short. let never : closing (i + 1) ≡ broken = short.1 in absurd (cc))
         (if_is (is_long kind) (cond (eqb marks 3) (closing (i + 3)) (cond (nat_le marks 5) (plain_piece (mark_of kind ∷ []) (i + 1)) broken)) (closing (i + 1)) broken here)
 
-    marks_fault : stands text i (mark_of kind) ≡ true → IsSyntaxFault text from (stuck text (i + 5))
+    marks_fault : stands text i (mark_of kind) ≡ true → IsSyntaxFault text from (stop_error text (i + 5))
     marks_fault h =
         let many = many_marks h in
         let back : i + 4 + 1 ≡ i + 5 = omega arith in
@@ -243,7 +243,7 @@ module _ (text : List ℕ) (utf8 : IsUtf8 text) where
 
   pub string_fine : (i : ℕ) → IsCharBoundary text i → Fine (λ (r : StringFound). r.2) i (read_string text i)
   string_fine i at =
-      elim (opening text i) as (λ o. opening text i ≡ o → Fine (λ (r : StringFound). r.2) i (elim o [ Some first ↦ string_from text first | None ↦ Err (stuck text i) ])) [
+      elim (opening text i) as (λ o. opening text i ≡ o → Fine (λ (r : StringFound). r.2) i (elim o [ Some first ↦ string_from text first | None ↦ Err (stop_error text i) ])) [
         | Some first ↦ λ is.
             let goes = opening_goes text i first is in
             then_fine (λ (r : Pieces). r.2) (λ (r : StringFound). r.2) i _ (read_pieces (suc (length text)) first.0 text first.1)

@@ -6,7 +6,7 @@ use Rattle.toml_subset.specs.Bytes.{open_bracket, close_bracket}
 use Rattle.toml_subset.specs.Data.{Toml}
 use Rattle.toml_subset.specs.Lines.{Statement, blank_line, pair, table_header, array_header, Document, IsStatement, AreLines, after_line, after_lines, no_lines}
 use Rattle.toml_subset.specs.Places.{from_to, after_blanks}
-use Rattle.toml_subset.specs.Tables.{Branches, closed, implicit, put, along, through_any, open_table, open_array, within, meant}
+use Rattle.toml_subset.specs.Tables.{Branches, closed, implicit, branches_with_value, edit_along, through_any, open_table, open_array, edit_within, meant}
 use Rattle.toml_subset.specs.Text.{IsText}
 use Rattle.toml_subset.specs.declared.string.Key.{Key}
 use Rattle.toml_subset.proofs.Law.Basics.{map_some, then_some, is_some}
@@ -25,13 +25,13 @@ module _ (text : List ℕ) (utf8 : IsUtf8 text) where
       → after_line line document ≡ Some new → AreBranchesPlaced text new.root
   line_placed i blank_line next document new is are e = subst (λ (d : Document). AreBranchesPlaced text d.root) (is_some document new e) are
   line_placed i (pair keys span raw) next document new is are e =
-      let first = then_some (λ content. option_map (λ root. with root document.section) (within document.section (put keys (closed span content)) document.root)) (meant raw) new e in
-      let edit = map_some (λ root. with root document.section) (within document.section (put keys (closed span first.0)) document.root) new first.2 in
+      let first = then_some (λ content. option_map (λ root. with root document.section) (edit_within document.section (branches_with_value keys (closed span content)) document.root)) (meant raw) new e in
+      let edit = map_some (λ root. with root document.section) (edit_within document.section (branches_with_value keys (closed span first.0)) document.root) new first.2 in
       let here = value_placed text utf8 (after_blanks text (after_blanks text is.0 + 1)) span raw next first.0 is.3 first.1 in
       let keep = put_placed text keys (closed span first.0) (keys_placed text utf8 i keys is.0 is.1) here in
-      subst (λ (d : Document). AreBranchesPlaced text d.root) edit.2 (within_placed text document.section (put keys (closed span first.0)) keep document.root edit.0 are edit.1)
+      subst (λ (d : Document). AreBranchesPlaced text d.root) edit.2 (within_placed text document.section (branches_with_value keys (closed span first.0)) keep document.root edit.0 are edit.1)
   line_placed i (table_header span keys) next document new is are e =
-      let edit = map_some (λ root. with root keys) (along implicit through_any (open_table span) keys document.root) new e in
+      let edit = map_some (λ root. with root keys) (edit_along implicit through_any (open_table span) keys document.root) new e in
       let goes = statement_goes text i (table_header span keys) next is in
       let start = at_byte text utf8 i open_bracket (omega arith) is.0 in
       let end = closes text utf8 (after_blanks text is.2.0) close_bracket next (omega arith) is.2.2 is.2.3 in
@@ -39,7 +39,7 @@ module _ (text : List ℕ) (utf8 : IsUtf8 text) where
       subst (λ (d : Document). AreBranchesPlaced text d.root) edit.2
       (header_placed text span lies keys (keys_placed text utf8 (after_blanks text (i + 1)) keys is.2.0 is.2.1) document.root edit.0 are edit.1)
   line_placed i (array_header span keys) next document new is are e =
-      let edit = map_some (λ root. with root keys) (along implicit through_any (open_array span) keys document.root) new e in
+      let edit = map_some (λ root. with root keys) (edit_along implicit through_any (open_array span) keys document.root) new e in
       let goes = statement_goes text i (array_header span keys) next is in
       let start = at_byte text utf8 i open_bracket (omega arith) is.0 in
       let second = after_blanks text is.2.0 + 1 in

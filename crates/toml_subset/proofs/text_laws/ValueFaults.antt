@@ -10,10 +10,10 @@ use Rattle.toml_subset.specs.Faults.{begins_number, IsSyntaxFault}
 use Rattle.toml_subset.specs.Numbers.{Class, unsupported, number_form, number_range, integer, decimal, class_of}
 use Rattle.toml_subset.specs.Places.{stands, run_end, run_at, after_blanks, after_blanks_and_comment, lines_over, after_lines_of, after_space, in_comment, behind_line_end}
 use Rattle.toml_subset.specs.Raw.{word_of}
-use Rattle.toml_subset.specs.Reading.{ValueFound, ItemsFound, EntriesFound, number_read, shared_len, word_read, read_scalar, cut_in_comment, space_fault, array_items_behind, made, entries_behind, entry_put, array_read, table_read, table_from, read_value, read_items, read_entries}
+use Rattle.toml_subset.specs.Reading.{ValueFound, ItemsFound, EntriesFound, number_read, shared_len, word_read, read_scalar, cut_in_comment, space_fault, array_items_behind, edit_reading, entries_behind, entry_put, array_read, table_read, table_from, read_value, read_items, read_entries}
 use Rattle.toml_subset.specs.StringReading.{StringFound, KeysFound, read_string, read_left}
 use Rattle.toml_subset.specs.TableFaults.{put_fault}
-use Rattle.toml_subset.specs.Tables.{Branches, closed, unbranched, put}
+use Rattle.toml_subset.specs.Tables.{Branches, closed, unbranched, branches_with_value}
 use Rattle.toml_subset.proofs.Escapes.{behind_byte}
 use Rattle.toml_subset.proofs.Law.Basics.{if_true}
 use Rattle.toml_subset.proofs.Law.Forward.{Past, comment_goes, space_goes, line_end_past}
@@ -161,7 +161,7 @@ module _ (text : List ℕ) (utf8 : IsUtf8 text) where
       })
       (λ h. stuck_from text utf8 i j at.0 goes (λ inside. border))
 
-  made_fine : {A : Type 0} (from : ℕ) (o : Option A) (end : ℕ) → from ≤ end → IsCharBoundary text end → from ≤ length text → Fine text utf8 (λ (x : A). end) from (made text o)
+  made_fine : {A : Type 0} (from : ℕ) (o : Option A) (end : ℕ) → from ≤ end → IsCharBoundary text end → from ≤ length text → Fine text utf8 (λ (x : A). end) from (edit_reading text o)
   made_fine from (Some x) end le at room = (le, at)
   made_fine from None end le at room = stuck_from text utf8 from (length text) room room (λ inside. absurd (omega arith))
 
@@ -235,8 +235,8 @@ module _ (text : List ℕ) (utf8 : IsUtf8 text) where
         (λ free. then_fine text utf8 value_end entries_end i (entry_put (read_entries n text above) text left.0 branches) (read_value n text high left.1)
         (weaker text utf8 value_end i left.1 (read_value n text high left.1) past (value_fine n high left.1 border))
         (λ v is on at_end.
-        then_fine text utf8 (λ (x : Branches). v.2) entries_end i (entries_behind (read_entries n text above) text v.2) (made text (put left.0 (closed v.0 v.1) branches))
-        (made_fine i (put left.0 (closed v.0 v.1) branches) v.2 on at_end at.0)
+        then_fine text utf8 (λ (x : Branches). v.2) entries_end i (entries_behind (read_entries n text above) text v.2) (edit_reading text (branches_with_value left.0 (closed v.0 v.1) branches))
+        (made_fine i (branches_with_value left.0 (closed v.0 v.1) branches) v.2 on at_end at.0)
         (λ new is_new beyond there.
         let k = after_blanks text v.2 in
         let blanks = blanks_border text utf8 v.2 at_end in

@@ -14,7 +14,7 @@ use Rattle.toml_subset.specs.Numbers.{Class, integer, decimal}
 use Rattle.toml_subset.specs.Places.{from_to, stands, run_end, run_at, after_blanks, after_space}
 use Rattle.toml_subset.specs.Raw.{Raw, RawItems, RawEntries, raw_text, raw_integer, raw_decimal, raw_boolean, raw_array, raw_table, raw_none, raw_item, raw_empty, raw_entry, IsNumber, word_of, IsWord, IsValue, AreItems, AreItemsBehind, AreEntries, AreEntriesBehind}
 use Rattle.toml_subset.specs.Strings.{basic, literal}
-use Rattle.toml_subset.specs.Tables.{Branches, unbranched, closed, put, entries_of, meant, items_meant, entries_meant}
+use Rattle.toml_subset.specs.Tables.{Branches, unbranched, closed, branches_with_value, entries_of, meant, items_meant, entries_meant}
 use Rattle.toml_subset.specs.declared.string.Key.{Key}
 use Rattle.toml_subset.proofs.Escapes.{behind_byte, digit_ascii}
 use Rattle.toml_subset.proofs.Law.Basics.{map_some, then_some, is_some}
@@ -158,8 +158,8 @@ module _ (text : List ℕ) (utf8 : IsUtf8 text) where
         → entries_meant entries branches ≡ Some new → AreBranchesPlaced text new × IsCharBoundary text next
     entries_placed i raw_empty next branches new is are e = (subst (AreBranchesPlaced text) (is_some branches new e) are, closes i close_brace next (omega arith) is.0 is.1)
     entries_placed i (raw_entry keys span value more) next branches new is are e =
-        let first = then_some (λ content. option_and_then (entries_meant more) (put keys (closed span content) branches)) (meant value) new e in
-        let rest = then_some (entries_meant more) (put keys (closed span first.0) branches) new first.2 in
+        let first = then_some (λ content. option_and_then (entries_meant more) (branches_with_value keys (closed span content) branches)) (meant value) new e in
+        let rest = then_some (entries_meant more) (branches_with_value keys (closed span first.0) branches) new first.2 in
         let pair = is.1 in
         let here = value_placed (after_blanks text (after_blanks text pair.0 + 1)) span value is.0 first.0 pair.3 first.1 in
         let made = put_placed text keys (closed span first.0) (keys_placed i keys pair.0 pair.1) here branches rest.0 are rest.1 in
@@ -169,8 +169,8 @@ module _ (text : List ℕ) (utf8 : IsUtf8 text) where
         → entries_meant entries branches ≡ Some new → AreBranchesPlaced text new × IsCharBoundary text next
     entries_behind_placed i raw_empty next branches new is are e = (subst (AreBranchesPlaced text) (is_some branches new e) are, closes i close_brace next (omega arith) is.0 is.1)
     entries_behind_placed i (raw_entry keys span value more) next branches new is are e =
-        let first = then_some (λ content. option_and_then (entries_meant more) (put keys (closed span content) branches)) (meant value) new e in
-        let rest = then_some (entries_meant more) (put keys (closed span first.0) branches) new first.2 in
+        let first = then_some (λ content. option_and_then (entries_meant more) (branches_with_value keys (closed span content) branches)) (meant value) new e in
+        let rest = then_some (entries_meant more) (branches_with_value keys (closed span first.0) branches) new first.2 in
         let pair = is.1.1 in
         let here = value_placed (after_blanks text (after_blanks text pair.0 + 1)) span value is.1.0 first.0 pair.3 first.1 in
         let made = put_placed text keys (closed span first.0) (keys_placed (after_blanks text (i + 1)) keys pair.0 pair.1) here branches rest.0 are rest.1 in

@@ -1,6 +1,6 @@
 -- Where an array and an inline table go on: closed, up to a place, or with a further item or entry at a place.
 use Rattle.std.specs.Prelude.{ℕ, ◌+◌, if◌then◌else◌, List, Ok, Err}
-use Rattle.toml_subset.specs.Answer.{TomlReading, stuck}
+use Rattle.toml_subset.specs.Answer.{TomlReading, stop_error}
 use Rattle.toml_subset.specs.Bytes.{comma, close_bracket, close_brace}
 use Rattle.toml_subset.specs.Places.{stands, after_blanks, after_space}
 use Rattle.toml_subset.specs.Reading.{cut_in_comment, space_fault}
@@ -31,4 +31,4 @@ abbrev pub behind_entry : List ℕ → ℕ → TomlReading Next
 behind_entry text i =
     let j = after_blanks text i in
     if stands text j close_brace then Ok (Closed (j + 1))
-    else (if stands text j comma then Ok (Further (after_blanks text (j + 1))) else Err (stuck text j))
+    else (if stands text j comma then Ok (Further (after_blanks text (j + 1))) else Err (stop_error text j))

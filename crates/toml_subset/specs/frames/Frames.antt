@@ -1,10 +1,10 @@
 -- What stands open while a value is read, and what reading still owes of it.
 use Rattle.std.specs.Prelude.{◌≡◌, ℕ, ◌+◌, ◌-◌, ◌≤◌, List, [], ◌∷◌, None, Ok, length}
-use Rattle.toml_subset.specs.Answer.{TomlReading, then_read, unless}
+use Rattle.toml_subset.specs.Answer.{TomlReading, then_read, fault_or}
 use Rattle.toml_subset.specs.Data as «data»
 use Rattle.toml_subset.specs.Data.{Items, depth_of, depth_limit}
 use Rattle.toml_subset.specs.Places.{from_to}
-use Rattle.toml_subset.specs.Reading.{ValueFound, ItemsFound, EntriesFound, array_items_behind, entry_put, array_read, table_read, read_items, read_entries, enough, value_at}
+use Rattle.toml_subset.specs.Reading.{ValueFound, ItemsFound, EntriesFound, array_items_behind, entry_put, array_read, table_read, read_items, read_entries, call_bound, value_at}
 use Rattle.toml_subset.specs.StringReading.{KeysFound, read_left}
 use Rattle.toml_subset.specs.TableFaults.{put_fault}
 use Rattle.toml_subset.specs.Tables.{Branches, entries_of}
@@ -19,14 +19,14 @@ pub data Frame : Type 0 where
   in_table : ℕ → ℕ → Branches → List Key → Frame
 
 -- how many tables and arrays stand around it
-abbrev pub outside : Frame → ℕ
-outside (in_array start above items) = above
-outside (in_table start above branches keys) = above
+abbrev pub depth_around : Frame → ℕ
+depth_around (in_array start above items) = above
+depth_around (in_table start above branches keys) = above
 
 -- how many stand around its value, those of a dotted key too
-abbrev pub inside : Frame → ℕ
-inside (in_array start above items) = above + 1
-inside (in_table start above branches keys) = above + 1 + (length keys - 1)
+abbrev pub depth_within : Frame → ℕ
+depth_within (in_array start above items) = above + 1
+depth_within (in_table start above branches keys) = above + 1 + (length keys - 1)
 
 -- what was read of it is not too deep, and the table rules let its key be put
 abbrev pub IsShallowFrame : Frame → Type 0
@@ -36,22 +36,22 @@ IsShallowFrame (in_table start above branches keys) =
 
 -- the rest of an array, and of an inline table
 abbrev pub items_at : List ℕ → ℕ → ℕ → TomlReading ItemsFound
-items_at text = read_items (enough text) text
+items_at text = read_items (call_bound text) text
 
 abbrev pub entries_at : List ℕ → ℕ → Branches → ℕ → TomlReading EntriesFound
-entries_at text = read_entries (enough text) text
+entries_at text = read_entries (call_bound text) text
 
 -- items before others
-abbrev pub joined : Items → Items → Items
-joined data.no_item more = more
-joined (data.item span content rest) more = data.item span content (joined rest more)
+abbrev pub joined_items : Items → Items → Items
+joined_items data.no_item more = more
+joined_items (data.item span content rest) more = data.item span content (joined_items rest more)
 
 -- a further item at the end
 abbrev pub with_last : Items → ValueFound → Items
-with_last items v = joined items (data.item v.0 v.1 data.no_item)
+with_last items v = joined_items items (data.item v.0 v.1 data.no_item)
 
 abbrev pub joined_found : Items → ItemsFound → TomlReading ItemsFound
-joined_found items r = Ok (joined items r.0, r.1)
+joined_found items r = Ok (joined_items items r.0, r.1)
 
 -- what its value leads to: the array or the table, read to its end
 abbrev pub on_with : List ℕ → Frame → ValueFound → TomlReading ValueFound
@@ -68,7 +68,7 @@ resume text (frame ∷ more) answer = then_read (on_with text frame) (resume tex
 -- they stand in one another, a value in the last of them
 abbrev pub AreNested : ℕ → List Frame → ℕ → Type 0
 AreNested above [] last = above ≡ last
-AreNested above (frame ∷ more) last = (outside frame ≡ above) × IsShallowFrame frame × AreNested (inside frame) more last
+AreNested above (frame ∷ more) last = (depth_around frame ≡ above) × IsShallowFrame frame × AreNested (depth_within frame) more last
 
 -- a value that was read, or a frame whose value stands at a place
 pub data ValueStep : Type 0 where
@@ -81,11 +81,11 @@ turn_place (waits frame i) = i
 
 abbrev pub turn_answer : List ℕ → ValueStep → TomlReading ValueFound
 turn_answer text (read v) = Ok v
-turn_answer text (waits frame i) = then_read (on_with text frame) (value_at text (inside frame) i)
+turn_answer text (waits frame i) = then_read (on_with text frame) (value_at text (depth_within frame) i)
 
 abbrev pub IsShallowTurn : ℕ → ValueStep → Type 0
 IsShallowTurn above (read v) = above + depth_of v.1 ≤ depth_limit
-IsShallowTurn above (waits frame i) = (outside frame ≡ above) × IsShallowFrame frame
+IsShallowTurn above (waits frame i) = (depth_around frame ≡ above) × IsShallowFrame frame
 
 -- A turn gives what is wanted, at a place from this one on in the text, so many tables and arrays standing around it.
 pub record IsValueStep (text : List ℕ) (from above : ℕ) (wanted : TomlReading ValueFound) (turn : ValueStep) : Type 0 where
@@ -108,7 +108,7 @@ table_turn start branches next = read (from_to start next, data.table (entries_o
 
 abbrev pub entry_on : List ℕ → ℕ → ℕ → Branches → KeysFound → TomlReading ValueFound
 entry_on text start above branches left =
-    unless (put_fault left.0 branches (above + 1)) (turn_answer text (waits (in_table start above branches left.0) left.1))
+    fault_or (put_fault left.0 branches (above + 1)) (turn_answer text (waits (in_table start above branches left.0) left.1))
 
 -- an inline table that goes on
 abbrev pub table_on : List ℕ → ℕ → ℕ → Branches → Next → TomlReading ValueFound

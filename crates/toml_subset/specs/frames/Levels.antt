@@ -7,7 +7,7 @@ use Rattle.toml_subset.specs.Data as «data»
 use Rattle.toml_subset.specs.Data.{depth_limit, entries_depth}
 use Rattle.toml_subset.specs.Lines.{Document}
 use Rattle.toml_subset.specs.TableFaults.{last_of}
-use Rattle.toml_subset.specs.Tables.{Mark, by_header, implicit, dotted, Node, Branches, Bodies, closed, growing, tables, unbranched, branch, last, body, same_key, added, entries_of}
+use Rattle.toml_subset.specs.Tables.{Mark, by_header, implicit, dotted, Node, Branches, Bodies, closed, growing, tables, unbranched, branch, last, body, same_key, branches_with_key, entries_of}
 use Rattle.toml_subset.specs.declared.error.SyntaxError.{SyntaxError}
 use Rattle.toml_subset.specs.declared.error.SyntaxReason.{SyntaxReason}
 use Rattle.toml_subset.specs.declared.error.SyntaxReason.TheVariants.{RedefinedTable, TooDeep}
@@ -47,10 +47,10 @@ abbrev pub hole : Key → Node
 hole key = closed key.span (data.boolean false)
 
 -- another node at a place, from 0
-abbrev pub replaced : ℕ → Node → Branches → Branches
-replaced i node unbranched = unbranched
-replaced zero node (branch key old more) = branch key node more
-replaced (suc i) node (branch key old more) = branch key old (replaced i node more)
+abbrev pub branches_with_node : ℕ → Node → Branches → Branches
+branches_with_node i node unbranched = unbranched
+branches_with_node zero node (branch key old more) = branch key node more
+branches_with_node (suc i) node (branch key old more) = branch key old (branches_with_node i node more)
 
 -- the place of a key, and what stands there
 abbrev pub found_at : Key → Branches → Option (ℕ × Node)
@@ -63,13 +63,13 @@ size unbranched = 0
 size (branch key node more) = suc (size more)
 
 -- the table with the one that was taken out, as it is now, put back
-abbrev pub plugged : TableLevel → Branches → Branches
-plugged level inner = replaced level.place (around_node level.around inner) level.table
+abbrev pub table_with_inner : TableLevel → Branches → Branches
+table_with_inner level inner = branches_with_node level.place (around_node level.around inner) level.table
 
 -- all of them put back, the outermost first
 abbrev pub all_plugged : List TableLevel → Branches → Branches
 all_plugged [] inner = inner
-all_plugged (level ∷ more) inner = plugged level (all_plugged more inner)
+all_plugged (level ∷ more) inner = table_with_inner level (all_plugged more inner)
 
 abbrev pub steps : List TableLevel → ℕ
 steps [] = 0
@@ -103,47 +103,47 @@ all_of (body span branches more) = (span, branches) ∷ all_of more
 
 -- What a part of a header opens of what stands at it. A part before the last goes into any table but an inline one, and
 -- into the last table of an array; the last one takes over an implicit table, or goes behind the tables of an array.
-abbrev pub opened : HeaderPart → Node → Option (Around × Branches)
-opened Through (closed span content) = None
-opened Through (growing span mark inner) = Some (alone span mark, inner)
-opened Through (tables span bodies) = Some (behind span (before_last bodies) (last_place bodies), last_of bodies)
-opened (Table at) (closed span content) = None
-opened (Table at) (growing span by_header inner) = None
-opened (Table at) (growing span implicit inner) = Some (alone at by_header, inner)
-opened (Table at) (growing span dotted inner) = None
-opened (Table at) (tables span bodies) = None
-opened (Array at) (closed span content) = None
-opened (Array at) (growing span mark inner) = None
-opened (Array at) (tables span bodies) = Some (behind span (all_of bodies) at, unbranched)
+abbrev pub header_branches : HeaderPart → Node → Option (Around × Branches)
+header_branches Through (closed span content) = None
+header_branches Through (growing span mark inner) = Some (alone span mark, inner)
+header_branches Through (tables span bodies) = Some (behind span (before_last bodies) (last_place bodies), last_of bodies)
+header_branches (Table at) (closed span content) = None
+header_branches (Table at) (growing span by_header inner) = None
+header_branches (Table at) (growing span implicit inner) = Some (alone at by_header, inner)
+header_branches (Table at) (growing span dotted inner) = None
+header_branches (Table at) (tables span bodies) = None
+header_branches (Array at) (closed span content) = None
+header_branches (Array at) (growing span mark inner) = None
+header_branches (Array at) (tables span bodies) = Some (behind span (all_of bodies) at, unbranched)
 
 -- what it makes where nothing stands, unless that is too deep
-abbrev pub fresh : HeaderPart → Key → ℕ → Option Around
-fresh Through key above = if above == depth_limit then None else Some (alone key.span implicit)
-fresh (Table at) key above = if above == depth_limit then None else Some (alone at by_header)
-fresh (Array at) key above = if nat_lt (above + 1) depth_limit then Some (behind at [] at) else None
+abbrev pub new_around : HeaderPart → Key → ℕ → Option Around
+new_around Through key above = if above == depth_limit then None else Some (alone key.span implicit)
+new_around (Table at) key above = if above == depth_limit then None else Some (alone at by_header)
+new_around (Array at) key above = if nat_lt (above + 1) depth_limit then Some (behind at [] at) else None
 
 abbrev pub refusal : SyntaxReason → Key → SyntaxError
 refusal reason key = record { reason = reason; span = key.span }
 
 -- the way one table further
-abbrev pub further : Cursor → Branches → ℕ → Around → Branches → Cursor
-further c table place around inner = record {
+abbrev pub cursor_below : Cursor → Branches → ℕ → Around → Branches → Cursor
+cursor_below c table place around inner = record {
   around = c.around ++ record { table = table; place = place; around = around } ∷ [];
   here = inner;
   above = c.above + steps_in around;
 }
 
 abbrev pub into_old : Key → Cursor → ℕ → Option (Around × Branches) → TomlReading Cursor
-into_old key c i (Some found) = Ok (further c (replaced i (hole key) c.here) i found.0 found.1)
+into_old key c i (Some found) = Ok (cursor_below c (branches_with_node i (hole key) c.here) i found.0 found.1)
 into_old key c i None = Err (refusal RedefinedTable key)
 
 abbrev pub into_new : Key → Cursor → Option Around → TomlReading Cursor
-into_new key c (Some around) = Ok (further c (added key (hole key) c.here) (size c.here) around unbranched)
+into_new key c (Some around) = Ok (cursor_below c (branches_with_key key (hole key) c.here) (size c.here) around unbranched)
 into_new key c None = Err (refusal TooDeep key)
 
 abbrev pub into_found : HeaderPart → Key → Cursor → Option (ℕ × Node) → TomlReading Cursor
-into_found part key c (Some found) = into_old key c found.0 (opened part found.1)
-into_found part key c None = into_new key c (fresh part key c.above)
+into_found part key c (Some found) = into_old key c found.0 (header_branches part found.1)
+into_found part key c None = into_new key c (new_around part key c.above)
 
 -- a part of a header
 abbrev pub into_part : HeaderPart → Key → Cursor → TomlReading Cursor

@@ -19,8 +19,8 @@ abbrev pub HasPlacesFrom : ℕ → TextMapTo ℕ → List Key → Type 0
 HasPlacesFrom first places keys = (name : List ℕ) → finmap.get places name ≡ option_map (λ i. first + i) (first_key_place name keys)
 
 -- Few keys need no map.
-abbrev pub few : ℕ
-few = 8
+abbrev pub few_keys : ℕ
+few_keys = 8
 
 abbrev pub IsIndex : TextMapTo ℕ → List Key → Type 0
-IsIndex places keys = few < length keys → HasKeyPlaces places keys
+IsIndex places keys = few_keys < length keys → HasKeyPlaces places keys

@@ -1,11 +1,11 @@
 -- What a type makes of a value: the value that was read, or what is wrong with it.
 use Rattle.std.specs.Prelude.{◌≡◌, List, [], ◌∷◌, Option, Some, None, Result, Ok, Err, ⊤}
-use Rattle.toml_subset.specs.shapes.Shapes.{Fault}
+use Rattle.toml_subset.specs.shapes.Shapes.{ShapeFault}
 use Rattle.toml_subset.specs.declared.shapes.shape.DeserError.{DeserError}
 use Rattle.toml_subset.specs.declared.shapes.shape.DeserError.TheVariants.{Faults, Memory}
 
 abbrev pub ShapeReading : Type 0 → Type 0
-ShapeReading T = Result T (List Fault)
+ShapeReading T = Result T (List ShapeFault)
 
 abbrev pub shaped_map : {A B : Type 0} → (A → B) → ShapeReading A → ShapeReading B
 shaped_map f (Ok x) = Ok (f x)
@@ -15,21 +15,21 @@ abbrev pub shaped_then : {A B : Type 0} → (A → ShapeReading B) → ShapeRead
 shaped_then f (Ok x) = f x
 shaped_then f (Err faults) = Err faults
 
-abbrev pub faults_in : {A : Type 0} → ShapeReading A → List Fault
+abbrev pub faults_in : {A : Type 0} → ShapeReading A → List ShapeFault
 faults_in (Ok x) = []
 faults_in (Err faults) = faults
 
 -- the value, where nothing was wrong with it
-abbrev pub shaped_of : {A : Type 0} → List Fault → A → ShapeReading A
+abbrev pub shaped_of : {A : Type 0} → List ShapeFault → A → ShapeReading A
 shaped_of [] x = Ok x
 shaped_of (fault ∷ faults) x = Err (fault ∷ faults)
 
-abbrev pub HasFaults : List Fault → Type 0
+abbrev pub HasFaults : List ShapeFault → Type 0
 HasFaults [] = ⊥
 HasFaults (fault ∷ faults) = ⊤
 
 -- the error tells these faults, or that memory was wanting
-abbrev pub IsToldBy : DeserError → List Fault → Type 0
+abbrev pub IsToldBy : DeserError → List ShapeFault → Type 0
 IsToldBy (Faults told) faults = (told ≡ faults) × HasFaults told
 IsToldBy Memory faults = ⊤
 

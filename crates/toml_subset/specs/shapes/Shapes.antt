@@ -12,12 +12,12 @@ pub data ShapeReason : Type 0 where
   custom : List ℕ → ShapeReason
   out_of_range : List ℕ → ShapeReason
 
-pub record Fault : Type 0 where
+pub record ShapeFault : Type 0 where
   pub reason : ShapeReason
   pub span : Span
 
 -- one fault by itself
-abbrev pub fault_alone : ShapeReason → Span → List Fault
+abbrev pub fault_alone : ShapeReason → Span → List ShapeFault
 fault_alone reason span = record { reason = reason; span = span } ∷ []
 
 -- names with commas between
@@ -34,5 +34,5 @@ reason_text (custom text) = text
 reason_text (out_of_range type) = codes "out of range of " ++ type
 
 -- what is said of several faults: a line for each
-abbrev pub faults_text : List Fault → List ℕ
+abbrev pub faults_text : List ShapeFault → List ℕ
 faults_text faults = flat_map (λ fault. reason_text fault.reason ++ 10 ∷ []) faults

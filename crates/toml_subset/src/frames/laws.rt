@@ -7,8 +7,8 @@ ghost use Rattle.toml_subset.specs.Data.{Items, depth_of, depth_limit};
 ghost use Rattle.toml_subset.specs.Lines.{Document};
 ghost use Rattle.toml_subset.specs.Reading.{ValueFound, section_of};
 ghost use Rattle.toml_subset.specs.TableFaults.{header_fault, array_header_fault};
-ghost use Rattle.toml_subset.specs.Tables.{Branches, closed, implicit, along, through_any, within};
-ghost use Rattle.toml_subset.specs.Tables.{open_table, open_array, put, entries_of};
+ghost use Rattle.toml_subset.specs.Tables.{Branches, closed, implicit, edit_along, through_any, edit_within};
+ghost use Rattle.toml_subset.specs.Tables.{open_table, open_array, branches_with_value, entries_of};
 ghost use Rattle.toml_subset.specs.declared.string.Key.{Key};
 ghost use Rattle.toml_subset.specs.frames.Between.{behind_item, behind_entry};
 ghost use Rattle.toml_subset.specs.frames.Levels.{Cursor, IsWay, IsOpened, all_plugged, into_header};
@@ -23,7 +23,7 @@ pub fn frames_owe_what_reading_owes()
         ≡ then_read (array_on text start above (with_last items v)) (behind_item text v.2) }
     ensures table { (text : List ℕ) (start above : ℕ) (branches : Branches) (keys : List Key) (v : ValueFound)
         (new : Branches)
-        → put keys (closed v.0 v.1) branches ≡ Some new
+        → branches_with_value keys (closed v.0 v.1) branches ≡ Some new
         → above + depth_of (data.table (entries_of new)) ≤ depth_limit
         → on_with text (in_table start above branches keys) v
         ≡ then_read (table_on text start above new) (behind_entry text v.2) }
@@ -34,7 +34,7 @@ pub fn pairs_need_the_open_table_alone()
     ensures section { (document : Document) (c : Cursor) → IsWay document c
         → section_of document.section document.root 0 ≡ (c.here, c.above) }
     ensures edit { (document : Document) (c : Cursor) (edit : Branches → Option Branches) → IsWay document c
-        → within document.section edit document.root ≡ option_map (all_plugged c.around) (edit c.here) }
+        → edit_within document.section edit document.root ≡ option_map (all_plugged c.around) (edit c.here) }
 {}
 
 /// A header that is followed part by part has the definition's first fault, or opens the definition's table.
@@ -42,11 +42,11 @@ pub fn headers_are_followed_part_by_part()
     ensures tables { (document : Document) (c : Cursor) (at : Span) (keys : List Key)
         → IsWay document c → 0 < length keys
         → IsOpened (header_fault keys document.root)
-        (along implicit through_any (open_table at) keys document.root) keys
+        (edit_along implicit through_any (open_table at) keys document.root) keys
         (into_header (HeaderPart.Table at) keys c) }
     ensures arrays { (document : Document) (c : Cursor) (at : Span) (keys : List Key)
         → IsWay document c → 0 < length keys
         → IsOpened (array_header_fault keys document.root)
-        (along implicit through_any (open_array at) keys document.root) keys
+        (edit_along implicit through_any (open_array at) keys document.root) keys
         (into_header (HeaderPart.Array at) keys c) }
 {}

@@ -73,9 +73,9 @@ pub struct ShapeErrors {
 
 impl Model for ShapeErrors {
     ghost use Rattle.std.specs.Prelude.{List, map};
-    ghost use Rattle.toml_subset.specs.shapes.Shapes.{Fault};
+    ghost use Rattle.toml_subset.specs.shapes.Shapes.{ShapeFault};
 
-    ghost Value = { List Fault };
+    ghost Value = { List ShapeFault };
 
     ghost use Rattle.toml_subset.specs.shapes.ShapeViews.{fault_of};
 

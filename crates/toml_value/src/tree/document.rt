@@ -4,7 +4,7 @@ ghost use Rattle.toml_subset.specs.Answer.{AnswersToml};
 ghost use Rattle.toml_subset.specs.Data.{depth_limit};
 ghost use Rattle.toml_subset.specs.TableFaults.{put_fault};
 ghost use Rattle.toml_subset.specs.Tables.{Node};
-ghost use Rattle.toml_subset.specs.frames.Levels.{refusal, found_at, replaced, hole as hole_at, opened as opened_in};
+ghost use Rattle.toml_subset.specs.frames.Levels.{refusal, found_at, branches_with_node, hole as hole_at, header_branches as opened_in};
 ghost use Rattle.toml_value.specs.AroundViews.{opened_view, or_redefined, is_whole_around};
 ghost use Rattle.toml_value.specs.BranchViews.{branches_view, is_whole};
 ghost use Rattle.toml_value.specs.TreeViews.{tree_view};
@@ -269,8 +269,8 @@ impl<'de> Document<'de> {
 
 impl<'de> Pending<'de> {
     ghost use Rattle.std.specs.Prelude.{◌≡◌, ◌+◌, ◌-◌, length, Some, IfOk};
-    ghost use Rattle.toml_subset.specs.Tables.{put};
-    ghost use Rattle.toml_value.specs.BranchViews.{shut};
+    ghost use Rattle.toml_subset.specs.Tables.{branches_with_value};
+    ghost use Rattle.toml_value.specs.BranchViews.{closed_node};
     ghost use Rattle.toml_value.specs.LevelViews.{cursor_view, pending_view};
 
     /// How many tables and arrays stand around the value.
@@ -283,7 +283,7 @@ impl<'de> Pending<'de> {
     /// The document with the value at the key. Where memory ends, nothing is left.
     pub(crate) fn put(self, alloc: Global, value: Value<'de>) -> Result<Document<'de>, AllocError>
         ensures { let c = pending_view self.entry in
-            let made = put self.entry.awaiting.keys (shut value.entry) c.here in
+            let made = branches_with_value self.entry.awaiting.keys (closed_node value.entry) c.here in
             IfOk result (λ document. made ≡ Some (cursor_view document).here
             × (cursor_view document ≡ record c { here = (cursor_view document).here })) }
     {
@@ -329,7 +329,7 @@ fn take_opened<'de>(
     requires found { option_map (λ found. found.0) (found_at key.now (branches_view table.old)) ≡ Some place }
     ensures opened { (node : Node) → found_at key.now (branches_view table.old) ≡ Some (place, node)
         → AnswersToml opened_view (or_redefined key.now (opened_in part node)) result }
-    ensures left { branches_view table.new ≡ replaced place (hole_at key.now) (branches_view table.old) }
+    ensures left { branches_view table.new ≡ branches_with_node place (hole_at key.now) (branches_view table.old) }
     ensures whole { IsTrue (is_whole table.new) }
     ensures around { IfOk result (λ found. IsTrue (is_whole_around found.0)) }
     ensures inner { IfOk result (λ found. IsTrue (is_whole found.1)) }

@@ -1,6 +1,6 @@
 //! Where the table rules refuse a key.
 ghost use Rattle.std.specs.Prelude.{◌≡◌, ◌+◌, ◌<◌, ◌^◌, ◌∷◌, length, IsTrue};
-ghost use Rattle.toml_subset.specs.TableFaults.{refused, new_key_fault, put_fault};
+ghost use Rattle.toml_subset.specs.TableFaults.{fault_at_key, new_key_fault, put_fault};
 ghost use Rattle.toml_subset.specs.Tables.{unbranched};
 ghost use Rattle.toml_value.specs.BranchViews.{branches_view, is_whole};
 
@@ -12,7 +12,7 @@ pub(crate) const DEPTH_LIMIT: usize = 128;
 
 /// The fault at a part of a key.
 fn refuse(reason: SyntaxReason, key: &Key<'_>) -> Option<SyntaxError>
-    ensures { result ≡ refused reason key.now }
+    ensures { result ≡ fault_at_key reason key.now }
 {
     Some(SyntaxError {
         reason,

@@ -1,8 +1,8 @@
 //! What a table came to.
 ghost use Rattle.std.specs.Prelude.{◌≡◌, ◌∷◌, List, map, IfOk, OnOk};
 ghost use Rattle.toml_subset.specs.Tables.{entries_of};
-ghost use Rattle.toml_value.specs.BranchViews.{node_view, branches_view, body_view, body_items, finished};
-ghost use Rattle.toml_value.specs.FinishViews.{followed, left_of, array_with};
+ghost use Rattle.toml_value.specs.BranchViews.{node_view, branches_view, body_view, body_items, node_value};
+ghost use Rattle.toml_value.specs.FinishViews.{joined_entries, left_of, array_with};
 ghost use Rattle.toml_value.specs.Views.{value_view, values_view, entries_view};
 ghost use Rattle.toml_value.specs.declared.tree.Node.{Node as NodeOf};
 
@@ -15,7 +15,7 @@ use toml_subset::key_index::KeyParts;
 /// What stands at a key, as a value.
 #[cycle(finish)]
 fn into_value<'de>(alloc: Global, node: Node<'de>) -> Result<Value<'de>, AllocError>
-    ensures { IfOk result (λ value. value_view value ≡ finished (node_view node.entry)) }
+    ensures { IfOk result (λ value. value_view value ≡ node_value (node_view node.entry)) }
 {
     match node {
         Node::Closed(value) => Ok(value),
@@ -92,9 +92,9 @@ fn push_value<'de>(
     keys: &mut KeyParts<'de>,
     value: Value<'de>,
 ) -> Result<(), AllocError>
-    ensures { (node : NodeOf) (nodes : List NodeOf) → value_view value.entry ≡ finished (node_view node)
-        → OnOk result (followed (entries_view entries.old) (left_of keys.old (node ∷ nodes))
-        ≡ followed (entries_view entries.new) (left_of keys.new nodes)) }
+    ensures { (node : NodeOf) (nodes : List NodeOf) → value_view value.entry ≡ node_value (node_view node)
+        → OnOk result (joined_entries (entries_view entries.old) (left_of keys.old (node ∷ nodes))
+        ≡ joined_entries (entries_view entries.new) (left_of keys.new nodes)) }
 {
     let Some(key) = keys.next() else {
         value.let_go();

@@ -1,6 +1,6 @@
 //! Tables that are taken out of one another, and put back.
 ghost use Rattle.std.specs.Prelude.{◌≡◌, ◌<◌, ◌++◌, [], ◌∷◌, length, IsTrue, IfOk, IfSome, option_map};
-ghost use Rattle.toml_subset.specs.frames.Levels.{steps_in, around_node, opened as opened_in, fresh as fresh_in};
+ghost use Rattle.toml_subset.specs.frames.Levels.{steps_in, around_node, header_branches as opened_in, new_around as fresh_in};
 ghost use Rattle.toml_value.specs.BranchViews.{node_view, branches_view, is_whole, is_whole_node};
 ghost use Rattle.toml_value.specs.AroundViews.{around_view, is_whole_around, opened_view};
 ghost use Rattle.toml_value.specs.declared.tree.Branches.{out-Branches};
@@ -65,14 +65,14 @@ impl<'de> Around<'de> {
 
 impl<'de> TableLevel<'de> {
     ghost use Rattle.std.specs.Prelude.{◌≡◌, IsTrue};
-    ghost use Rattle.toml_subset.specs.frames.Levels.{plugged};
+    ghost use Rattle.toml_subset.specs.frames.Levels.{table_with_inner};
     ghost use Rattle.toml_value.specs.BranchViews.{branches_view, is_whole};
     ghost use Rattle.toml_value.specs.LevelViews.{level_view};
 
     /// The table with the one that was taken out, as it is now, put back.
     pub(crate) fn with(self, inner: Branches<'de>) -> Branches<'de>
         requires { IsTrue (is_whole inner) }
-        ensures view { branches_view result ≡ plugged (level_view self.entry) (branches_view inner.entry) }
+        ensures view { branches_view result ≡ table_with_inner (level_view self.entry) (branches_view inner.entry) }
         ensures whole { IsTrue (is_whole result) }
     {
         let TableLevel {

@@ -1,10 +1,10 @@
 //! A value at the end of a dotted key.
 ghost use Rattle.std.specs.Prelude.{◌≡◌, ◌<◌, ◌∷◌, length, Some, true, is_some, IsTrue, IfOk, IfSome};
 ghost use Rattle.std.specs.Prelude.{option_map};
-ghost use Rattle.toml_subset.specs.Tables.{put};
-ghost use Rattle.toml_subset.specs.frames.Levels.{found_at, replaced};
-ghost use Rattle.toml_value.specs.BelowViews.{LeadsOn, IsTakenOut, HasRoom, placed};
-ghost use Rattle.toml_value.specs.BranchViews.{node_view, branches_view, is_whole, is_whole_node, shut};
+ghost use Rattle.toml_subset.specs.Tables.{branches_with_value};
+ghost use Rattle.toml_subset.specs.frames.Levels.{found_at, branches_with_node};
+ghost use Rattle.toml_value.specs.BelowViews.{LeadsOn, IsTakenOut, HasRoom, table_with_node};
+ghost use Rattle.toml_value.specs.BranchViews.{node_view, branches_view, is_whole, is_whole_node, closed_node};
 ghost use Rattle.toml_value.specs.BranchViews.{parts_of_dotted};
 ghost use Rattle.toml_value.specs.declared.tree.Branches.{out-Branches};
 
@@ -90,7 +90,7 @@ fn with_below<'de>(
     requires node { IsTrue (is_whole_node node) }
     requires room { HasRoom place key (branches_view table) }
     ensures view { IfOk result (λ new. branches_view new
-        ≡ placed place key.entry (node_view node.entry) (branches_view table.entry)) }
+        ≡ table_with_node place key.entry (node_view node.entry) (branches_view table.entry)) }
     ensures whole { IfOk result (λ new. IsTrue (is_whole new)) }
 {
     match place {
@@ -104,7 +104,7 @@ fn with_node<'de>(table: Branches<'de>, place: usize, node: Node<'de>) -> Branch
     requires whole { IsTrue (is_whole table) }
     requires node { IsTrue (is_whole_node node) }
     requires inside { place < length (out-Branches table).nodes.items }
-    ensures view { branches_view result ≡ replaced place (node_view node.entry) (branches_view table.entry) }
+    ensures view { branches_view result ≡ branches_with_node place (node_view node.entry) (branches_view table.entry) }
     ensures whole { IsTrue (is_whole result) }
 {
     let mut table = table;
@@ -126,8 +126,8 @@ pub(crate) fn put_along<'de>(
     value: Value<'de>,
 ) -> Result<Branches<'de>, AllocError>
     requires whole { IsTrue (is_whole table) }
-    requires free { is_some (put (key ∷ rest) (shut value) (branches_view table)) ≡ true }
-    ensures view { IfOk result (λ new. put (key.entry ∷ rest.entry) (shut value.entry)
+    requires free { is_some (branches_with_value (key ∷ rest) (closed_node value) (branches_view table)) ≡ true }
+    ensures view { IfOk result (λ new. branches_with_value (key.entry ∷ rest.entry) (closed_node value.entry)
         (branches_view table.entry) ≡ Some (branches_view new)) }
     ensures whole { IfOk result (λ new. IsTrue (is_whole new)) }
 {

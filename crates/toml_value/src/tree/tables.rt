@@ -106,8 +106,8 @@ impl<'de> TableTree<'de> {
 
 impl<'de> Awaiting<'de> {
     ghost use Rattle.std.specs.Prelude.{◌≡◌, ◌+◌, ◌-◌, length, Some, IfOk};
-    ghost use Rattle.toml_subset.specs.Tables.{put};
-    ghost use Rattle.toml_value.specs.BranchViews.{shut};
+    ghost use Rattle.toml_subset.specs.Tables.{branches_with_value};
+    ghost use Rattle.toml_value.specs.BranchViews.{closed_node};
     ghost use Rattle.toml_value.specs.TreeViews.{tree_view};
 
     /// Lets the table and the key go.
@@ -125,7 +125,7 @@ impl<'de> Awaiting<'de> {
 
     /// The table with the value at the key. Where memory ends, nothing is left.
     pub(crate) fn put(self, alloc: Global, value: Value<'de>) -> Result<TableTree<'de>, AllocError>
-        ensures { IfOk result (λ tree. put self.entry.keys (shut value.entry) (tree_view self.entry.tree)
+        ensures { IfOk result (λ tree. branches_with_value self.entry.keys (closed_node value.entry) (tree_view self.entry.tree)
             ≡ Some (tree_view tree)) }
     {
         let Awaiting {

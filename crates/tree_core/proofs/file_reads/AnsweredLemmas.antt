@@ -1,6 +1,6 @@
 -- What is heard by the one call that was made.
 use Rattle.std.proofs.Common.{◌≡◌, ℕ, List, [], ◌∷◌, ◌++◌, map, Some, Ok, Err, refl, sym, ap, ◌∙◌}
-use Rattle.tree_core.specs.Answer.{listed}
+use Rattle.tree_core.specs.Answer.{listed_entry}
 use Rattle.tree_core.specs.Call as call
 use Rattle.tree_core.specs.Call.{Call}
 use Rattle.tree_core.specs.Content.{file}
@@ -33,8 +33,8 @@ module _ (before after : ℕ) (old new : List Call) (path : List ℕ) where
 
   -- ---- listings
 
-  pub entries_listed : (listing : List Entry) → new ≡ old ++ list_call path (Ok listing) ∷ [] → IsListed before after old new path (entries (map listed listing))
-  entries_listed listing made = record { answer = call.entries (map listed listing); made = made; hears = refl }
+  pub entries_listed : (listing : List Entry) → new ≡ old ++ list_call path (Ok listing) ∷ [] → IsListed before after old new path (entries (map listed_entry listing))
+  entries_listed listing made = record { answer = call.entries (map listed_entry listing); made = made; hears = refl }
 
   pub absent_listed : (error : TreeError) → error ≡ tree.Absent → new ≡ old ++ list_call path (Err error) ∷ [] → IsListed before after old new path absent
   absent_listed error is made = record { answer = refusal_answer error; made = made; hears = ap (λ one. folder_answered before after (refusal_answer one)) is }

@@ -7,7 +7,7 @@ use Rattle.std.specs.Prelude.{unwrap_or}
 use Rattle.tree_core.specs.Call as call
 use Rattle.tree_core.specs.Call.{CallAnswer, Call}
 use Rattle.tree_core.specs.Content.{Content, file}
-use Rattle.tree_core.specs.Faults.{Rose, counted}
+use Rattle.tree_core.specs.Faults.{Rose, next_count}
 use Rattle.tree_core.specs.Hearing.{Made}
 use Rattle.tree_core.specs.Trace.{fault_behind, faults_after}
 use Rattle.tree_core.proofs.MadeLemmas.{made_as, made_joined, made_none}
@@ -119,14 +119,14 @@ not_less : (a b : ℕ) → ltb a b ≡ false → b ≤ a
 not_less a b is = grind (arith, Decides-ltb a b)
 
 -- a count that is counted on rose, or stands at the last number
-pub rose_counted : (count after : ℕ) → counted count ≤ after → Rose count after
+pub rose_counted : (count after : ℕ) → next_count count ≤ after → Rose count after
 rose_counted count after later = elim (ltb count (2 ^ 64 - 1)) as (λ b. ltb count (2 ^ 64 - 1) ≡ b → Rose count after) [
   | true ↦ λ below. let less : count < 2 ^ 64 - 1 = (Decides-ltb count (2 ^ 64 - 1)).0 below in inl (omega arith)
   | false ↦ λ over. let most : 2 ^ 64 - 1 ≤ count = not_less count (2 ^ 64 - 1) over in inr (omega arith)
 ] refl
 
-rose_by : (count : ℕ) → RoseBy count (counted count)
-rose_by count = record { later = omega arith; rose = rose_counted count (counted count) (omega arith) }
+rose_by : (count : ℕ) → RoseBy count (next_count count)
+rose_by count = record { later = omega arith; rose = rose_counted count (next_count count) (omega arith) }
 
 -- bytes that were read say nothing of the count
 bytes_rise : (before : ℕ) (items : List ℕ) (Rest : ℕ → Type 0) → Rest before → RiseFrom before (read_answer_of (file_heard (Some (file items)))) Rest
@@ -142,7 +142,7 @@ file_rises before (call.told answer) heard Rest is rest = cc
 file_rises before call.absent heard Rest is rest = let same : absent ≡ heard = cc in subst (λ (one : ReadResult). RiseFrom before (read_answer_of one) Rest) same rest
 file_rises before call.wrong_kind heard Rest is rest = let same : wrong_kind ≡ heard = cc in subst (λ (one : ReadResult). RiseFrom before (read_answer_of one) Rest) same rest
 file_rises before call.failed heard Rest is rest =
-    let same : failed before (counted before) ≡ heard = cc in
+    let same : failed before (next_count before) ≡ heard = cc in
     subst (λ (one : ReadResult). RiseFrom before (read_answer_of one) Rest) same (omega arith, rose_by before, rest)
 file_rises before call.no_memory heard Rest is rest = cc
 
@@ -154,7 +154,7 @@ folder_rises before (call.told answer) heard Rest is rest = cc
 folder_rises before call.absent heard Rest is rest = let same : absent ≡ heard = cc in subst (λ (one : ReadResult). RiseFrom before (read_answer_of one) Rest) same rest
 folder_rises before call.wrong_kind heard Rest is rest = let same : wrong_kind ≡ heard = cc in subst (λ (one : ReadResult). RiseFrom before (read_answer_of one) Rest) same rest
 folder_rises before call.failed heard Rest is rest =
-    let same : failed before (counted before) ≡ heard = cc in
+    let same : failed before (next_count before) ≡ heard = cc in
     subst (λ (one : ReadResult). RiseFrom before (read_answer_of one) Rest) same (omega arith, rose_by before, rest)
 folder_rises before call.no_memory heard Rest is rest = cc
 

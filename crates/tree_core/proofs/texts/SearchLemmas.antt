@@ -2,7 +2,7 @@
 use Rattle.std.proofs.lemmas.List.{length-map}
 use Rattle.std.proofs.Common.{◌≡◌, ◌<◌, ◌+◌, ℕ, zero, suc, true, false, List, [], ◌∷◌, ◌++◌, map, take, drop, get_or, append_assoc, arith, Option, Some, None, Result, Ok, Err, length, refl, ap, sym, subst, ◌∙◌, inl, inr}
 use Rattle.tree_core.specs.Call.{CallAnswer, Call, told}
-use Rattle.tree_core.specs.texts.Looked.{AreFirstLooks, IsHit, IsLast, FindsByLooks, LookedUntil, look_of, lost, absent_looks}
+use Rattle.tree_core.specs.texts.Looked.{AreFirstLooks, IsHit, IsLast, FindsByLooks, LookedUntil, look_of, failed_look, absent_looks}
 use Rattle.std.specs.Prelude.{is_some, IfErr}
 use Rattle.std.specs.Result.{IsErrAnd}
 use Rattle.std.proofs.Math.Numerals.{add-one}
@@ -66,11 +66,11 @@ none_behind old mid new before paths (Some found) is first looked = absurd (cc)
 -- ---- searches that were given up
 
 -- the look at the next of the paths was lost
-pub looked_until : (old mid new : List Call) (paths before rest : List (List ℕ)) (path : List ℕ) (error : SearchError) → mid ≡ old ++ absent_looks before → new ≡ mid ++ look_of path (lost error) ∷ [] → paths ≡ before ++ path ∷ rest → LookedUntil paths old new error
+pub looked_until : (old mid new : List Call) (paths before rest : List (List ℕ)) (path : List ℕ) (error : SearchError) → mid ≡ old ++ absent_looks before → new ≡ mid ++ look_of path (failed_look error) ∷ [] → paths ≡ before ++ path ∷ rest → LookedUntil paths old new error
 looked_until old mid new paths before rest path (Failed low high) first then parts =
-    record { before = before; last = path; rest = rest; parts = parts; made = then ∙ ap (λ calls. calls ++ look_of path (lost (Failed low high)) ∷ []) first }
+    record { before = before; last = path; rest = rest; parts = parts; made = then ∙ ap (λ calls. calls ++ look_of path (failed_look (Failed low high)) ∷ []) first }
 looked_until old mid new paths before rest path Memory first then parts =
-    inr (record { before = before; last = path; rest = rest; parts = parts; made = then ∙ ap (λ calls. calls ++ look_of path (lost Memory) ∷ []) first })
+    inr (record { before = before; last = path; rest = rest; parts = parts; made = then ∙ ap (λ calls. calls ++ look_of path (failed_look Memory) ∷ []) first })
 
 -- no memory was left for a further look
 pub front_until : (old new : List Call) (paths before rest : List (List ℕ)) (error : SearchError) → error ≡ Memory → new ≡ old ++ absent_looks before → paths ≡ before ++ rest → LookedUntil paths old new error

@@ -1,6 +1,6 @@
 -- What was heard, as the values of the code stand for it.
 use Rattle.std.specs.Prelude.{ℕ, List, map, Result, Ok, Err}
-use Rattle.tree_core.specs.Answer.{listed}
+use Rattle.tree_core.specs.Answer.{listed_entry}
 use Rattle.tree_core.specs.declared.tree.Entry.{Entry}
 use Rattle.tree_core.specs.declared.file_reads.bad_read.BadRead.{BadRead}
 use Rattle.tree_core.specs.declared.file_reads.bad_read.BadRead.TheVariants as bad
@@ -19,5 +19,5 @@ heard_file (Err error) = heard_bad error
 
 -- a folder that was listed
 abbrev pub heard_folder : Result (List Entry) BadRead → ReadResult
-heard_folder (Ok listing) = entries (map listed listing)
+heard_folder (Ok listing) = entries (map listed_entry listing)
 heard_folder (Err error) = heard_bad error

@@ -28,9 +28,9 @@ FindsByLooks paths old new (Some found) = IsHit paths old new found
 -- ---- a search that was given up
 
 -- how the call of a look was answered that ended a search
-abbrev pub lost : SearchError → CallAnswer
-lost (Failed before after) = call.failed
-lost Memory = call.no_memory
+abbrev pub failed_look : SearchError → CallAnswer
+failed_look (Failed before after) = call.failed
+failed_look Memory = call.no_memory
 
 -- one path was looked at last, behind those at which nothing stands, and this was answered
 pub record IsLast (paths : List (List ℕ)) (old new : List Call) (answer : CallAnswer) : Type 0 where

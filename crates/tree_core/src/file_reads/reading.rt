@@ -10,7 +10,7 @@ ghost use Rattle.tree_core.specs.file_reads.Heard.{file_heard, read_record_of};
 ghost use Rattle.tree_core.specs.file_reads.Views.{heard_file, heard_folder};
 
 use crate::file_reads::bad_read::BadRead;
-use crate::{Entries, ReadAnswer, ReadKind, ReadRecord, Tree, TreeError};
+use crate::{FolderEntries, ReadAnswer, ReadKind, ReadRecord, Tree, TreeError};
 use deny_text::path::join;
 use deny_text::{Bytes, PathBuf, Text};
 use std::alloc::{AllocError, Global};
@@ -19,7 +19,7 @@ use std::alloc::{AllocError, Global};
 pub type FileHeard = Result<Text, BadRead>;
 
 /// A folder's entries in byte order of their names, or why there are none.
-pub type FolderHeard = Result<Entries, BadRead>;
+pub type FolderHeard = Result<FolderEntries, BadRead>;
 
 /// A file's bytes as a text, which is made of them without a copy.
 fn text_of(bytes: Bytes) -> FileHeard

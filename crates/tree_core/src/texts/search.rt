@@ -3,7 +3,7 @@ ghost use Rattle.std.specs.Prelude.{◌≡◌, ◌≤◌, ◌++◌, [], ◌∷�
 ghost use Rattle.tree_core.specs.Hearing.{MadeSome};
 ghost use Rattle.tree_core.specs.texts.Cause.{ReadCounts};
 ghost use Rattle.tree_core.specs.Call.{told};
-ghost use Rattle.tree_core.specs.texts.Looked.{FindsByLooks, LookedUntil, look_of, lost};
+ghost use Rattle.tree_core.specs.texts.Looked.{FindsByLooks, LookedUntil, look_of, failed_look};
 ghost use Rattle.tree_core.specs.texts.Search.{names_sought, paths_in_folder, candidates, search_cause};
 ghost use Rattle.tree_core.specs.declared.texts.search.SearchError.TheVariants.{Memory};
 
@@ -61,7 +61,7 @@ fn look<T: Tree>(alloc: Global, tree: &mut T, path: &str, begun: u64) -> Result<
     ensures looked { IfOk result (λ there.
         T.trace tree.new ≡ T.trace tree.old ++ look_of path.now (told there) ∷ []) }
     ensures given_up { IfErr result (λ error.
-        T.trace tree.new ≡ T.trace tree.old ++ look_of path.now (lost error) ∷ []) }
+        T.trace tree.new ≡ T.trace tree.old ++ look_of path.now (failed_look error) ∷ []) }
     ensures made { MadeSome (T.content tree.old) (T.content tree.new) (T.fault_count tree.old)
         (T.fault_count tree.new) (T.trace tree.old) (T.trace tree.new) }
     ensures counts { IfErr result (λ error.

@@ -1,7 +1,7 @@
 use Rattle.std.proofs.Common.{◌∙◌, ◌+◌, ◌≤◌, ◌<◌, sym, ap, map, length, false, arith}
 use Rattle.std.proofs.lemmas.List.{drop_more}
 use Rattle.graph_core.specs.Krate.{record_of}
-use Rattle.policy_parts.specs.spec.Index.{first_of, matching}
+use Rattle.policy_parts.specs.spec.Index.{first_of, matching_places}
 use Rattle.policy_core.specs.valid.View.{policy_of}
 use Rattle.check_core.proofs.evaluate.EvaluationLemmas.{spec_of, specs_are}
 use Rattle.check_verify.specs.Reasons.{reason_with}
@@ -29,8 +29,8 @@ pub fault_of-requires-clause-counted : goal.fault_of-requires-clause-counted
 fault_of-requires-clause-counted g c =
     let krate = record_of c.index-licenses-place.result.krate.now in
     c.first.ensures
-    ∙ ap (λ es. first_of (matching (map spec_of es) krate)) c.items.ensures
-    ∙ ap (λ specs. first_of (matching specs krate)) (specs_are c.args.policy.now.exceptions)
+    ∙ ap (λ es. first_of (matching_places (map spec_of es) krate)) c.items.ensures
+    ∙ ap (λ specs. first_of (matching_places specs krate)) (specs_are c.args.policy.now.exceptions)
 
 pub returns-in-Some-fault-clause-reason : goal.returns-in-Some-fault-clause-reason
 returns-in-Some-fault-clause-reason g c =

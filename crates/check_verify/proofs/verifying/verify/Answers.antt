@@ -1,7 +1,7 @@
 use Rattle.std.proofs.Common.{◌∙◌, sym, subst, Some, None}
 use Rattle.std.specs.List.{AllZip}
 use Rattle.policy_core.specs.valid.View.{policy_of}
-use Rattle.check_verify.specs.declared.answer.Answer.TheVariants.{No, Yes}
+use Rattle.check_verify.specs.declared.answer.VerifyAnswer.TheVariants.{No, Yes}
 use Rattle.check_verify.specs.declared.answer.NoReason.TheVariants.{Crates}
 use Rattle.check_verify.specs.Reasons.{answer_by}
 use Rattle.check_verify.specs.Verified.{IsFirst, IsFlagged, IsVerified}

@@ -1,7 +1,7 @@
 -- What a request is answered is what its command answers.
 use Rattle.std.proofs.Common.{◌≡◌, refl, subst, sym, ℕ, List, Ok, Err}
 use Rattle.tree_core.proofs.MadeLemmas.{made_none}
-use Rattle.run_found.specs.Hearing.{seen}
+use Rattle.run_found.specs.Hearing.{tree_seen}
 use Rattle.run_found.specs.Written.{sink_seen}
 use Rattle.run_command.specs.Carried.{plain_options}
 use Rattle.run_command.specs.Given.{command_asked}
@@ -15,7 +15,7 @@ pub returns-in-Ok-clause-answers : goal.returns-in-Ok-clause-answers
 returns-in-Ok-clause-answers g c =
     let lists = g.C.Catalog.lists c.args.catalog.now in
     let match_of = g.I.Identifier.match_of c.args.identifier.now in
-    let tree = seen (g.T.Tree.content c.args.tree.now) (g.T.Tree.content c.check_request.new.tree) (g.T.Tree.fault_count c.args.tree.now) (g.T.Tree.fault_count c.check_request.new.tree) (g.T.Tree.trace c.args.tree.now) (g.T.Tree.trace c.check_request.new.tree) in
+    let tree = tree_seen (g.T.Tree.content c.args.tree.now) (g.T.Tree.content c.check_request.new.tree) (g.T.Tree.fault_count c.args.tree.now) (g.T.Tree.fault_count c.check_request.new.tree) (g.T.Tree.trace c.args.tree.now) (g.T.Tree.trace c.check_request.new.tree) in
     let out = sink_seen (g.O.Sink.written c.args.out.now) (g.O.Sink.written c.check_request.new.out) (g.O.Sink.fault_count c.args.out.now) (g.O.Sink.fault_count c.check_request.new.out) in
     let err = sink_seen (g.E.Sink.written c.args.err.now) (g.E.Sink.written c.check_request.new.err) (g.E.Sink.fault_count c.args.err.now) (g.E.Sink.fault_count c.check_request.new.err) in
     subst (λ command. Answers lists match_of c.args.request.now command (run_seen tree out err) (Ok (Checked c.in-Ok.report))) (sym c.in-Check.is)
@@ -25,7 +25,7 @@ pub returns-in-Err-clause-answers : goal.returns-in-Err-clause-answers
 returns-in-Err-clause-answers g c =
     let lists = g.C.Catalog.lists c.args.catalog.now in
     let match_of = g.I.Identifier.match_of c.args.identifier.now in
-    let tree = seen (g.T.Tree.content c.args.tree.now) (g.T.Tree.content c.check_request.new.tree) (g.T.Tree.fault_count c.args.tree.now) (g.T.Tree.fault_count c.check_request.new.tree) (g.T.Tree.trace c.args.tree.now) (g.T.Tree.trace c.check_request.new.tree) in
+    let tree = tree_seen (g.T.Tree.content c.args.tree.now) (g.T.Tree.content c.check_request.new.tree) (g.T.Tree.fault_count c.args.tree.now) (g.T.Tree.fault_count c.check_request.new.tree) (g.T.Tree.trace c.args.tree.now) (g.T.Tree.trace c.check_request.new.tree) in
     let out = sink_seen (g.O.Sink.written c.args.out.now) (g.O.Sink.written c.check_request.new.out) (g.O.Sink.fault_count c.args.out.now) (g.O.Sink.fault_count c.check_request.new.out) in
     let err = sink_seen (g.E.Sink.written c.args.err.now) (g.E.Sink.written c.check_request.new.err) (g.E.Sink.fault_count c.args.err.now) (g.E.Sink.fault_count c.check_request.new.err) in
     subst (λ command. Answers lists match_of c.args.request.now command (run_seen tree out err) (Err c.in-Err.error)) (sym c.in-Check.is)
@@ -35,7 +35,7 @@ pub returns-in-Ok-list_request-clause-answers : goal.returns-in-Ok-list_request-
 returns-in-Ok-list_request-clause-answers g c =
     let lists = g.C.Catalog.lists c.args.catalog.now in
     let match_of = g.I.Identifier.match_of c.args.identifier.now in
-    let tree = seen (g.T.Tree.content c.args.tree.now) (g.T.Tree.content c.list_request.new.tree) (g.T.Tree.fault_count c.args.tree.now) (g.T.Tree.fault_count c.list_request.new.tree) (g.T.Tree.trace c.args.tree.now) (g.T.Tree.trace c.list_request.new.tree) in
+    let tree = tree_seen (g.T.Tree.content c.args.tree.now) (g.T.Tree.content c.list_request.new.tree) (g.T.Tree.fault_count c.args.tree.now) (g.T.Tree.fault_count c.list_request.new.tree) (g.T.Tree.trace c.args.tree.now) (g.T.Tree.trace c.list_request.new.tree) in
     let out = sink_seen (g.O.Sink.written c.args.out.now) (g.O.Sink.written c.list_request.new.out) (g.O.Sink.fault_count c.args.out.now) (g.O.Sink.fault_count c.list_request.new.out) in
     let err = sink_seen (g.E.Sink.written c.args.err.now) (g.E.Sink.written c.list_request.new.err) (g.E.Sink.fault_count c.args.err.now) (g.E.Sink.fault_count c.list_request.new.err) in
     subst (λ command. Answers lists match_of c.args.request.now command (run_seen tree out err) (Ok (Listed c.in-Ok-list_request.reads))) (sym c.in-List.is)
@@ -45,7 +45,7 @@ pub returns-in-Err-list_request-clause-answers : goal.returns-in-Err-list_reques
 returns-in-Err-list_request-clause-answers g c =
     let lists = g.C.Catalog.lists c.args.catalog.now in
     let match_of = g.I.Identifier.match_of c.args.identifier.now in
-    let tree = seen (g.T.Tree.content c.args.tree.now) (g.T.Tree.content c.list_request.new.tree) (g.T.Tree.fault_count c.args.tree.now) (g.T.Tree.fault_count c.list_request.new.tree) (g.T.Tree.trace c.args.tree.now) (g.T.Tree.trace c.list_request.new.tree) in
+    let tree = tree_seen (g.T.Tree.content c.args.tree.now) (g.T.Tree.content c.list_request.new.tree) (g.T.Tree.fault_count c.args.tree.now) (g.T.Tree.fault_count c.list_request.new.tree) (g.T.Tree.trace c.args.tree.now) (g.T.Tree.trace c.list_request.new.tree) in
     let out = sink_seen (g.O.Sink.written c.args.out.now) (g.O.Sink.written c.list_request.new.out) (g.O.Sink.fault_count c.args.out.now) (g.O.Sink.fault_count c.list_request.new.out) in
     let err = sink_seen (g.E.Sink.written c.args.err.now) (g.E.Sink.written c.list_request.new.err) (g.E.Sink.fault_count c.args.err.now) (g.E.Sink.fault_count c.list_request.new.err) in
     subst (λ command. Answers lists match_of c.args.request.now command (run_seen tree out err) (Err c.in-Err-list_request.error)) (sym c.in-List.is)
@@ -55,7 +55,7 @@ pub returns-in-Ok-record_request-clause-answers : goal.returns-in-Ok-record_requ
 returns-in-Ok-record_request-clause-answers g c =
     let lists = g.C.Catalog.lists c.args.catalog.now in
     let match_of = g.I.Identifier.match_of c.args.identifier.now in
-    let tree = seen (g.T.Tree.content c.args.tree.now) (g.T.Tree.content c.record_request.new.tree) (g.T.Tree.fault_count c.args.tree.now) (g.T.Tree.fault_count c.record_request.new.tree) (g.T.Tree.trace c.args.tree.now) (g.T.Tree.trace c.record_request.new.tree) in
+    let tree = tree_seen (g.T.Tree.content c.args.tree.now) (g.T.Tree.content c.record_request.new.tree) (g.T.Tree.fault_count c.args.tree.now) (g.T.Tree.fault_count c.record_request.new.tree) (g.T.Tree.trace c.args.tree.now) (g.T.Tree.trace c.record_request.new.tree) in
     let out = sink_seen (g.O.Sink.written c.args.out.now) (g.O.Sink.written c.record_request.new.out) (g.O.Sink.fault_count c.args.out.now) (g.O.Sink.fault_count c.record_request.new.out) in
     let err = sink_seen (g.E.Sink.written c.args.err.now) (g.E.Sink.written c.record_request.new.err) (g.E.Sink.fault_count c.args.err.now) (g.E.Sink.fault_count c.record_request.new.err) in
     subst (λ command. Answers lists match_of c.args.request.now command (run_seen tree out err) (Ok (Recorded c.in-Ok-record_request.reads))) (sym c.in-Record.is)
@@ -65,7 +65,7 @@ pub returns-in-Err-record_request-clause-answers : goal.returns-in-Err-record_re
 returns-in-Err-record_request-clause-answers g c =
     let lists = g.C.Catalog.lists c.args.catalog.now in
     let match_of = g.I.Identifier.match_of c.args.identifier.now in
-    let tree = seen (g.T.Tree.content c.args.tree.now) (g.T.Tree.content c.record_request.new.tree) (g.T.Tree.fault_count c.args.tree.now) (g.T.Tree.fault_count c.record_request.new.tree) (g.T.Tree.trace c.args.tree.now) (g.T.Tree.trace c.record_request.new.tree) in
+    let tree = tree_seen (g.T.Tree.content c.args.tree.now) (g.T.Tree.content c.record_request.new.tree) (g.T.Tree.fault_count c.args.tree.now) (g.T.Tree.fault_count c.record_request.new.tree) (g.T.Tree.trace c.args.tree.now) (g.T.Tree.trace c.record_request.new.tree) in
     let out = sink_seen (g.O.Sink.written c.args.out.now) (g.O.Sink.written c.record_request.new.out) (g.O.Sink.fault_count c.args.out.now) (g.O.Sink.fault_count c.record_request.new.out) in
     let err = sink_seen (g.E.Sink.written c.args.err.now) (g.E.Sink.written c.record_request.new.err) (g.E.Sink.fault_count c.args.err.now) (g.E.Sink.fault_count c.record_request.new.err) in
     subst (λ command. Answers lists match_of c.args.request.now command (run_seen tree out err) (Err c.in-Err-record_request.error)) (sym c.in-Record.is)
@@ -75,7 +75,7 @@ pub returns-in-Ok-verify_request-clause-answers : goal.returns-in-Ok-verify_requ
 returns-in-Ok-verify_request-clause-answers g c =
     let lists = g.C.Catalog.lists c.args.catalog.now in
     let match_of = g.I.Identifier.match_of c.args.identifier.now in
-    let tree = seen (g.T.Tree.content c.args.tree.now) (g.T.Tree.content c.verify_request.new.tree) (g.T.Tree.fault_count c.args.tree.now) (g.T.Tree.fault_count c.verify_request.new.tree) (g.T.Tree.trace c.args.tree.now) (g.T.Tree.trace c.verify_request.new.tree) in
+    let tree = tree_seen (g.T.Tree.content c.args.tree.now) (g.T.Tree.content c.verify_request.new.tree) (g.T.Tree.fault_count c.args.tree.now) (g.T.Tree.fault_count c.verify_request.new.tree) (g.T.Tree.trace c.args.tree.now) (g.T.Tree.trace c.verify_request.new.tree) in
     let out = sink_seen (g.O.Sink.written c.args.out.now) (g.O.Sink.written c.verify_request.new.out) (g.O.Sink.fault_count c.args.out.now) (g.O.Sink.fault_count c.verify_request.new.out) in
     let err = sink_seen (g.E.Sink.written c.args.err.now) (g.E.Sink.written c.verify_request.new.err) (g.E.Sink.fault_count c.args.err.now) (g.E.Sink.fault_count c.verify_request.new.err) in
     subst (λ command. Answers lists match_of c.args.request.now command (run_seen tree out err) (Ok (Verified c.in-Ok-verify_request.crates))) (sym c.in-Verify.is)
@@ -85,7 +85,7 @@ pub returns-in-Err-verify_request-clause-answers : goal.returns-in-Err-verify_re
 returns-in-Err-verify_request-clause-answers g c =
     let lists = g.C.Catalog.lists c.args.catalog.now in
     let match_of = g.I.Identifier.match_of c.args.identifier.now in
-    let tree = seen (g.T.Tree.content c.args.tree.now) (g.T.Tree.content c.verify_request.new.tree) (g.T.Tree.fault_count c.args.tree.now) (g.T.Tree.fault_count c.verify_request.new.tree) (g.T.Tree.trace c.args.tree.now) (g.T.Tree.trace c.verify_request.new.tree) in
+    let tree = tree_seen (g.T.Tree.content c.args.tree.now) (g.T.Tree.content c.verify_request.new.tree) (g.T.Tree.fault_count c.args.tree.now) (g.T.Tree.fault_count c.verify_request.new.tree) (g.T.Tree.trace c.args.tree.now) (g.T.Tree.trace c.verify_request.new.tree) in
     let out = sink_seen (g.O.Sink.written c.args.out.now) (g.O.Sink.written c.verify_request.new.out) (g.O.Sink.fault_count c.args.out.now) (g.O.Sink.fault_count c.verify_request.new.out) in
     let err = sink_seen (g.E.Sink.written c.args.err.now) (g.E.Sink.written c.verify_request.new.err) (g.E.Sink.fault_count c.args.err.now) (g.E.Sink.fault_count c.verify_request.new.err) in
     subst (λ command. Answers lists match_of c.args.request.now command (run_seen tree out err) (Err c.in-Err-verify_request.error)) (sym c.in-Verify.is)
@@ -95,7 +95,7 @@ pub returns-in-Ok-sample-clause-answers : goal.returns-in-Ok-sample-clause-answe
 returns-in-Ok-sample-clause-answers g c =
     let lists = g.C.Catalog.lists c.args.catalog.now in
     let match_of = g.I.Identifier.match_of c.args.identifier.now in
-    let tree = seen (g.T.Tree.content c.args.tree.now) (g.T.Tree.content c.args.tree.now) (g.T.Tree.fault_count c.args.tree.now) (g.T.Tree.fault_count c.args.tree.now) (g.T.Tree.trace c.args.tree.now) (g.T.Tree.trace c.args.tree.now) in
+    let tree = tree_seen (g.T.Tree.content c.args.tree.now) (g.T.Tree.content c.args.tree.now) (g.T.Tree.fault_count c.args.tree.now) (g.T.Tree.fault_count c.args.tree.now) (g.T.Tree.trace c.args.tree.now) (g.T.Tree.trace c.args.tree.now) in
     let out = sink_seen (g.O.Sink.written c.args.out.now) (g.O.Sink.written c.sample.new.out) (g.O.Sink.fault_count c.args.out.now) (g.O.Sink.fault_count c.sample.new.out) in
     let err = sink_seen (g.E.Sink.written c.args.err.now) (g.E.Sink.written c.args.err.now) (g.E.Sink.fault_count c.args.err.now) (g.E.Sink.fault_count c.args.err.now) in
     let untouched = made_none (g.T.Tree.content c.args.tree.now) (g.T.Tree.fault_count c.args.tree.now) (g.T.Tree.trace c.args.tree.now) in

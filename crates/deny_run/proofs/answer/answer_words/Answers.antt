@@ -3,7 +3,7 @@ use Rattle.std.proofs.Common.{[], refl, subst}
 use Rattle.tree_core.proofs.MadeLemmas.{made_none}
 use Rattle.run_request.specs.Given.{IsGiven}
 use Rattle.run_request.specs.declared.read.CliAnswer.{CliAnswer}
-use Rattle.run_found.specs.Hearing.{seen}
+use Rattle.run_found.specs.Hearing.{tree_seen}
 use Rattle.run_found.specs.Written.{sink_seen}
 use Rattle.deny_run.specs.Given.{run_arguments_of}
 use Rattle.deny_run.specs.Seen.{IsStill, run_seen}
@@ -20,7 +20,7 @@ returns-in-Ok-Shown-clause-answered g c =
     let held = g.E.Sink.written c.args.err.now in
     let faults = g.E.Sink.fault_count c.args.err.now in
     let out = sink_seen (g.O.Sink.written c.args.out.now) (g.O.Sink.written c.show.new.out) (g.O.Sink.fault_count c.args.out.now) (g.O.Sink.fault_count c.show.new.out) in
-    let state = run_seen (seen content content count count calls calls) out (sink_seen held held faults faults) in
+    let state = run_seen (tree_seen content content count count calls calls) out (sink_seen held held faults faults) in
     let still : IsStill state.err = record { silent = refl; count = refl } in
     let may : MayShow given = subst (λ (answer : CliAnswer). IsGiven given.words given.cwd answer) c.in-Ok-Shown.field-0-is c.in-Ok-Shown.ensures.given in
     let answer = c.show.result in

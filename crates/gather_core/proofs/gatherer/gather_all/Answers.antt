@@ -2,11 +2,11 @@ use Rattle.std.proofs.Common.{◌∷◌, [], ◌++◌, map, take, sym, ap, subst
 use Rattle.std.specs.List.{All}
 use Rattle.std.proofs.lemmas.List.{take_more}
 use Rattle.std.proofs.lemmas.List.Elements.{All-nil, All-push}
-use Rattle.graph_core.specs.Krate.{Record}
-use Rattle.gather_licence.specs.Settled.{scanner_of_scan}
+use Rattle.graph_core.specs.Krate.{CrateRecord}
+use Rattle.gather_license.specs.Settled.{scanner_of_scan}
 use Rattle.graph_core.specs.selection.Listed.{record_behind}
-use Rattle.gather_licence.specs.files.Calls.{IsFront}
-use Rattle.gather_licence.proofs.files.CallLemmas.{on_err}
+use Rattle.gather_license.specs.files.Calls.{IsFront}
+use Rattle.gather_license.proofs.files.CallLemmas.{on_err}
 use Rattle.gather_core.proofs.findings.GrowLemmas.{grows_itself}
 use Rattle.gather_core.specs.Calls.{AreTurnsByReads}
 use Rattle.gather_core.specs.Gathered.{krate_of}
@@ -88,7 +88,7 @@ returns-in_err-push-clause-no_memory g c =
     on_err c.from_residual-in_err-push.result _
     (starves_next scanner policy all c.args.files.now c.krates.licenses c.krates.files (krate_of license) (map record_behind krates) c.krates.invariant.answered
     (starves_told scanner policy all c.krates.files c.license_of.new.files license c.in_ok-license.ensures.answered)
-    (subst (λ (krate : Record). IsFront (map krate_of c.krates.licenses ++ krate ∷ []) (map record_behind krates)) (sym c.in_ok-license.ensures.krate)
+    (subst (λ (krate : CrateRecord). IsFront (map krate_of c.krates.licenses ++ krate ∷ []) (map record_behind krates)) (sym c.in_ok-license.ensures.krate)
     (front_next record_behind krates place item (map krate_of c.krates.licenses) c.krates.invariant.krates
     (take_more krates place item c.krates-test.true ∙ ap (λ one. take place krates ++ one ∷ []) (sym c.krate-item.is)))))
 

@@ -1,7 +1,7 @@
 -- The crates so far.
 use Rattle.std.proofs.Common.{◌≡◌, map, take}
 use Rattle.std.specs.List.{All}
-use Rattle.gather_licence.specs.Settled.{scanner_of_scan}
+use Rattle.gather_license.specs.Settled.{scanner_of_scan}
 use Rattle.graph_core.specs.selection.Listed.{record_behind}
 use Rattle.gather_core.specs.Calls.{AreTurnsByReads}
 use Rattle.gather_core.specs.Gathered.{krate_of}

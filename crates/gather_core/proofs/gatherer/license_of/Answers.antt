@@ -1,12 +1,12 @@
 use Rattle.std.proofs.Common.{◌≡◌, ◌∙◌, List, map, refl, sym, ap, subst}
 use Rattle.std.specs.List.{All}
 use Rattle.graph_core.specs.Krate.{record_of}
-use Rattle.gather_licence.specs.files.Ears.{ears_by}
-use Rattle.gather_licence.proofs.files.CallLemmas.{on_err}
-use Rattle.gather_licence.specs.location.Calls.{manifest_by}
-use Rattle.gather_licence.specs.Clarification.{ClarificationView, behind}
-use Rattle.gather_licence.specs.Settled.{scanner_of_scan}
-use Rattle.gather_licence.specs.Priority.{folder_of}
+use Rattle.gather_license.specs.files.KnownReads.{known_reads_by}
+use Rattle.gather_license.proofs.files.CallLemmas.{on_err}
+use Rattle.gather_license.specs.location.Calls.{manifest_by}
+use Rattle.gather_license.specs.Clarification.{ClarificationView, lent_clarification}
+use Rattle.gather_license.specs.Settled.{scanner_of_scan}
+use Rattle.gather_license.specs.Priority.{folder_of}
 use Rattle.gather_core.proofs.findings.GrowLemmas.{grows_itself}
 use Rattle.gather_core.specs.Calls.{IsByOwnReads, StarvesTaking}
 use Rattle.gather_core.specs.Entries.{clarifications_of}
@@ -27,9 +27,9 @@ returns-clause-placed g c = λ placed.
     let old = c.args.files.now in
     let all = c.args.clarifications.now in
     let by = c.in_ok-taken.ensures.answered policy in
-    let turn = turn_with (scanner_of_scan g.C.Catalog.lists g.I.Identifier.match_of c.args.scan.now) policy (map behind c.deref.result.now) krate (ears_by by.reads) (manifest_by by.reads) old in
-    let stand : All (IsClarificationPlaced old policy) (map behind c.deref.result.now) =
-    subst (All (IsClarificationPlaced old policy)) (sym (ap (map behind) c.deref.ensures.value ∙ c.in_ok-matching.ensures)) (for_krate old policy krate all placed) in
+    let turn = turn_with (scanner_of_scan g.C.Catalog.lists g.I.Identifier.match_of c.args.scan.now) policy (map lent_clarification c.deref.result.now) krate (known_reads_by by.reads) (manifest_by by.reads) old in
+    let stand : All (IsClarificationPlaced old policy) (map lent_clarification c.deref.result.now) =
+    subst (All (IsClarificationPlaced old policy)) (sym (ap (map lent_clarification) c.deref.ensures.value ∙ c.in_ok-matching.ensures)) (for_krate old policy krate all placed) in
     c.tell.ensures.placed
     (missing_taken turn c.in_ok-taken.taken c.take.new.files by.is_so stand)
     (held_taken turn c.in_ok-taken.taken c.take.new.files by.is_so stand)
@@ -43,11 +43,11 @@ returns-clause-answered g c =
     let files = c.args.files.now in
     let krate = record_of c.args.krate.now in
     let all = c.args.clarifications.now in
-    let matching : map behind c.deref.result.now ≡ clarifications_of krate all = ap (map behind) c.deref.ensures.value ∙ c.in_ok-matching.ensures in
+    let matching : map lent_clarification c.deref.result.now ≡ clarifications_of krate all = ap (map lent_clarification) c.deref.ensures.value ∙ c.in_ok-matching.ensures in
     let taken = c.in_ok-taken.taken in
     let by =
     subst (λ (matching : List ClarificationView). IsByOwnReads (g.T.Tree.content c.args.tree.now) (g.T.Tree.content c.take.new.tree) (g.T.Tree.fault_count c.args.tree.now) (g.T.Tree.fault_count c.take.new.tree) (g.T.Tree.trace c.args.tree.now) (g.T.Tree.trace c.take.new.tree)
-    (folder_of krate) taken.reads (λ ears manifest. IsTaken (turn_with scanner policy matching krate ears manifest files) taken c.take.new.files)) matching
+    (folder_of krate) taken.reads (λ known_reads manifest. IsTaken (turn_with scanner policy matching krate known_reads manifest files) taken c.take.new.files)) matching
     (c.in_ok-taken.ensures.answered policy) in
     license_answered scanner policy all files c.tell.new.files krate taken.reads by.reads c.tell.result by.recorded_are by.made c.tell.ensures.krate c.tell.ensures.reads
     (c.tell.ensures.turn _ refl refl c.in_ok-field.ensures.faults by.is_so) (c.tell.ensures.found _ refl c.in_ok-field.ensures.faults by.is_so)
@@ -66,10 +66,10 @@ returns-in_err-taken-clause-no_memory g c =
     let files = c.args.files.now in
     let krate = record_of c.args.krate.now in
     let all = c.args.clarifications.now in
-    let matching : map behind c.deref.result.now ≡ clarifications_of krate all = ap (map behind) c.deref.ensures.value ∙ c.in_ok-matching.ensures in
+    let matching : map lent_clarification c.deref.result.now ≡ clarifications_of krate all = ap (map lent_clarification) c.deref.ensures.value ∙ c.in_ok-matching.ensures in
     on_err c.from_residual-in_err-taken.result _
     (subst (λ (matching : List ClarificationView). StarvesTaking (g.T.Tree.content c.args.tree.now) (g.T.Tree.content c.take.new.tree) (g.T.Tree.fault_count c.args.tree.now) (g.T.Tree.fault_count c.take.new.tree) (g.T.Tree.trace c.args.tree.now) (g.T.Tree.trace c.take.new.tree)
-    (folder_of krate) (λ ears manifest. records_in (turn_with scanner policy matching krate ears manifest files))) matching
+    (folder_of krate) (λ known_reads manifest. records_in (turn_with scanner policy matching krate known_reads manifest files))) matching
     (c.in_err-taken.ensures.no_memory policy))
 
 pub returns-clause-no_memory : goal.returns-clause-no_memory
@@ -79,16 +79,16 @@ returns-clause-no_memory g c =
     let files = c.args.files.now in
     let krate = record_of c.args.krate.now in
     let all = c.args.clarifications.now in
-    let matching : map behind c.deref.result.now ≡ clarifications_of krate all = ap (map behind) c.deref.ensures.value ∙ c.in_ok-matching.ensures in
+    let matching : map lent_clarification c.deref.result.now ≡ clarifications_of krate all = ap (map lent_clarification) c.deref.ensures.value ∙ c.in_ok-matching.ensures in
     let taken = c.in_ok-taken.taken in
     let by =
     subst (λ (matching : List ClarificationView). IsByOwnReads (g.T.Tree.content c.args.tree.now) (g.T.Tree.content c.take.new.tree) (g.T.Tree.fault_count c.args.tree.now) (g.T.Tree.fault_count c.take.new.tree) (g.T.Tree.trace c.args.tree.now) (g.T.Tree.trace c.take.new.tree)
-    (folder_of krate) taken.reads (λ ears manifest. IsTaken (turn_with scanner policy matching krate ears manifest files) taken c.take.new.files)) matching
+    (folder_of krate) taken.reads (λ known_reads manifest. IsTaken (turn_with scanner policy matching krate known_reads manifest files) taken c.take.new.files)) matching
     (c.in_ok-taken.ensures.answered policy) in
     on_err c.tell.result _
     (starves_behind (folder_of krate) taken.reads
-    (λ ears manifest. IsTaken (turn_with scanner policy (clarifications_of krate all) krate ears manifest files) taken c.take.new.files)
-    (λ ears manifest. records_in (turn_with scanner policy (clarifications_of krate all) krate ears manifest files)) (λ ears manifest is. is.reads) by)
+    (λ known_reads manifest. IsTaken (turn_with scanner policy (clarifications_of krate all) krate known_reads manifest files) taken c.take.new.files)
+    (λ known_reads manifest. records_in (turn_with scanner policy (clarifications_of krate all) krate known_reads manifest files)) (λ known_reads manifest is. is.reads) by)
 
 -- the table grows
 pub returns-in_err-matching-clause-grows : goal.returns-in_err-matching-clause-grows

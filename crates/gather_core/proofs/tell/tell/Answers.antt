@@ -3,13 +3,13 @@ use Rattle.std.specs.List.{All}
 use Rattle.std.specs.Prelude.{unwrap_or}
 use Rattle.deny_text.specs.declared.span.Span.{Span}
 use Rattle.diag_core.specs.declared.pack.Diag.{Diag}
-use Rattle.graph_core.specs.Krate.{Record, record_of}
+use Rattle.graph_core.specs.Krate.{CrateRecord, record_of}
 use Rattle.gather_core.specs.findings.Cuts.{LabelLies, labels_of}
 use Rattle.gather_core.proofs.findings.GrowLemmas.{grows_itself}
 use Rattle.gather_core.proofs.findings.LabelLemmas.{lie-append}
 use Rattle.gather_core.specs.declared.summary.KrateLicense.{KrateLicense}
 use Rattle.gather_core.specs.Premises.{Grows, InfoStands}
-use Rattle.gather_core.specs.Told.{info_by, nowhere}
+use Rattle.gather_core.specs.Told.{info_by, no_place}
 use Rattle.gather_core.specs.Turns.{files_left, missing_findings, points_for, label_texts_for}
 use Rattle.gather_core.proofs.PlacedLemmas.{by_grown, places_grown}
 use Rattle.gather_core.proofs.ToldLemmas.{info_stands, missing_labels}
@@ -24,9 +24,9 @@ returns-clause-turn c = λ turn krate_is policy_is faults_are is.
     let points = c.in_ok-points.points in
     let license : KrateLicense = record { krate = c.args.krate; lic_info = c.told_by-told.result.info; notes = c.told_by-told.result.notes; diags = c.in_ok-diags.diags; reads = taken.reads } in
     told_turn turn license faults taken points old c.find_points.new.files faults_are is
-    (c.in_ok-points.ensures.points ∙ ap (λ (krate : Record). points_for krate faults taken.location old taken.by) (sym krate_is))
-    (c.in_ok-points.ensures.files ∙ ap (λ (krate : Record). files_left krate faults taken.location old taken.by) (sym krate_is))
-    (c.told_by-told.ensures.info ∙ ap (λ (policy : ℕ). info_by policy taken.location (unwrap_or points.expression nowhere) taken.by) (sym policy_is))
+    (c.in_ok-points.ensures.points ∙ ap (λ (krate : CrateRecord). points_for krate faults taken.location old taken.by) (sym krate_is))
+    (c.in_ok-points.ensures.files ∙ ap (λ (krate : CrateRecord). files_left krate faults taken.location old taken.by) (sym krate_is))
+    (c.told_by-told.ensures.info ∙ ap (λ (policy : ℕ). info_by policy taken.location (unwrap_or points.expression no_place) taken.by) (sym policy_is))
     c.told_by-told.ensures.notes
     (c.in_ok-diags.ensures
     ∙ ap (λ (front : List Diag). front ++ points.findings) c.in_ok-missing.ensures
@@ -40,9 +40,9 @@ returns-clause-found c = λ turn krate_is faults_are is.
     let faults = c.args.faults.now in
     let old = c.args.files.now in
     found_turn turn faults taken c.in_ok-points.points old c.find_points.new.files faults_are is
-    (c.in_ok-points.ensures.points ∙ ap (λ (krate : Record). points_for krate faults taken.location old taken.by) (sym krate_is))
+    (c.in_ok-points.ensures.points ∙ ap (λ (krate : CrateRecord). points_for krate faults taken.location old taken.by) (sym krate_is))
     c.in_ok-points.ensures.inside
-    (c.in_ok-points.ensures.cuts ∙ ap (λ (krate : Record). label_texts_for krate faults taken.location taken.by) (sym krate_is))
+    (c.in_ok-points.ensures.cuts ∙ ap (λ (krate : CrateRecord). label_texts_for krate faults taken.location taken.by) (sym krate_is))
 
 pub returns-clause-placed : goal.returns-clause-placed
 returns-clause-placed c = λ missing_lie held_stands words.

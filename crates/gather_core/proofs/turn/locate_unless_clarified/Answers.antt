@@ -2,7 +2,7 @@ use Rattle.std.proofs.Common.{◌≡◌, ◌∙◌, Bool, true, false, not, ◌&
 use Rattle.std.specs.Option.{option_to_list}
 use Rattle.std.specs.Prelude.{IfOk, OnErr}
 use Rattle.graph_core.specs.Krate.{record_of}
-use Rattle.gather_licence.specs.Priority.{folder_of}
+use Rattle.gather_license.specs.Priority.{folder_of}
 use Rattle.gather_core.proofs.findings.GrowLemmas.{grows_itself}
 use Rattle.gather_core.specs.Calls.{IsByOwnReads, StarvesTaking}
 use Rattle.gather_core.specs.Taken.{IsLocatedWhere, is_clarified}
@@ -24,7 +24,7 @@ returns-clause-answered g c =
     subst (λ (asks : Bool). IfOk c.locate_field.result (λ located.
     IsByOwnReads (g.T.Tree.content c.args.tree.now) (g.T.Tree.content c.locate_field.new.tree) (g.T.Tree.fault_count c.args.tree.now) (g.T.Tree.fault_count c.locate_field.new.tree)
     (g.T.Tree.trace c.args.tree.now) (g.T.Tree.trace c.locate_field.new.tree) (folder_of krate) (option_to_list located.read)
-    (λ ears manifest. IsLocatedWhere asks krate c.args.files.now manifest located c.locate_field.new.files)))
+    (λ known_reads manifest. IsLocatedWhere asks krate c.args.files.now manifest located c.locate_field.new.files)))
     (sym (ap (λ b. not b && is_some krate.license) (sym c.is_clarified.ensures ∙ off))) c.locate_field.ensures.answered
 
 pub returns-clause-no_memory : goal.returns-clause-no_memory
@@ -34,7 +34,7 @@ returns-clause-no_memory g c =
     subst (λ (asks : Bool). OnErr c.locate_field.result
     (StarvesTaking (g.T.Tree.content c.args.tree.now) (g.T.Tree.content c.locate_field.new.tree) (g.T.Tree.fault_count c.args.tree.now) (g.T.Tree.fault_count c.locate_field.new.tree)
     (g.T.Tree.trace c.args.tree.now) (g.T.Tree.trace c.locate_field.new.tree) (folder_of krate)
-    (λ ears manifest. option_to_list (located_where asks krate c.args.files.now manifest).read)))
+    (λ known_reads manifest. option_to_list (located_where asks krate c.args.files.now manifest).read)))
     (sym (ap (λ b. not b && is_some krate.license) (sym c.is_clarified.ensures ∙ off))) c.locate_field.ensures.no_memory
 
 pub returns-then-is_clarified-clause-grows : goal.returns-then-is_clarified-clause-grows

@@ -2,10 +2,10 @@ use Rattle.std.proofs.Common.{◌≡◌, ◌∙◌, ◌++◌, List, map, refl, a
 use Rattle.std.specs.Option.{option_to_list}
 use Rattle.tree_core.specs.declared.reads.ReadRecord.{ReadRecord}
 use Rattle.graph_core.specs.Krate.{record_of}
-use Rattle.gather_licence.specs.Clarification.{behind}
-use Rattle.gather_licence.specs.Settled.{scanner_of_scan}
+use Rattle.gather_license.specs.Clarification.{lent_clarification}
+use Rattle.gather_license.specs.Settled.{scanner_of_scan}
 use Rattle.gather_core.proofs.findings.GrowLemmas.{grows_itself}
-use Rattle.gather_licence.proofs.files.CallLemmas.{on_err}
+use Rattle.gather_license.proofs.files.CallLemmas.{on_err}
 use Rattle.gather_core.proofs.CallLemmas.{own_last, starves_last, starves_last_locating, starves_taken}
 use Rattle.gather_core.proofs.turn.take_files_first.Goals as goal
 
@@ -13,7 +13,7 @@ pub returns-clause-answered : goal.returns-clause-answered
 returns-clause-answered g c = λ policy.
     let scanner = scanner_of_scan g.C.Catalog.lists g.I.Identifier.match_of c.args.scan.now in
     let krate = record_of c.args.krate.now in
-    let all = map behind c.args.clarifications.now in
+    let all = map lent_clarification c.args.clarifications.now in
     let files = c.args.files.now in
     let reads_are : c.in_ok-reads.reads ≡ c.in_ok-settled.settled.reads ++ option_to_list c.in_ok-located.located.read =
     c.in_ok-reads.ensures ∙ ap (λ (back : List ReadRecord). c.in_ok-settled.settled.reads ++ back) c.in_ok-back.ensures in
@@ -24,7 +24,7 @@ pub returns-in_err-settled-clause-no_memory : goal.returns-in_err-settled-clause
 returns-in_err-settled-clause-no_memory g c = λ policy.
     let scanner = scanner_of_scan g.C.Catalog.lists g.I.Identifier.match_of c.args.scan.now in
     let krate = record_of c.args.krate.now in
-    let all = map behind c.args.clarifications.now in
+    let all = map lent_clarification c.args.clarifications.now in
     let files = c.args.files.now in
     on_err c.from_residual.result _ (starves_last scanner policy all krate files c.requires.some c.in_err-settled.ensures.no_memory)
 
@@ -32,7 +32,7 @@ pub returns-in_err-located-clause-no_memory : goal.returns-in_err-located-clause
 returns-in_err-located-clause-no_memory g c = λ policy.
     let scanner = scanner_of_scan g.C.Catalog.lists g.I.Identifier.match_of c.args.scan.now in
     let krate = record_of c.args.krate.now in
-    let all = map behind c.args.clarifications.now in
+    let all = map lent_clarification c.args.clarifications.now in
     let files = c.args.files.now in
     on_err c.from_residual-in_err-located.result _
     (starves_last_locating scanner policy all krate files c.in_ok-settled.settled c.requires.some c.in_ok-settled.ensures.answered c.in_err-located.ensures.no_memory)
@@ -41,7 +41,7 @@ pub returns-in_err-back-clause-no_memory : goal.returns-in_err-back-clause-no_me
 returns-in_err-back-clause-no_memory g c = λ policy.
     let scanner = scanner_of_scan g.C.Catalog.lists g.I.Identifier.match_of c.args.scan.now in
     let krate = record_of c.args.krate.now in
-    let all = map behind c.args.clarifications.now in
+    let all = map lent_clarification c.args.clarifications.now in
     let files = c.args.files.now in
     let located = c.in_ok-located.located in
     let settled = c.in_ok-settled.settled in
@@ -54,7 +54,7 @@ pub returns-in_err-reads-clause-no_memory : goal.returns-in_err-reads-clause-no_
 returns-in_err-reads-clause-no_memory g c = λ policy.
     let scanner = scanner_of_scan g.C.Catalog.lists g.I.Identifier.match_of c.args.scan.now in
     let krate = record_of c.args.krate.now in
-    let all = map behind c.args.clarifications.now in
+    let all = map lent_clarification c.args.clarifications.now in
     let files = c.args.files.now in
     let located = c.in_ok-located.located in
     let settled = c.in_ok-settled.settled in

@@ -2,9 +2,9 @@ use Rattle.std.proofs.Common.{◌≡◌, ◌∙◌, ◌++◌, List, map, refl, a
 use Rattle.std.specs.Option.{option_to_list}
 use Rattle.tree_core.specs.declared.reads.ReadRecord.{ReadRecord}
 use Rattle.graph_core.specs.Krate.{record_of}
-use Rattle.gather_licence.specs.Clarification.{behind}
-use Rattle.gather_licence.specs.Settled.{scanner_of_scan}
-use Rattle.gather_licence.proofs.files.CallLemmas.{on_err}
+use Rattle.gather_license.specs.Clarification.{lent_clarification}
+use Rattle.gather_license.specs.Settled.{scanner_of_scan}
+use Rattle.gather_license.proofs.files.CallLemmas.{on_err}
 use Rattle.gather_core.proofs.CallLemmas.{own_first, starves_first, starves_first_settling, starves_taken}
 use Rattle.gather_core.proofs.turn.take_manifest_first.Goals as goal
 
@@ -12,7 +12,7 @@ pub returns-clause-answered : goal.returns-clause-answered
 returns-clause-answered g c = λ policy.
     let scanner = scanner_of_scan g.C.Catalog.lists g.I.Identifier.match_of c.args.scan.now in
     let krate = record_of c.args.krate.now in
-    let all = map behind c.args.clarifications.now in
+    let all = map lent_clarification c.args.clarifications.now in
     let files = c.args.files.now in
     let reads_are : c.in_ok-reads.reads ≡ option_to_list c.in_ok-located.located.read ++ c.in_ok-settled.settled.reads =
     c.in_ok-reads.ensures ∙ ap (λ (front : List ReadRecord). front ++ c.in_ok-settled.settled.reads) c.in_ok-front.ensures in
@@ -23,7 +23,7 @@ pub returns-in_err-located-clause-no_memory : goal.returns-in_err-located-clause
 returns-in_err-located-clause-no_memory g c = λ policy.
     let scanner = scanner_of_scan g.C.Catalog.lists g.I.Identifier.match_of c.args.scan.now in
     let krate = record_of c.args.krate.now in
-    let all = map behind c.args.clarifications.now in
+    let all = map lent_clarification c.args.clarifications.now in
     let files = c.args.files.now in
     on_err c.from_residual.result _ (starves_first scanner policy all krate files c.requires.nothing c.in_err-located.ensures.no_memory)
 
@@ -31,7 +31,7 @@ pub returns-in_err-settled-clause-no_memory : goal.returns-in_err-settled-clause
 returns-in_err-settled-clause-no_memory g c = λ policy.
     let scanner = scanner_of_scan g.C.Catalog.lists g.I.Identifier.match_of c.args.scan.now in
     let krate = record_of c.args.krate.now in
-    let all = map behind c.args.clarifications.now in
+    let all = map lent_clarification c.args.clarifications.now in
     let files = c.args.files.now in
     on_err c.from_residual-in_err-settled.result _
     (starves_first_settling scanner policy all krate files c.in_ok-located.located c.locate_field.new.files
@@ -41,7 +41,7 @@ pub returns-in_err-front-clause-no_memory : goal.returns-in_err-front-clause-no_
 returns-in_err-front-clause-no_memory g c = λ policy.
     let scanner = scanner_of_scan g.C.Catalog.lists g.I.Identifier.match_of c.args.scan.now in
     let krate = record_of c.args.krate.now in
-    let all = map behind c.args.clarifications.now in
+    let all = map lent_clarification c.args.clarifications.now in
     let files = c.args.files.now in
     let located = c.in_ok-located.located in
     let settled = c.in_ok-settled.settled in
@@ -54,7 +54,7 @@ pub returns-in_err-reads-clause-no_memory : goal.returns-in_err-reads-clause-no_
 returns-in_err-reads-clause-no_memory g c = λ policy.
     let scanner = scanner_of_scan g.C.Catalog.lists g.I.Identifier.match_of c.args.scan.now in
     let krate = record_of c.args.krate.now in
-    let all = map behind c.args.clarifications.now in
+    let all = map lent_clarification c.args.clarifications.now in
     let files = c.args.files.now in
     let located = c.in_ok-located.located in
     let settled = c.in_ok-settled.settled in

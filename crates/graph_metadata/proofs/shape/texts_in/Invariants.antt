@@ -2,11 +2,11 @@
 use Rattle.std.proofs.Common.{◌≡◌, drop}
 use Rattle.serde_json.specs.View.{view, items_view}
 use Rattle.graph_metadata.specs.Shape.{text_here, texts_in}
-use Rattle.graph_metadata.specs.Told.{each, item_place}
+use Rattle.graph_metadata.specs.Told.{reading_of_each, item_place}
 use Rattle.graph_metadata.proofs.EachLemmas.{onto}
 use Rattle.graph_metadata.proofs.shape.texts_in.Given as goal
 
 abbrev pub invariant-items : goal.invariant-items
 invariant-items l =
     texts_in l.place l.key (items_view l.items)
-    ≡ onto l.texts (each (λ j value. text_here (item_place l.place l.key j) (view value)) l.index (drop l.index l.items))
+    ≡ onto l.texts (reading_of_each (λ j value. text_here (item_place l.place l.key j) (view value)) l.index (drop l.index l.items))

@@ -6,11 +6,11 @@ use Rattle.graph_core.specs.selection.Listed.{IsChosen}
 use Rattle.policy_core.specs.valid.View.{policy_of}
 use Rattle.check_core.specs.Labels.{VerdictPoints}
 use Rattle.check_core.specs.Summary.{gathered_of_licenses}
-use Rattle.gather_licence.proofs.files.CallLemmas.{on_err}
+use Rattle.gather_license.proofs.files.CallLemmas.{on_err}
 use Rattle.run_request.specs.declared.level.LintLevels.{LintLevels}
 use Rattle.run_overrides.specs.Levels.{PutAtLevels}
-use Rattle.run_found.specs.Hearing.{seen}
-use Rattle.run_found.specs.Licences.{scanner_of_policy}
+use Rattle.run_found.specs.Hearing.{tree_seen}
+use Rattle.run_found.specs.Licenses.{scanner_of_policy}
 use Rattle.run_found.proofs.StageLemmas.{gather_cut}
 use Rattle.run_check.specs.Steps.{IsCheckOf, IsCheckedOn}
 use Rattle.run_check.proofs.CheckLemmas.{both_of}
@@ -21,9 +21,9 @@ returns-clause-checked g c =
     let policy = c.args.policy in
     let own = scanner_of_policy (g.C.Catalog.lists c.args.catalog.now) (g.I.Identifier.match_of c.args.identifier.now) policy in
     let nfos = c.in_ok-summary.summary.nfos in
-    let last = c.licences_found.new.files in
-    let tree = seen (g.T.Tree.content c.args.tree.now) (g.T.Tree.content c.licences_found.new.tree) (g.T.Tree.fault_count c.args.tree.now) (g.T.Tree.fault_count c.licences_found.new.tree)
-    (g.T.Tree.trace c.args.tree.now) (g.T.Tree.trace c.licences_found.new.tree) in
+    let last = c.licenses_found.new.files in
+    let tree = tree_seen (g.T.Tree.content c.args.tree.now) (g.T.Tree.content c.licenses_found.new.tree) (g.T.Tree.fault_count c.args.tree.now) (g.T.Tree.fault_count c.licenses_found.new.tree)
+    (g.T.Tree.trace c.args.tree.now) (g.T.Tree.trace c.licenses_found.new.tree) in
     IfOk-weaker c.judge_and_report.result
     (λ checked. ((levels : LintLevels) → PutAtLevels levels c.args.overrides → IsCheckOf levels policy nfos checked) × All (VerdictPoints last (policy_of policy)) (gathered_of_licenses nfos))
     (λ checked. (graph : Graph) (choice : Choice) (levels : LintLevels) → IsChosen graph choice c.args.krates.now → PutAtLevels levels c.args.overrides
@@ -37,11 +37,11 @@ pub returns-clause-cut : goal.returns-clause-cut
 returns-clause-cut g c =
     let policy = c.args.policy in
     let own = scanner_of_policy (g.C.Catalog.lists c.args.catalog.now) (g.I.Identifier.match_of c.args.identifier.now) policy in
-    let tree = seen (g.T.Tree.content c.args.tree.now) (g.T.Tree.content c.licences_found.new.tree) (g.T.Tree.fault_count c.args.tree.now) (g.T.Tree.fault_count c.licences_found.new.tree)
-    (g.T.Tree.trace c.args.tree.now) (g.T.Tree.trace c.licences_found.new.tree) in
+    let tree = tree_seen (g.T.Tree.content c.args.tree.now) (g.T.Tree.content c.licenses_found.new.tree) (g.T.Tree.fault_count c.args.tree.now) (g.T.Tree.fault_count c.licenses_found.new.tree)
+    (g.T.Tree.trace c.args.tree.now) (g.T.Tree.trace c.licenses_found.new.tree) in
     on_err c.judge_and_report.result _
     (λ graph choice chosen.
-    gather_cut own policy tree c.args.files.now c.licences_found.new.files graph choice c.in_ok-summary.summary.nfos (c.in_ok-summary.ensures.gathered graph choice chosen))
+    gather_cut own policy tree c.args.files.now c.licenses_found.new.files graph choice c.in_ok-summary.summary.nfos (c.in_ok-summary.ensures.gathered graph choice chosen))
 
 pub returns-in_err-summary-clause-cut : goal.returns-in_err-summary-clause-cut
 returns-in_err-summary-clause-cut g c =

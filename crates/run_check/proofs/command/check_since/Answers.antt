@@ -4,7 +4,7 @@ use Rattle.tree_core.specs.Faults.{Gained, GainedPrefix}
 use Rattle.tree_core.specs.texts.Cause.{ReadCounts}
 use Rattle.diag_print.specs.Findings.{HasReasonSince, PacksAreInside, printed_packs}
 use Rattle.run_found.specs.Error.{cause_of}
-use Rattle.run_found.specs.Hearing.{seen}
+use Rattle.run_found.specs.Hearing.{tree_seen}
 use Rattle.run_found.specs.Written.{sink_seen}
 use Rattle.run_command.specs.Given.{command_arguments_of}
 use Rattle.run_check.specs.Given.{check_arguments_of, report_options}
@@ -25,7 +25,7 @@ report_since-requires g c = check_carried c.args.log_ctx c.args.args.now c.args.
 
 pub returns-in-Err-clause-written : goal.returns-in-Err-clause-written
 returns-in-Err-clause-written g c =
-    let tree = seen (g.T.Tree.content c.args.tree.now) (g.T.Tree.content c.report_since.new.tree) (g.T.Tree.fault_count c.args.tree.now) (g.T.Tree.fault_count c.report_since.new.tree)
+    let tree = tree_seen (g.T.Tree.content c.args.tree.now) (g.T.Tree.content c.report_since.new.tree) (g.T.Tree.fault_count c.args.tree.now) (g.T.Tree.fault_count c.report_since.new.tree)
     (g.T.Tree.trace c.args.tree.now) (g.T.Tree.trace c.report_since.new.tree) in
     let err = sink_seen (g.S.Sink.written c.args.err.now) (g.S.Sink.written c.report_since.new.err) (g.S.Sink.fault_count c.args.err.now) (g.S.Sink.fault_count c.report_since.new.err) in
     inl (subst (λ part. Reports (command_arguments_of (g.C.Catalog.lists c.args.catalog.now) (g.I.Identifier.match_of c.args.identifier.now) c.args.log_ctx c.args.context.now
@@ -34,7 +34,7 @@ returns-in-Err-clause-written g c =
 pub returns-in-Ok-print_packs-clause-written : goal.returns-in-Ok-print_packs-clause-written
 returns-in-Ok-print_packs-clause-written g c =
     let given = check_arguments_of (g.C.Catalog.lists c.args.catalog.now) (g.I.Identifier.match_of c.args.identifier.now) c.args.log_ctx c.args.args.now c.args.context.now in
-    let tree = seen (g.T.Tree.content c.args.tree.now) (g.T.Tree.content c.report_since.new.tree) (g.T.Tree.fault_count c.args.tree.now) (g.T.Tree.fault_count c.report_since.new.tree)
+    let tree = tree_seen (g.T.Tree.content c.args.tree.now) (g.T.Tree.content c.report_since.new.tree) (g.T.Tree.fault_count c.args.tree.now) (g.T.Tree.fault_count c.report_since.new.tree)
     (g.T.Tree.trace c.args.tree.now) (g.T.Tree.trace c.report_since.new.tree) in
     let old = g.S.Sink.written c.args.err.now in
     let middle = g.S.Sink.written c.report_since.new.err in
@@ -50,7 +50,7 @@ returns-in-Ok-print_packs-clause-written g c =
 pub returns-in-Err-print_packs-clause-written : goal.returns-in-Err-print_packs-clause-written
 returns-in-Err-print_packs-clause-written g c =
     let given = check_arguments_of (g.C.Catalog.lists c.args.catalog.now) (g.I.Identifier.match_of c.args.identifier.now) c.args.log_ctx c.args.args.now c.args.context.now in
-    let tree = seen (g.T.Tree.content c.args.tree.now) (g.T.Tree.content c.report_since.new.tree) (g.T.Tree.fault_count c.args.tree.now) (g.T.Tree.fault_count c.report_since.new.tree)
+    let tree = tree_seen (g.T.Tree.content c.args.tree.now) (g.T.Tree.content c.report_since.new.tree) (g.T.Tree.fault_count c.args.tree.now) (g.T.Tree.fault_count c.report_since.new.tree)
     (g.T.Tree.trace c.args.tree.now) (g.T.Tree.trace c.report_since.new.tree) in
     let old = g.S.Sink.written c.args.err.now in
     let middle = g.S.Sink.written c.report_since.new.err in

@@ -1,21 +1,21 @@
 -- A request of which a part is not carried, and every other one.
 use Rattle.std.proofs.Common.{◌∙◌, sym}
-use Rattle.run_found.specs.Hearing.{seen}
+use Rattle.run_found.specs.Hearing.{tree_seen}
 use Rattle.run_found.specs.Written.{sink_seen}
 use Rattle.run_check.specs.Given.{check_arguments_of}
-use Rattle.run_check.proofs.CommandLemmas.{carried_run, uncarried_run}
+use Rattle.run_check.proofs.CommandLemmas.{carried_run, unsupported_run}
 use Rattle.run_check.proofs.command.cmd.Goals as goal
 
 pub returns-in-Some : goal.returns-in-Some
 returns-in-Some g c =
     let given = check_arguments_of (g.C.Catalog.lists c.args.catalog.now) (g.I.Identifier.match_of c.args.identifier.now) c.args.log_ctx c.args.args c.args.krate_ctx in
-    uncarried_run given (g.T.Tree.content c.args.tree.now) (g.T.Tree.fault_count c.args.tree.now) (g.T.Tree.trace c.args.tree.now) (g.S.Sink.written c.args.err.now) (g.S.Sink.fault_count c.args.err.now)
-    c.in-Some.what (sym c.uncarried_in.ensures ∙ c.in-Some.is)
+    unsupported_run given (g.T.Tree.content c.args.tree.now) (g.T.Tree.fault_count c.args.tree.now) (g.T.Tree.trace c.args.tree.now) (g.S.Sink.written c.args.err.now) (g.S.Sink.fault_count c.args.err.now)
+    c.in-Some.what (sym c.unsupported_in.ensures ∙ c.in-Some.is)
 
 pub returns : goal.returns
 returns g c =
     let given = check_arguments_of (g.C.Catalog.lists c.args.catalog.now) (g.I.Identifier.match_of c.args.identifier.now) c.args.log_ctx c.args.args c.args.krate_ctx in
-    let tree = seen (g.T.Tree.content c.args.tree.now) (g.T.Tree.content c.check_since.new.tree) (g.T.Tree.fault_count c.args.tree.now) (g.T.Tree.fault_count c.check_since.new.tree)
+    let tree = tree_seen (g.T.Tree.content c.args.tree.now) (g.T.Tree.content c.check_since.new.tree) (g.T.Tree.fault_count c.args.tree.now) (g.T.Tree.fault_count c.check_since.new.tree)
     (g.T.Tree.trace c.args.tree.now) (g.T.Tree.trace c.check_since.new.tree) in
     let err = sink_seen (g.S.Sink.written c.args.err.now) (g.S.Sink.written c.check_since.new.err) (g.S.Sink.fault_count c.args.err.now) (g.S.Sink.fault_count c.check_since.new.err) in
-    carried_run given tree err (sym c.uncarried_in.ensures ∙ c.in-None.is) c.check_since.result c.check_since.ensures.written c.check_since.ensures.counts c.check_since.ensures.later c.check_since.ensures.labels
+    carried_run given tree err (sym c.unsupported_in.ensures ∙ c.in-None.is) c.check_since.result c.check_since.ensures.written c.check_since.ensures.counts c.check_since.ensures.later c.check_since.ensures.labels

@@ -1,7 +1,7 @@
 -- Each end of `report_since`: the crates, their licences, and the report.
 use Rattle.std.proofs.Common.{refl, sym, subst, None, Ok}
 use Rattle.std.proofs.lemmas.Result.{err_from_is_err_and}
-use Rattle.run_found.specs.Hearing.{seen}
+use Rattle.run_found.specs.Hearing.{tree_seen}
 use Rattle.run_found.specs.Written.{sink_seen}
 use Rattle.run_command.specs.Found.{choice_in}
 use Rattle.run_command.specs.Given.{command_arguments_of}
@@ -53,7 +53,7 @@ returns-clause-reports g c =
     let err = sink_seen (g.S.Sink.written c.args.err.now) (g.S.Sink.written c.crates_found.new.err) (g.S.Sink.fault_count c.args.err.now) (g.S.Sink.fault_count c.crates_found.new.err) in
     let found = c.in_ok-found.found in
     let has = c.in_ok-found.ensures.found match_of in
-    subst (λ report. Reports given (seen told tells begun after old more) err (Ok report)) (sym c.report_of.ensures)
+    subst (λ report. Reports given (tree_seen told tells begun after old more) err (Ok report)) (sym c.report_of.ensures)
     (report_ends given refl told middle tells begun mid after old between more err c.crates_found.new.files found has c.settle_and_judge.new.files c.in_ok-checked.checked
     (c.in_ok-checked.ensures.checked has.graph (choice_in given has.policy) levels has.chosen c.in_ok-found.ensures.overrides))
 

@@ -7,8 +7,8 @@ use Rattle.policy_core.specs.Places.{PolicyStands}
 use Rattle.policy_core.specs.declared.valid.policy.ValidConfig.{ValidConfig}
 use Rattle.run_context.specs.Asked.{choice_asked}
 use Rattle.run_found.specs.Error.{cause_of, error_of_krates}
-use Rattle.run_found.specs.Finds.{alone}
-use Rattle.run_found.specs.Hearing.{seen}
+use Rattle.run_found.specs.Finds.{policy_hearing}
+use Rattle.run_found.specs.Hearing.{tree_seen}
 use Rattle.run_found.specs.Written.{sink_seen}
 use Rattle.run_found.specs.Gathering.{NoCratesBy}
 use Rattle.run_found.proofs.CarriedLemmas.{specs_carried}
@@ -26,7 +26,7 @@ use Rattle.run_command.proofs.crates.crates_found.Goals as goal
 pub returns-in_err-loaded-clause-found : goal.returns-in_err-loaded-clause-found
 returns-in_err-loaded-clause-found g c match_of =
     let given = command_arguments_of (g.C.Catalog.lists c.args.catalog.now) match_of c.args.log_ctx c.args.context.now (options_of c.args.use_of.now) in
-    let tree = seen (g.T.Tree.content c.args.tree.now) (g.T.Tree.content c.policy_found.new.tree) (g.T.Tree.fault_count c.args.tree.now) (g.T.Tree.fault_count c.policy_found.new.tree)
+    let tree = tree_seen (g.T.Tree.content c.args.tree.now) (g.T.Tree.content c.policy_found.new.tree) (g.T.Tree.fault_count c.args.tree.now) (g.T.Tree.fault_count c.policy_found.new.tree)
     (g.T.Tree.trace c.args.tree.now) (g.T.Tree.trace c.policy_found.new.tree) in
     let err = sink_seen (g.S.Sink.written c.args.err.now) (g.S.Sink.written c.policy_found.new.sink) (g.S.Sink.fault_count c.args.err.now) (g.S.Sink.fault_count c.policy_found.new.sink) in
     let p = err_from_is_err_and c.from_residual.result c.from_residual.ensures.1 in
@@ -36,7 +36,7 @@ returns-in_err-loaded-clause-found g c match_of =
 pub returns-in_err-overrides-clause-found : goal.returns-in_err-overrides-clause-found
 returns-in_err-overrides-clause-found g c match_of =
     let given = command_arguments_of (g.C.Catalog.lists c.args.catalog.now) match_of c.args.log_ctx c.args.context.now (options_of c.args.use_of.now) in
-    let tree = seen (g.T.Tree.content c.args.tree.now) (g.T.Tree.content c.policy_found.new.tree) (g.T.Tree.fault_count c.args.tree.now) (g.T.Tree.fault_count c.policy_found.new.tree)
+    let tree = tree_seen (g.T.Tree.content c.args.tree.now) (g.T.Tree.content c.policy_found.new.tree) (g.T.Tree.fault_count c.args.tree.now) (g.T.Tree.fault_count c.policy_found.new.tree)
     (g.T.Tree.trace c.args.tree.now) (g.T.Tree.trace c.policy_found.new.tree) in
     let err = sink_seen (g.S.Sink.written c.args.err.now) (g.S.Sink.written c.policy_found.new.sink) (g.S.Sink.fault_count c.args.err.now) (g.S.Sink.fault_count c.policy_found.new.sink) in
     let p = err_from_is_err_and c.from_residual-in_err-overrides.result c.from_residual-in_err-overrides.ensures.1 in
@@ -59,10 +59,10 @@ returns-in_err-krates-clause-found g c match_of =
     let error = c.in_err-krates.field-0.0 in
     let at = path_carried c.args.context.now c.requires.carried in
     let choice = choice_asked c.args.context.now (left_by c.args.use_of.now.with_flags policy.graph) in
-    let way = seen (g.T.Tree.content c.args.tree.now) middle begun mid (g.T.Tree.trace c.args.tree.now) between in
-    let carried = carried_behind c.args.context.now policy.graph.exclude c.requires.carried (specs_carried given.request (alone way finds.heard) finds.found policy finds.is finds.valid) in
+    let way = tree_seen (g.T.Tree.content c.args.tree.now) middle begun mid (g.T.Tree.trace c.args.tree.now) between in
+    let carried = carried_behind c.args.context.now policy.graph.exclude c.requires.carried (specs_carried given.request (policy_hearing way finds.heard) finds.found policy finds.is finds.valid) in
     let is_carried = carried_error c.args.context.now policy.graph.exclude error carried c.in_err-krates.ensures.refused in
-    let read = subst (λ n. NoCratesBy choice (seen middle tells mid after between more) n at.0 error) c.faults-begun.ensures
+    let read = subst (λ n. NoCratesBy choice (tree_seen middle tells mid after between more) n at.0 error) c.faults-begun.ensures
     (no_crates_by choice middle tells mid after between more c.faults-begun.result at.0 c.in_err-krates.ensures.made error is_carried (c.in_err-krates.ensures.read at.0 at.1 carried)) in
     let p = err_from_is_err_and c.from_residual-in_err-krates.result c.from_residual-in_err-krates.ensures.1 in
     rw (p.1, p.2)
@@ -85,8 +85,8 @@ returns-clause-found g c match_of =
     let chosen = c.in_ok-krates.krates in
     let at = path_carried c.args.context.now c.requires.carried in
     let choice = choice_asked c.args.context.now (left_by c.args.use_of.now.with_flags policy.graph) in
-    let way = seen (g.T.Tree.content c.args.tree.now) middle begun mid (g.T.Tree.trace c.args.tree.now) between in
-    let carried = carried_behind c.args.context.now policy.graph.exclude c.requires.carried (specs_carried given.request (alone way finds.heard) finds.found policy finds.is finds.valid) in
+    let way = tree_seen (g.T.Tree.content c.args.tree.now) middle begun mid (g.T.Tree.trace c.args.tree.now) between in
+    let carried = carried_behind c.args.context.now policy.graph.exclude c.requires.carried (specs_carried given.request (policy_hearing way finds.heard) finds.found policy finds.is finds.valid) in
     let gathers = subst (λ n. GathersBy choice n after between more at.0 (Ok chosen)) c.faults-begun.ensures
     (gathers_chosen choice c.faults-begun.result after between more at.0 chosen (c.in_ok-krates.ensures.read at.0 at.1 carried)) in
     crates_are given c.in_ok-overrides.ensures.taken at.0 at.1 begun mid after (g.T.Tree.content c.args.tree.now) middle tells (g.T.Tree.trace c.args.tree.now) between more

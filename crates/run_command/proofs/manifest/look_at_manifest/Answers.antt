@@ -2,14 +2,14 @@ use Rattle.std.proofs.Common.{◌≡◌, ◌∙◌, subst, ap, sym, ◌∷◌, [
 use Rattle.tree_core.specs.Trace.{file_call}
 use Rattle.tree_core.specs.declared.tree.TreeError.TheVariants as tree_error
 use Rattle.tree_core.proofs.MadeLemmas.{file_made}
-use Rattle.run_found.specs.Hearing.{MadeOn, seen}
+use Rattle.run_found.specs.Hearing.{MadeOn, tree_seen}
 use Rattle.run_command.proofs.ManifestLemmas.{looked_absent, looked_failed, looked_there, looked_wanting}
 use Rattle.run_command.proofs.manifest.look_at_manifest.Goals as goal
 
 pub returns-in-Ok-true-clause-looked : goal.returns-in-Ok-true-clause-looked
 returns-in-Ok-true-clause-looked g c =
     let path = c.args.path.now in
-    let tree = seen (g.T.Tree.content c.args.tree.now) (g.T.Tree.content c.is_file.new.self) (g.T.Tree.fault_count c.args.tree.now) (g.T.Tree.fault_count c.is_file.new.self)
+    let tree = tree_seen (g.T.Tree.content c.args.tree.now) (g.T.Tree.content c.is_file.new.self) (g.T.Tree.fault_count c.args.tree.now) (g.T.Tree.fault_count c.is_file.new.self)
     (g.T.Tree.trace c.args.tree.now) (g.T.Tree.trace c.is_file.new.self) in
     let one = c.is_file.ensures in
     let made = file_made path one.same c.is_file.result one.counts one.traced one.answer one.refusal in
@@ -19,7 +19,7 @@ returns-in-Ok-true-clause-looked g c =
 pub returns-in-Ok-false-clause-looked : goal.returns-in-Ok-false-clause-looked
 returns-in-Ok-false-clause-looked g c =
     let path = c.args.path.now in
-    let tree = seen (g.T.Tree.content c.args.tree.now) (g.T.Tree.content c.is_file.new.self) (g.T.Tree.fault_count c.args.tree.now) (g.T.Tree.fault_count c.is_file.new.self)
+    let tree = tree_seen (g.T.Tree.content c.args.tree.now) (g.T.Tree.content c.is_file.new.self) (g.T.Tree.fault_count c.args.tree.now) (g.T.Tree.fault_count c.is_file.new.self)
     (g.T.Tree.trace c.args.tree.now) (g.T.Tree.trace c.is_file.new.self) in
     let one = c.is_file.ensures in
     let made = file_made path one.same c.is_file.result one.counts one.traced one.answer one.refusal in
@@ -30,7 +30,7 @@ returns-in-Ok-false-clause-looked g c =
 pub returns-in-Err-Failed-clause-looked : goal.returns-in-Err-Failed-clause-looked
 returns-in-Err-Failed-clause-looked g c =
     let path = c.args.path.now in
-    let tree = seen (g.T.Tree.content c.args.tree.now) (g.T.Tree.content c.is_file.new.self) (g.T.Tree.fault_count c.args.tree.now) (g.T.Tree.fault_count c.is_file.new.self)
+    let tree = tree_seen (g.T.Tree.content c.args.tree.now) (g.T.Tree.content c.is_file.new.self) (g.T.Tree.fault_count c.args.tree.now) (g.T.Tree.fault_count c.is_file.new.self)
     (g.T.Tree.trace c.args.tree.now) (g.T.Tree.trace c.is_file.new.self) in
     let one = c.is_file.ensures in
     let made = file_made path one.same c.is_file.result one.counts one.traced one.answer one.refusal in
@@ -41,7 +41,7 @@ returns-in-Err-Failed-clause-looked g c =
 pub returns-in-Err-clause-looked : goal.returns-in-Err-clause-looked
 returns-in-Err-clause-looked g c =
     let path = c.args.path.now in
-    let tree = seen (g.T.Tree.content c.args.tree.now) (g.T.Tree.content c.is_file.new.self) (g.T.Tree.fault_count c.args.tree.now) (g.T.Tree.fault_count c.is_file.new.self)
+    let tree = tree_seen (g.T.Tree.content c.args.tree.now) (g.T.Tree.content c.is_file.new.self) (g.T.Tree.fault_count c.args.tree.now) (g.T.Tree.fault_count c.is_file.new.self)
     (g.T.Tree.trace c.args.tree.now) (g.T.Tree.trace c.is_file.new.self) in
     let one = c.is_file.ensures in
     let made = file_made path one.same c.is_file.result one.counts one.traced one.answer one.refusal in

@@ -3,9 +3,9 @@ use Rattle.std.proofs.Common.{refl, subst}
 use Rattle.std.proofs.lemmas.Result.{err_from_is_err_and}
 use Rattle.tree_core.specs.Faults.{Gained}
 use Rattle.run_found.specs.Error.{cause_of}
-use Rattle.run_found.specs.Hearing.{seen}
+use Rattle.run_found.specs.Hearing.{tree_seen}
 use Rattle.run_found.specs.Written.{sink_seen}
-use Rattle.run_listing.specs.Listing.{listing_of}
+use Rattle.run_list_text.specs.Listing.{listing_of}
 use Rattle.run_command.specs.Settled.{IsCutBy}
 use Rattle.run_list.specs.Given.{list_arguments_of}
 use Rattle.run_list.proofs.ListingLemmas.{cut_counts, lists_all, lists_cut, stops_first}
@@ -14,7 +14,7 @@ use Rattle.run_list.proofs.command.list_since.Goals as goal
 pub returns-in_err-listing-clause-lists : goal.returns-in_err-listing-clause-lists
 returns-in_err-listing-clause-lists g c =
     let given = list_arguments_of (g.C.Catalog.lists c.args.catalog.now) (g.I.Identifier.match_of c.args.identifier.now) c.args.log_ctx c.args.args c.args.context.now in
-    let tree = seen (g.T.Tree.content c.args.tree.now) (g.T.Tree.content c.listing_found.new.tree) (g.T.Tree.fault_count c.args.tree.now) (g.T.Tree.fault_count c.listing_found.new.tree)
+    let tree = tree_seen (g.T.Tree.content c.args.tree.now) (g.T.Tree.content c.listing_found.new.tree) (g.T.Tree.fault_count c.args.tree.now) (g.T.Tree.fault_count c.listing_found.new.tree)
     (g.T.Tree.trace c.args.tree.now) (g.T.Tree.trace c.listing_found.new.tree) in
     let err = sink_seen (g.S.Sink.written c.args.err.now) (g.S.Sink.written c.listing_found.new.err) (g.S.Sink.fault_count c.args.err.now) (g.S.Sink.fault_count c.listing_found.new.err) in
     let held = g.O.Sink.written c.args.out.now in
@@ -25,7 +25,7 @@ returns-in_err-listing-clause-lists g c =
 pub returns-in_err-write_crates-clause-lists : goal.returns-in_err-write_crates-clause-lists
 returns-in_err-write_crates-clause-lists g c =
     let given = list_arguments_of (g.C.Catalog.lists c.args.catalog.now) (g.I.Identifier.match_of c.args.identifier.now) c.args.log_ctx c.args.args c.args.context.now in
-    let tree = seen (g.T.Tree.content c.args.tree.now) (g.T.Tree.content c.listing_found.new.tree) (g.T.Tree.fault_count c.args.tree.now) (g.T.Tree.fault_count c.listing_found.new.tree)
+    let tree = tree_seen (g.T.Tree.content c.args.tree.now) (g.T.Tree.content c.listing_found.new.tree) (g.T.Tree.fault_count c.args.tree.now) (g.T.Tree.fault_count c.listing_found.new.tree)
     (g.T.Tree.trace c.args.tree.now) (g.T.Tree.trace c.listing_found.new.tree) in
     let err = sink_seen (g.S.Sink.written c.args.err.now) (g.S.Sink.written c.listing_found.new.err) (g.S.Sink.fault_count c.args.err.now) (g.S.Sink.fault_count c.listing_found.new.err) in
     let out = sink_seen (g.O.Sink.written c.args.out.now) (g.O.Sink.written c.write_crates.new.out) (g.O.Sink.fault_count c.args.out.now) (g.O.Sink.fault_count c.write_crates.new.out) in
@@ -47,7 +47,7 @@ returns-in_err-write_crates-clause-counts g c =
 pub returns-clause-lists : goal.returns-clause-lists
 returns-clause-lists g c =
     let given = list_arguments_of (g.C.Catalog.lists c.args.catalog.now) (g.I.Identifier.match_of c.args.identifier.now) c.args.log_ctx c.args.args c.args.context.now in
-    let tree = seen (g.T.Tree.content c.args.tree.now) (g.T.Tree.content c.listing_found.new.tree) (g.T.Tree.fault_count c.args.tree.now) (g.T.Tree.fault_count c.listing_found.new.tree)
+    let tree = tree_seen (g.T.Tree.content c.args.tree.now) (g.T.Tree.content c.listing_found.new.tree) (g.T.Tree.fault_count c.args.tree.now) (g.T.Tree.fault_count c.listing_found.new.tree)
     (g.T.Tree.trace c.args.tree.now) (g.T.Tree.trace c.listing_found.new.tree) in
     let err = sink_seen (g.S.Sink.written c.args.err.now) (g.S.Sink.written c.listing_found.new.err) (g.S.Sink.fault_count c.args.err.now) (g.S.Sink.fault_count c.listing_found.new.err) in
     let held = g.O.Sink.written c.args.out.now in

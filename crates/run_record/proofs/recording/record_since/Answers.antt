@@ -1,6 +1,6 @@
 use Rattle.std.proofs.Common.{inl, refl, subst, Ok, Err}
 use Rattle.std.proofs.lemmas.Result.{err_from_is_err_and}
-use Rattle.run_found.specs.Hearing.{seen}
+use Rattle.run_found.specs.Hearing.{tree_seen}
 use Rattle.run_found.specs.Written.{sink_seen}
 use Rattle.run_command.specs.Carried.{plain_options}
 use Rattle.run_command.specs.Given.{command_arguments_of}
@@ -22,7 +22,7 @@ returns-in_err-report-clause-records g c =
     let match_of = g.I.Identifier.match_of c.args.identifier.now in
     let log = c.args.log_ctx in
     let context = c.args.context.now in
-    let tree = seen (g.T.Tree.content c.args.tree.now) (g.T.Tree.content c.report_since.new.tree) (g.T.Tree.fault_count c.args.tree.now) (g.T.Tree.fault_count c.report_since.new.tree)
+    let tree = tree_seen (g.T.Tree.content c.args.tree.now) (g.T.Tree.content c.report_since.new.tree) (g.T.Tree.fault_count c.args.tree.now) (g.T.Tree.fault_count c.report_since.new.tree)
     (g.T.Tree.trace c.args.tree.now) (g.T.Tree.trace c.report_since.new.tree) in
     let err = sink_seen (g.S.Sink.written c.args.err.now) (g.S.Sink.written c.report_since.new.err) (g.S.Sink.fault_count c.args.err.now) (g.S.Sink.fault_count c.report_since.new.err) in
     let p = err_from_is_err_and c.from_residual.result c.from_residual.ensures.1 in
@@ -40,7 +40,7 @@ returns-clause-records g c =
     let log = c.args.log_ctx in
     let context = c.args.context.now in
     let report = c.in_ok-report.report in
-    let tree = seen (g.T.Tree.content c.args.tree.now) (g.T.Tree.content c.report_since.new.tree) (g.T.Tree.fault_count c.args.tree.now) (g.T.Tree.fault_count c.report_since.new.tree)
+    let tree = tree_seen (g.T.Tree.content c.args.tree.now) (g.T.Tree.content c.report_since.new.tree) (g.T.Tree.fault_count c.args.tree.now) (g.T.Tree.fault_count c.report_since.new.tree)
     (g.T.Tree.trace c.args.tree.now) (g.T.Tree.trace c.report_since.new.tree) in
     let err = sink_seen (g.S.Sink.written c.args.err.now) (g.S.Sink.written c.report_since.new.err) (g.S.Sink.fault_count c.args.err.now) (g.S.Sink.fault_count c.report_since.new.err) in
     let out = sink_seen (g.O.Sink.written c.args.out.now) (g.O.Sink.written c.record_report.new.out) (g.O.Sink.fault_count c.args.out.now) (g.O.Sink.fault_count c.record_report.new.out) in

@@ -4,7 +4,7 @@ use Rattle.std.proofs.lemmas.Result.{err_from_is_err_and}
 use Rattle.run_check.specs.Given.{check_arguments_of}
 use Rattle.run_check.specs.Headline.{CheckHeadline}
 use Rattle.run_check.specs.Script.{WritesCheck}
-use Rattle.run_found.specs.Hearing.{seen}
+use Rattle.run_found.specs.Hearing.{tree_seen}
 use Rattle.run_sample.specs.Files.{sample_content}
 use Rattle.run_sample.specs.Sample.{IsSampleReport}
 use Rattle.run_sample.proofs.SampleLemmas.{carried_by, complete_by, given_by, never_absent, nowhere, sample_seen, sampled_by, unwritten_of}
@@ -25,7 +25,7 @@ returns-clause-sampled g c =
     let state = c.new-tree.result in
     let tells = Some c.cmd.new.tree.content in
     let calls = c.cmd.new.tree.calls in
-    let tree = seen (Some state.content) tells 0 0 state.calls calls in
+    let tree = tree_seen (Some state.content) tells 0 0 state.calls calls in
     let sample = sample_seen n state c.in_ok-tree.tree tells calls c.new-tree.ensures c.in_ok-tree.ensures.content c.in_ok-tree.ensures.no_calls in
     subst (λ given. IfOk c.cmd.result (IsSampleReport n given))
     (given_by lists match_of c.sample_log.result c.in_ok-args.args c.in_ok-context.context c.sample_log.ensures c.in_ok-args.ensures c.in_ok-context.ensures)
@@ -40,7 +40,7 @@ returns-clause-complete g c =
     let state = c.new-tree.result in
     let tells = Some c.cmd.new.tree.content in
     let calls = c.cmd.new.tree.calls in
-    let tree = seen (Some state.content) tells 0 0 state.calls calls in
+    let tree = tree_seen (Some state.content) tells 0 0 state.calls calls in
     let sample = sample_seen n state c.in_ok-tree.tree tells calls c.new-tree.ensures c.in_ok-tree.ensures.content c.in_ok-tree.ensures.no_calls in
     complete_by n lists match_of tree None None c.cmd.result sample
     (subst (λ given. CheckHeadline given (sample_content n) tree nowhere c.cmd.result)
@@ -60,7 +60,7 @@ returns-clause-built_in g c =
     let state = c.new-tree.result in
     let tells = Some c.cmd.new.tree.content in
     let calls = c.cmd.new.tree.calls in
-    let tree = seen (Some state.content) tells 0 0 state.calls calls in
+    let tree = tree_seen (Some state.content) tells 0 0 state.calls calls in
     let sample = sample_seen n state c.in_ok-tree.tree tells calls c.new-tree.ensures c.in_ok-tree.ensures.content c.in_ok-tree.ensures.no_calls in
     let fits : n < 2 ^ 32 = search rules in
     built_in_by n (omega (arith, fits)) lists match_of tree nowhere c.cmd.result sample
@@ -74,7 +74,7 @@ pub returns-clause-unwritten : goal.returns-clause-unwritten
 returns-clause-unwritten g c =
     let own = check_arguments_of (g.C.Catalog.lists c.args.catalog.now) (g.I.Identifier.match_of c.args.identifier.now) c.sample_log.result c.in_ok-args.args c.in_ok-context.context in
     let state = c.new-tree.result in
-    unwritten_of own (seen (Some state.content) (Some c.cmd.new.tree.content) 0 0 state.calls c.cmd.new.tree.calls) None None c.cmd.result
+    unwritten_of own (tree_seen (Some state.content) (Some c.cmd.new.tree.content) 0 0 state.calls c.cmd.new.tree.calls) None None c.cmd.result
     (c.cmd.ensures.written
     (carried_by (g.C.Catalog.lists c.args.catalog.now) (g.I.Identifier.match_of c.args.identifier.now) c.sample_log.result c.in_ok-args.args c.in_ok-context.context
     c.sample_log.ensures c.in_ok-args.ensures c.in_ok-context.ensures))
@@ -83,7 +83,7 @@ pub returns-clause-policy : goal.returns-clause-policy
 returns-clause-policy g c is =
     let own = check_arguments_of (g.C.Catalog.lists c.args.catalog.now) (g.I.Identifier.match_of c.args.identifier.now) c.sample_log.result c.in_ok-args.args c.in_ok-context.context in
     let state = c.new-tree.result in
-    let tree = seen (Some state.content) (Some c.cmd.new.tree.content) 0 0 state.calls c.cmd.new.tree.calls in
+    let tree = tree_seen (Some state.content) (Some c.cmd.new.tree.content) 0 0 state.calls c.cmd.new.tree.calls in
     never_absent own tree nowhere
     (subst (λ answer. WritesCheck own tree nowhere answer) is
     (c.cmd.ensures.written

@@ -2,4 +2,4 @@ use Rattle.std.proofs.Common.{length}
 use Rattle.tests_code.proofs.listing.+entry_among.Given as goal
 
 abbrev pub decreases-entry_among : goal.decreases-entry_among
-decreases-entry_among l = length l.licences.now
+decreases-entry_among l = length l.licenses.now

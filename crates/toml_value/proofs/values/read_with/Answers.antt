@@ -1,7 +1,7 @@
 use Rattle.std.proofs.Common.{◌+◌, List, map, sym, subst}
 use Rattle.toml_subset.specs.Reading.{value_at}
 use Rattle.toml_subset.proofs.frames.Stacks.{IsReading, reading_begins, waits_shallow, waits_on, waits_refused, reads_shallow, reads_on, reads_refused}
-use Rattle.toml_subset.specs.frames.Frames.{outside, inside, on_with}
+use Rattle.toml_subset.specs.frames.Frames.{depth_around, depth_within, on_with}
 use Rattle.toml_value.specs.StackViews.{value_found, frame_view, turn_view}
 use Rattle.toml_value.specs.declared.values.Frame.{Frame}
 use Rattle.toml_value.proofs.TurnLemmas.{refused_on, waiting, pushed, popped}
@@ -43,7 +43,7 @@ returns-in-Err-clause-answer c =
     let stack = c.turns.waiting.items in
     let frame = frame_view c.in-Waits.frame in
     let is = waiting text c.args.above c.args.place stack c.turns.turn c.in-Waits.frame c.in-Waits.place c.in-Waits.is c.turns.invariant in
-    refused_on text (c.in-Waits.place + 1) (inside frame) (value_at text (inside frame) c.in-Waits.place) (value_at text c.args.above c.args.place) c.in-Err.error
+    refused_on text (c.in-Waits.place + 1) (depth_within frame) (value_at text (depth_within frame) c.in-Waits.place) (value_at text c.args.above c.args.place) c.in-Err.error
     (λ fault. waits_refused text c.args.above c.args.place (map frame_view stack) frame c.in-Waits.place fault is) c.in-Err.ensures.turn
 
 pub next_turn-requires-clause-shallow : goal.next_turn-requires-clause-shallow
@@ -77,5 +77,5 @@ returns-in-Err-next_turn-clause-answer c =
     let frame = frame_view c.in-Some.frame in
     let v = value_found (c.in-Read.value, c.in-Read.next) in
     let is = popped text c.args.above c.args.place c.turns.waiting.items rest c.in-Some.frame c.turns.turn c.in-Read.value c.in-Read.next c.in-Some.ensures.items c.in-Read.is c.turns.invariant in
-    refused_on text (c.in-Read.next + 1) (outside frame) (on_with text frame v) (value_at text c.args.above c.args.place) c.in-Err-next_turn.error
+    refused_on text (c.in-Read.next + 1) (depth_around frame) (on_with text frame v) (value_at text c.args.above c.args.place) c.in-Err-next_turn.error
     (λ fault. reads_refused text c.args.above c.args.place (map frame_view rest) frame v fault is) c.in-Err-next_turn.ensures

@@ -1,5 +1,5 @@
 use Rattle.std.proofs.Common.{◌≡◌, ◌++◌, List, map, sym, ap, ◌∙◌, append-nil}
-use Rattle.tree_core.specs.Answer.{listed}
+use Rattle.tree_core.specs.Answer.{listed_entry}
 use Rattle.tree_core.specs.Content.{Place}
 use Rattle.tree_core.specs.declared.nodes.StoredNode.{StoredNode}
 use Rattle.tree_core.proofs.ListingLemmas.{listing_of, least_in-is_forward, listing_of-between, entries_in-content_of, IsInNameOrder-listing_of}
@@ -14,9 +14,9 @@ nodes-init c =
     let all : listing_of c.args.folder.now c.range-place-items.result ≡ listing_of c.args.folder.now c.args.nodes.now.entries = ap (listing_of c.args.folder.now) between ∙ listing_of-between c.args.folder.now c.args.nodes.now.entries in
     rw (c.new-entries.ensures, c.into_iter-place-iterator.ensures.into_iter_gives) all
 
-all_listed : (c : goal.In-None) → map listed c.nodes.entries ≡ listing_of c.args.folder.now c.args.nodes.now.entries
+all_listed : (c : goal.In-None) → map listed_entry c.nodes.entries ≡ listing_of c.args.folder.now c.args.nodes.now.entries
 all_listed c =
-    sym (append-nil _) ∙ ap (λ (left : List (Place × StoredNode)). map listed c.nodes.entries ++ listing_of c.args.folder.now left) (sym c.in-None.ensures.steps.0) ∙ c.nodes.invariant
+    sym (append-nil _) ∙ ap (λ (left : List (Place × StoredNode)). map listed_entry c.nodes.entries ++ listing_of c.args.folder.now left) (sym c.in-None.ensures.steps.0) ∙ c.nodes.invariant
 
 pub returns-clause-answer : goal.returns-clause-answer
 returns-clause-answer c = all_listed c ∙ sym (entries_in-content_of c.args.folder.now c.args.nodes.now.entries c.requires)

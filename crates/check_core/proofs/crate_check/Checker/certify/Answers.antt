@@ -16,6 +16,6 @@ returns-clause-told g c =
     let hits : c.hits-hits.result.now ≡ term_hits (policy_of c.args.policy.now) krate expression.terms =
     c.hits-hits.ensures ∙ ap (λ (e : Evaluation). e.hits) c.evaluate-accepted.ensures.evaluator in
     c.in_ok-told.ensures
-    ∙ ap (λ (notes : List (List ℕ)). findings.judged c.evaluate-accepted.result (verdict_labels expression nfo c.hits-hits.result.now) notes) c.items.ensures
-    ∙ ap₂ (λ (accepted : Bool) (kept : List (Option Hit)). findings.judged accepted (verdict_labels expression nfo kept) license.notes)
+    ∙ ap (λ (notes : List (List ℕ)). findings.expression_finding c.evaluate-accepted.result (verdict_labels expression nfo c.hits-hits.result.now) notes) c.items.ensures
+    ∙ ap₂ (λ (accepted : Bool) (kept : List (Option Hit)). findings.expression_finding accepted (verdict_labels expression nfo kept) license.notes)
     c.evaluate-accepted.ensures.answer hits

@@ -1,6 +1,6 @@
 use Rattle.std.proofs.Common.{◌-◌, length, sym, ap, ◌∙◌, rules, arith}
 use Rattle.std.specs.Option.{option_map}
-use Rattle.deny_text.specs.Spans.{moved}
+use Rattle.deny_text.specs.Spans.{moved_span}
 use Rattle.diag_core.proofs.texts.SpanLemmas.{next_key, value_found, none_at_all}
 use Rattle.diag_core.proofs.texts.span_search.license_span.Goals as goal
 
@@ -16,4 +16,4 @@ returns-in-Some-value_span-clause-value c =
 
 pub returns-clause-value : goal.returns-clause-value
 returns-clause-value c =
-    sym (c.keys.invariant.2 ∙ ap (option_map (moved (length c.args.text.now - length c.keys.rest.now))) (none_at_all c.keys.rest.now c.in_default.ensures.cases))
+    sym (c.keys.invariant.2 ∙ ap (option_map (moved_span (length c.args.text.now - length c.keys.rest.now))) (none_at_all c.keys.rest.now c.in_default.ensures.cases))

@@ -1,6 +1,6 @@
 use Rattle.std.proofs.Common.{◌∙◌, ◌++◌, ap, List, ℕ}
 use Rattle.std.specs.Option.{option_to_list}
-use Rattle.gather_licence.specs.declared.expression.files.ScannedFile.{ScannedFile}
+use Rattle.gather_license.specs.declared.expression.files.ScannedFile.{ScannedFile}
 use Rattle.gather_core.specs.findings.Findings.{failure_of}
 use Rattle.gather_core.proofs.findings.FindingLemmas.{filter_map_more}
 use Rattle.gather_core.proofs.findings.failures.file_failures.Goals as goal

@@ -1,10 +1,10 @@
 use Rattle.std.proofs.Common.{◌≡◌, ◌∙◌, List, map, inl, inr, sym, ap, subst}
-use Rattle.graph_core.specs.Krate.{Record}
+use Rattle.graph_core.specs.Krate.{CrateRecord}
 use Rattle.tree_core.proofs.MadeLemmas.{made_none}
 use Rattle.graph_core.specs.selection.Listed.{IsListOf, record_behind}
 use Rattle.graph_core.specs.selection.Walks.{Selected}
 use Rattle.gather_core.proofs.findings.GrowLemmas.{grows_itself}
-use Rattle.gather_licence.proofs.files.CallLemmas.{on_err}
+use Rattle.gather_license.proofs.files.CallLemmas.{on_err}
 use Rattle.gather_core.specs.Calls.{AreTurnsByReads, StarvesGathering}
 use Rattle.gather_core.specs.Entries.{ClarificationEntry, entries_of, clarification_entry}
 use Rattle.gather_core.specs.Gathered.{include_of, scanner_of_gatherer}
@@ -44,7 +44,7 @@ returns-in_err-nfos-clause-no_memory g c =
     let policy = c.args.policy.now in
     let all_is : c.in_ok-clarifications.clarifications ≡ entries_of policy = c.in_ok-clarifications.ensures ∙ ap (map clarification_entry) c.items.ensures in
     on_err c.from_residual-in_err-nfos.result _
-    (inr (subst (λ (krates : List Record). StarvesGathering (g.T.Tree.content c.args.tree.now) (g.T.Tree.content c.gather_all.new.tree) (g.T.Tree.fault_count c.args.tree.now) (g.T.Tree.fault_count c.gather_all.new.tree) (g.T.Tree.trace c.args.tree.now) (g.T.Tree.trace c.gather_all.new.tree)
+    (inr (subst (λ (krates : List CrateRecord). StarvesGathering (g.T.Tree.content c.args.tree.now) (g.T.Tree.content c.gather_all.new.tree) (g.T.Tree.fault_count c.args.tree.now) (g.T.Tree.fault_count c.gather_all.new.tree) (g.T.Tree.trace c.args.tree.now) (g.T.Tree.trace c.gather_all.new.tree)
     scanner policy.file_id (entries_of policy) c.args.files.now krates) (ap (map record_behind) c.items-2.ensures ∙ c.in_ok-selected.ensures.value)
     (subst (λ (all : List ClarificationEntry). StarvesGathering (g.T.Tree.content c.args.tree.now) (g.T.Tree.content c.gather_all.new.tree) (g.T.Tree.fault_count c.args.tree.now) (g.T.Tree.fault_count c.gather_all.new.tree) (g.T.Tree.trace c.args.tree.now) (g.T.Tree.trace c.gather_all.new.tree)
     scanner policy.file_id all c.args.files.now (map record_behind c.items-2.result.now)) all_is c.in_err-nfos.ensures.no_memory)))

@@ -4,10 +4,10 @@ use Rattle.std.specs.Prelude.{codes, unwrap_or}
 use Rattle.deny_text.specs.declared.span.Span.{Span}
 use Rattle.toml_subset.specs.Data.{Entries}
 use Rattle.toml_subset.specs.shapes.Shaped.{AnswersShape, shaped_of}
-use Rattle.toml_subset.specs.shapes.Shapes.{Fault}
+use Rattle.toml_subset.specs.shapes.Shapes.{ShapeFault}
 use Rattle.policy_toml.specs.HelperState.{HelperState, optional_of}
 use Rattle.policy_toml.specs.Readings.{u32_of}
-use Rattle.policy_toml.specs.rows.Rows.{key, passed_key, given, table_faults}
+use Rattle.policy_toml.specs.rows.Rows.{key, passed_key, optional_value, table_faults}
 use Rattle.policy_toml.proofs.rows.RowLemmas.{after_row, begun, field, finished, passed_row, passed_span}
 use Rattle.policy_parts.specs.Tables.{graph_config_of, output_of}
 use Rattle.policy_parts.specs.declared.graph.GraphConfig.{GraphConfig}
@@ -54,7 +54,7 @@ pub returns : goal.returns
 returns g c =
     let lists = g.C.Catalog.lists c.args.catalog.now in
     let state = open_state c.args.table in
-    let k0 : state ≡ begun [] state.left state.span = ap (λ (faults : List Fault). record { left = state.left; span = state.span; faults = faults }) c.requires in
+    let k0 : state ≡ begun [] state.left state.span = ap (λ (faults : List ShapeFault). record { left = state.left; span = state.span; faults = faults }) c.requires in
     let k1 = c.pass_over.ensures ∙ passed_row (codes "advisories") state ∙ ap (after_row (passed_key (codes "advisories"))) k0 in
     let k2 = c.pass_over-2.ensures ∙ passed_row (codes "bans") (open_state c.pass_over.new.self) ∙ ap (after_row (passed_key (codes "bans"))) k1 in
     let k3 = c.pass_over-3.ensures ∙ passed_row (codes "sources") (open_state c.pass_over-2.new.self) ∙ ap (after_row (passed_key (codes "sources"))) k2 in
@@ -74,7 +74,7 @@ returns g c =
     ∙ ap (λ keys. with_moved keys (unwrap_or (optional_of (codes "graph") graph_config_of (open_state c.optional.new.self)) no_graph)) moved
     ∙ ap (with_moved (moved_in state.left)) (ap (λ own. unwrap_or own no_graph) own_graph) in
     let output = c.with_depth.ensures ∙ ap (λ found. with_depth found (unwrap_or c.in_ok-output.output no_output)) depth
-    ∙ ap (λ own. with_depth (given (codes "feature-depth") u32_of state.left) (unwrap_or own no_output)) own_output in
+    ∙ ap (λ own. with_depth (optional_value (codes "feature-depth") u32_of state.left) (unwrap_or own no_output)) own_output in
     let value = same licenses graph output places place in
     subst (λ r. AnswersShape r c.finish.result) (finished [] (root_rows lists) state.left state.span (open_state c.placed.new.self) _ refl k8
     ∙ ap (shaped_of (table_faults [] (root_rows lists) state.left state.span)) value) c.finish.ensures

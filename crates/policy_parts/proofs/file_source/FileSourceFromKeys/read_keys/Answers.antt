@@ -4,11 +4,11 @@ use Rattle.std.specs.Prelude.{codes}
 use Rattle.deny_text.specs.declared.span.Span.{Span}
 use Rattle.deny_text.specs.declared.span.Spanned.{Spanned}
 use Rattle.toml_subset.specs.shapes.Shaped.{ShapeReading, AnswersShape, TellsFaults, shaped_of, shaped_then}
-use Rattle.toml_subset.specs.shapes.Shapes.{Fault}
+use Rattle.toml_subset.specs.shapes.Shapes.{ShapeFault}
 use Rattle.toml_subset.specs.Data.{Entries}
 use Rattle.policy_toml.specs.HelperState.{state_of, without_key}
 use Rattle.policy_toml.specs.Readings.{text_of, u32_of, spanned_of}
-use Rattle.policy_toml.specs.rows.Rows.{needed, shaped_by, table_faults}
+use Rattle.policy_toml.specs.rows.Rows.{required_value, shaped_by, table_faults}
 use Rattle.policy_toml.proofs.rows.RowLemmas.{begun, finished}
 use Rattle.policy_parts.specs.Values.{file_source_at}
 use Rattle.policy_parts.specs.declared.file_source.FileSource.{FileSource}
@@ -25,28 +25,28 @@ abbrev with_hash : Entries → Span → Spanned (List ℕ) → ℕ → ShapeRead
 with_hash entries span path hash = shaped_by passed [] (λ _. made path hash) entries span
 
 abbrev with_path : Entries → Span → Spanned (List ℕ) → ShapeReading FileSource
-with_path entries span path = shaped_then (with_hash entries span path) (needed (codes "hash") u32_of entries span)
+with_path entries span path = shaped_then (with_hash entries span path) (required_value (codes "hash") u32_of entries span)
 
 -- behind a path
-behind_path : (entries : Entries) (span : Span) (path : Spanned (List ℕ)) → needed (codes "path") (spanned_of text_of) entries span ≡ Ok path
+behind_path : (entries : Entries) (span : Span) (path : Spanned (List ℕ)) → required_value (codes "path") (spanned_of text_of) entries span ≡ Ok path
     → file_source_at entries span ≡ with_path entries span path
 behind_path entries span path is = ap (shaped_then (with_path entries span)) is
 
 pub returns-in-Err : goal.returns-in-Err
 returns-in-Err g c =
     let state = state_of c.args.table in
-    let none : state ≡ begun [] state.left state.span = ap (λ (faults : List Fault). record { left = state.left; span = state.span; faults = faults }) c.requires in
+    let none : state ≡ begun [] state.left state.span = ap (λ (faults : List ShapeFault). record { left = state.left; span = state.span; faults = faults }) c.requires in
     let one = c.in_ok-path.ensures.ok ∙ ap (without_key (codes "path")) none in
     let path = sym (needed_behind (codes "path") (spanned_of text_of) [] state.left state.span state refl none) ∙ c.in_ok-path.ensures.read in
     let hash = needed_behind (codes "hash") u32_of (codes "path" ∷ []) state.left state.span (state_of c.required.new.self) refl one in
     subst (λ r. TellsFaults r c.in-Err.error) (sym (behind_path state.left state.span c.in_ok-path.path path))
-    (refused_then (with_hash state.left state.span c.in_ok-path.path) (needed (codes "hash") u32_of state.left state.span) c.in-Err.error
+    (refused_then (with_hash state.left state.span c.in_ok-path.path) (required_value (codes "hash") u32_of state.left state.span) c.in-Err.error
     (subst (λ r. TellsFaults r c.in-Err.error) hash c.in-Err.ensures.read))
 
 pub returns-in_ok-path-in-Ok : goal.returns-in_ok-path-in-Ok
 returns-in_ok-path-in-Ok g c =
     let state = state_of c.args.table in
-    let none : state ≡ begun [] state.left state.span = ap (λ (faults : List Fault). record { left = state.left; span = state.span; faults = faults }) c.requires in
+    let none : state ≡ begun [] state.left state.span = ap (λ (faults : List ShapeFault). record { left = state.left; span = state.span; faults = faults }) c.requires in
     let one = c.in_ok-path.ensures.ok ∙ ap (without_key (codes "path")) none in
     let two = c.in-Ok.ensures.ok ∙ ap (without_key (codes "hash")) one in
     let path = sym (needed_behind (codes "path") (spanned_of text_of) [] state.left state.span state refl none) ∙ c.in_ok-path.ensures.read in

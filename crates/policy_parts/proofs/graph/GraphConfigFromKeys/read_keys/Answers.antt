@@ -3,7 +3,7 @@ use Rattle.std.proofs.Common.{◌≡◌, ℕ, Bool, false, List, [], ◌∷◌, 
 use Rattle.std.specs.Prelude.{codes, unwrap_or}
 use Rattle.toml_subset.specs.Data.{Entries}
 use Rattle.toml_subset.specs.shapes.Shaped.{AnswersShape, shaped_of}
-use Rattle.toml_subset.specs.shapes.Shapes.{Fault}
+use Rattle.toml_subset.specs.shapes.Shapes.{ShapeFault}
 use Rattle.policy_toml.specs.HelperState.{HelperState, state_of}
 use Rattle.policy_toml.specs.Readings.{text_of, boolean_of, list_of}
 use Rattle.policy_toml.specs.rows.Rows.{key, table_faults}
@@ -44,7 +44,7 @@ left state = state.left
 pub returns : goal.returns
 returns g c =
     let state = state_of c.args.table in
-    let k0 : state ≡ begun [] state.left state.span = ap (λ (faults : List Fault). record { left = state.left; span = state.span; faults = faults }) c.requires in
+    let k0 : state ≡ begun [] state.left state.span = ap (λ (faults : List ShapeFault). record { left = state.left; span = state.span; faults = faults }) c.requires in
     let f1 = field (codes "targets") (list_of target_of) [] state.left state c.in_ok-targets.targets refl (ap left k0) c.in_ok-targets.ensures.read in
     let k1 = c.in_ok-targets.ensures.after ∙ ap (after_row (key (codes "targets") (list_of target_of))) k0 in
     let f2 = field (codes "exclude") (list_of text_of) (codes "targets" ∷ []) state.left (state_of c.optional.new.self) c.in_ok-exclude.exclude refl (ap left k1) c.in_ok-exclude.ensures.read in

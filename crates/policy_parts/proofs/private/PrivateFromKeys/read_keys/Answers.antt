@@ -3,7 +3,7 @@ use Rattle.std.proofs.Common.{◌≡◌, ℕ, Bool, false, List, [], ◌∷◌, 
 use Rattle.std.specs.Prelude.{codes, unwrap_or}
 use Rattle.deny_text.specs.declared.span.Spanned.{Spanned}
 use Rattle.toml_subset.specs.shapes.Shaped.{AnswersShape, shaped_of}
-use Rattle.toml_subset.specs.shapes.Shapes.{Fault}
+use Rattle.toml_subset.specs.shapes.Shapes.{ShapeFault}
 use Rattle.policy_toml.specs.HelperState.{HelperState, state_of}
 use Rattle.policy_toml.specs.Readings.{text_of, boolean_of, list_of, spanned_of}
 use Rattle.policy_toml.specs.rows.Rows.{key, table_faults}
@@ -21,7 +21,7 @@ same a b c d e f p q r = ap (λ x. made x c e) p ∙ ap (λ x. made b x e) q ∙
 pub returns : goal.returns
 returns g c =
     let state = state_of c.args.table in
-    let none : state ≡ begun [] state.left state.span = ap (λ (faults : List Fault). record { left = state.left; span = state.span; faults = faults }) c.requires in
+    let none : state ≡ begun [] state.left state.span = ap (λ (faults : List ShapeFault). record { left = state.left; span = state.span; faults = faults }) c.requires in
     let one = c.in_ok-ignore.ensures.after ∙ ap (after_row (key (codes "ignore") boolean_of)) none in
     let two = c.in_ok-ignore_sources.ensures.after ∙ ap (after_row (key (codes "ignore-sources") (list_of (spanned_of text_of)))) one in
     let three = c.in_ok-registries.ensures.after ∙ ap (after_row (key (codes "registries") (list_of text_of))) two in

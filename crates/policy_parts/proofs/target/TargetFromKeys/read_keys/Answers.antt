@@ -3,11 +3,11 @@ use Rattle.std.proofs.Common.{◌≡◌, ℕ, List, [], ◌∷◌, Option, refl,
 use Rattle.std.specs.Prelude.{codes, unwrap_or}
 use Rattle.deny_text.specs.declared.span.Spanned.{Spanned}
 use Rattle.toml_subset.specs.shapes.Shaped.{AnswersShape, shaped_of, shaped_then}
-use Rattle.toml_subset.specs.shapes.Shapes.{Fault}
+use Rattle.toml_subset.specs.shapes.Shapes.{ShapeFault}
 use Rattle.toml_subset.specs.Data.{Entries}
 use Rattle.policy_toml.specs.HelperState.{HelperState, state_of, without_key}
 use Rattle.policy_toml.specs.Readings.{text_of, list_of, spanned_of}
-use Rattle.policy_toml.specs.rows.Rows.{KeyRow, key, given, shaped_by, table_faults}
+use Rattle.policy_toml.specs.rows.Rows.{KeyRow, key, optional_value, shaped_by, table_faults}
 use Rattle.policy_toml.proofs.rows.RowLemmas.{after_row, begun, field, finished}
 use Rattle.policy_parts.specs.declared.target.Target.{Target}
 use Rattle.policy_parts.proofs.NeededKeys.{needed_behind}
@@ -23,12 +23,12 @@ abbrev rows : List KeyRow
 rows = key (codes "features") (list_of text_of) ∷ []
 
 abbrev features_in : Entries → List (List ℕ)
-features_in entries = unwrap_or (given (codes "features") (list_of text_of) entries) []
+features_in entries = unwrap_or (optional_value (codes "features") (list_of text_of) entries) []
 
 pub returns : goal.returns
 returns g c =
     let state = state_of c.args.table in
-    let none : state ≡ begun [] state.left state.span = ap (λ (faults : List Fault). record { left = state.left; span = state.span; faults = faults }) c.requires in
+    let none : state ≡ begun [] state.left state.span = ap (λ (faults : List ShapeFault). record { left = state.left; span = state.span; faults = faults }) c.requires in
     let one = c.in_ok-filter.ensures.ok ∙ ap (without_key (codes "triple")) none in
     let two = c.in_ok-features.ensures.after ∙ ap (after_row (key (codes "features") (list_of text_of))) one in
     let filter = sym (needed_behind (codes "triple") (spanned_of text_of) [] state.left state.span state refl none) ∙ c.in_ok-filter.ensures.read in

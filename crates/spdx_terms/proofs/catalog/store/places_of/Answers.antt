@@ -1,6 +1,6 @@
 use Rattle.std.proofs.Common.{◌∙◌, ◌<◌, ap, length, take, rules, arith, subst, sym}
 use Rattle.spdx_terms.specs.catalog.StorePlaces.{FindsPlaces, all_spelled, with_new}
-use Rattle.spdx_terms.specs.catalog.TextWords.{spelled, words_of}
+use Rattle.spdx_terms.specs.catalog.TextWords.{words_with_spaces, words_of}
 use Rattle.spdx_terms.proofs.catalog.StorePlaceLemmas.{no_places, one_more_place, one_more_spelled, so_many}
 use Rattle.spdx_terms.proofs.catalog.store.places_of.Goals as goal
 
@@ -10,10 +10,10 @@ texts-init c = no_places c.new-places.result c.new-places.ensures
 pub texts-preserved : goal.texts-preserved
 texts-preserved c =
     let so_far = all_spelled (take c.texts.place c.args.texts.now) in
-    let key = spelled (words_of c.index-texts-place.result.body) in
+    let key = words_with_spaces (words_of c.index-texts-place.result.body) in
     let within : c.texts.place < length c.args.texts.now = search rules in
     let more = one_more_spelled c.args.texts.now c.texts.place c.index-texts-place.result within c.index-texts-place.is in
     let at = so_many c.args.texts.now c.texts.place (omega (arith, within)) in
-    let added = c.in_ok-add_place.ensures ∙ ap (λ body. with_new c.texts.places (spelled (words_of body)) c.texts.place) c.as_str.ensures in
+    let added = c.in_ok-add_place.ensures ∙ ap (λ body. with_new c.texts.places (words_with_spaces (words_of body)) c.texts.place) c.as_str.ensures in
     subst (λ known. FindsPlaces c.add_place.new.places known) (sym more)
     (one_more_place c.texts.places c.add_place.new.places so_far key c.texts.place c.texts.invariant added at)

@@ -1,8 +1,8 @@
 use Rattle.std.proofs.Common.{[], ◌∷◌, ◌++◌, ◌≡◌, IsTrue, map, sym, ap, subst, ◌∙◌}
 use Rattle.std.proofs.lemmas.List.{length-map}
 use Rattle.std.proofs.lemmas.Result.{IfOk-weaker}
-use Rattle.toml_subset.specs.Tables.{has_key, added}
-use Rattle.toml_value.specs.BranchViews.{joined, node_view, branches_view, is_whole}
+use Rattle.toml_subset.specs.Tables.{has_key, branches_with_key}
+use Rattle.toml_value.specs.BranchViews.{branches_of_lists, node_view, branches_view, is_whole}
 use Rattle.toml_value.specs.declared.tree.Branches.{out-Branches}
 use Rattle.toml_value.proofs.TreeLemmas.{branches_view-is, AreWhole, opened_whole, whole_closed, are_whole-push, has_no_place, added-joined, seen-push}
 use Rattle.toml_value.proofs.tree.Branches.with.Goals as goal
@@ -20,13 +20,13 @@ pub returns-in-Ok-clause-view : goal.returns-in-Ok-clause-view
 returns-in-Ok-clause-view c =
     let whole = opened_whole c.args.self c.requires.whole in
     let nodes = map (λ n. node_view n) c.args.self.nodes.items in
-    IfOk-weaker c.of_parts.result _ (λ new. branches_view new ≡ added c.args.key (node_view c.args.node) (branches_view c.args.self))
+    IfOk-weaker c.of_parts.result _ (λ new. branches_view new ≡ branches_with_key c.args.key (node_view c.args.node) (branches_view c.args.self))
     (λ new is.
     branches_view-is new
-    ∙ ap (λ ks. joined ks (map (λ n. node_view n) (out-Branches new).nodes.items)) (is.0 ∙ c.in-Ok.ensures)
-    ∙ ap (joined (c.args.self.keys ++ c.args.key ∷ [])) (ap (map (λ n. node_view n)) is.1 ∙ seen-push c.args.self.nodes.items c.args.node)
+    ∙ ap (λ ks. branches_of_lists ks (map (λ n. node_view n) (out-Branches new).nodes.items)) (is.0 ∙ c.in-Ok.ensures)
+    ∙ ap (branches_of_lists (c.args.self.keys ++ c.args.key ∷ [])) (ap (map (λ n. node_view n)) is.1 ∙ seen-push c.args.self.nodes.items c.args.node)
     ∙ sym (added-joined c.args.key (node_view c.args.node) c.args.self.keys nodes (whole.same ∙ sym (length-map c.args.self.nodes.items (λ n. node_view n))))
-    ∙ ap (added c.args.key (node_view c.args.node)) (sym (branches_view-is c.args.self)))
+    ∙ ap (branches_with_key c.args.key (node_view c.args.node)) (sym (branches_view-is c.args.self)))
     c.of_parts.ensures
 
 pub returns-in-Ok-clause-whole : goal.returns-in-Ok-clause-whole

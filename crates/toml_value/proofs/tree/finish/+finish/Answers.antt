@@ -4,8 +4,8 @@ use Rattle.std.specs.Vec.Iter.{into_iter_items}
 use Rattle.toml_subset.specs.Data as «data»
 use Rattle.toml_subset.specs.Data.{TomlContent, Items, Entries}
 use Rattle.toml_subset.specs.Tables.{entries_of}
-use Rattle.toml_value.specs.BranchViews.{node_view, branches_view, body_view, body_items, finished}
-use Rattle.toml_value.specs.FinishViews.{followed, left_of, item_of, array_with}
+use Rattle.toml_value.specs.BranchViews.{node_view, branches_view, body_view, body_items, node_value}
+use Rattle.toml_value.specs.FinishViews.{joined_entries, left_of, item_of, array_with}
 use Rattle.toml_value.specs.Lookup.{with_item}
 use Rattle.toml_value.specs.Views.{value_view, values_view, entries_view}
 use Rattle.toml_value.proofs.LevelLemmas.{node_view-tables}
@@ -15,14 +15,14 @@ use Rattle.toml_value.proofs.tree.finish.+finish.Goals as goal
 
 pub into_entries-nodes-preserved : goal.into_entries-nodes-preserved
 into_entries-nodes-preserved t c =
-    c.nodes.invariant ∙ ap (λ ns. followed (entries_view c.nodes.entries) (left_of c.nodes.keys ns)) c.in-Some.ensures.steps.0
+    c.nodes.invariant ∙ ap (λ ns. joined_entries (entries_view c.nodes.entries) (left_of c.nodes.keys ns)) c.in-Some.ensures.steps.0
     ∙ c.in_ok-push_value.ensures c.in-Some.node (into_iter_items c.next.new.self) c.in_ok-value.ensures
 
 pub into_entries-returns : goal.into_entries-returns
 into_entries-returns t c =
     let entries = entries_view c.nodes.entries in
     let last = none_of_length (into_iter_items c.nodes.node-iterator) (sym c.nodes.node-iterator.rest.ok.0 ∙ c.in-None.ensures.steps.0) in
-    sym (c.nodes.invariant ∙ ap (λ ns. followed entries (left_of c.nodes.keys ns)) last ∙ ap (followed entries) (none_left c.nodes.keys) ∙ followed_none entries)
+    sym (c.nodes.invariant ∙ ap (λ ns. joined_entries entries (left_of c.nodes.keys ns)) last ∙ ap (joined_entries entries) (none_left c.nodes.keys) ∙ followed_none entries)
 
 pub into_items-returns : goal.into_items-returns
 into_items-returns t c =
@@ -48,5 +48,5 @@ into_value-returns-in-Ok-into_entries t c =
     ap (λ (is : Items). array_with n.span is n.last (entries_view c.in-Ok-into_entries.entries)) c.in-Ok.ensures
     ∙ ap (λ (es : Entries). array_with n.span (body_items seen) n.last es) c.in-Ok-into_entries.ensures in
     let made = ap (λ (is : Items). record { content = data.array is; span = n.span }) (sym (last_items seen n.last (branches_view n.inner)))
-    ∙ sym (ap (λ x. finished (node_view x)) n.is ∙ ap finished (node_view-tables n.span n.before n.last n.inner)) in
-    IfOk-weaker c.into_array.result _ (λ value. value_view value ≡ finished (node_view c.args.node)) (λ value is. is ∙ all ∙ made) c.into_array.ensures
+    ∙ sym (ap (λ x. node_value (node_view x)) n.is ∙ ap node_value (node_view-tables n.span n.before n.last n.inner)) in
+    IfOk-weaker c.into_array.result _ (λ value. value_view value ≡ node_value (node_view c.args.node)) (λ value is. is ∙ all ∙ made) c.into_array.ensures

@@ -2,7 +2,7 @@ use Rattle.std.proofs.Common.{◌∷◌, [], ◌++◌, refl, ap, sym, arith, ◌
 use Rattle.deny_text.specs.Path.{join_of}
 use Rattle.tree_core.specs.Call.{told}
 use Rattle.tree_core.proofs.MadeLemmas.{some-later, some_joined}
-use Rattle.tree_core.specs.texts.Looked.{look_of, lost}
+use Rattle.tree_core.specs.texts.Looked.{look_of, failed_look}
 use Rattle.tree_core.specs.texts.Search.{paths_in_folder}
 use Rattle.tree_core.specs.declared.texts.search.SearchError.TheVariants.{Memory}
 use Rattle.tree_core.proofs.texts.SearchLemmas.{front_until, handed, looked_hit, looked_until, missed_on, split_here, split_names, three_names}
@@ -42,7 +42,7 @@ returns-in_err-look-clause-given_up g c =
     let here = split_here (join_of folder) (λ name. name.now) names c.names.name-index _ (three_names (λ name. name.now) names c.args.sought c.names.name-index c.names-name-items.ensures c.names-test.true) in
     handed c.from_residual-in_err-look.result error _ c.from_residual-in_err-look.ensures.1
     (looked_until _ _ _ _ _ (paths_in_folder (map (λ name. name.now) (drop (suc c.names.name-index) names)) folder) c.in_ok-path.path error c.names.invariant.2
-    (c.in_err-look.ensures.given_up ∙ ap (λ path. g.T.Tree.trace c.names.tree ++ look_of path (lost error) ∷ []) c.as_path.ensures)
+    (c.in_err-look.ensures.given_up ∙ ap (λ path. g.T.Tree.trace c.names.tree ++ look_of path (failed_look error) ∷ []) c.as_path.ensures)
     (ap (λ those. paths_in_folder those folder) (sym c.names-name-items.ensures) ∙ here
     ∙ ap (λ path. paths_in_folder (map (λ name. name.now) (take c.names.name-index names)) folder ++ path ∷ paths_in_folder (map (λ name. name.now) (drop (suc c.names.name-index) names)) folder) (sym c.in_ok-path.ensures)))
 

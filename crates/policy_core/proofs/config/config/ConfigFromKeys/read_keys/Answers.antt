@@ -4,7 +4,7 @@ use Rattle.std.specs.Prelude.{codes, unwrap_or}
 use Rattle.deny_text.specs.declared.span.Span.{Span}
 use Rattle.toml_subset.specs.Data.{Entries}
 use Rattle.toml_subset.specs.shapes.Shaped.{AnswersShape, shaped_of}
-use Rattle.toml_subset.specs.shapes.Shapes.{Fault}
+use Rattle.toml_subset.specs.shapes.Shapes.{ShapeFault}
 use Rattle.policy_toml.specs.HelperState.{HelperState, state_of}
 use Rattle.policy_toml.specs.Readings.{boolean_of, hundredths_of, i32_of, list_of}
 use Rattle.policy_toml.specs.declared.hundredths.Hundredths.{Hundredths}
@@ -66,7 +66,7 @@ pub returns : goal.returns
 returns g c =
     let lists = g.C.Catalog.lists c.args.catalog.now in
     let state = state_of c.args.table in
-    let k0 : state ≡ begun [] state.left state.span = ap (λ (faults : List Fault). record { left = state.left; span = state.span; faults = faults }) c.requires in
+    let k0 : state ≡ begun [] state.left state.span = ap (λ (faults : List ShapeFault). record { left = state.left; span = state.span; faults = faults }) c.requires in
     let k1 = c.in_ok-_version.ensures.after ∙ ap (after_row (key (codes "version") i32_of)) k0 in
     let f2 = field (codes "private") private_of (codes "version" ∷ []) state.left (state_of c.optional.new.self) c.in_ok-private.private refl (ap left k1) c.in_ok-private.ensures.read in
     let k2 = c.in_ok-private.ensures.after ∙ ap (after_row (key (codes "private") private_of)) k1 in

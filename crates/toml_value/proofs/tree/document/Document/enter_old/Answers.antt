@@ -1,7 +1,7 @@
 use Rattle.std.proofs.Common.{◌≡◌, ℕ, Some, Ok, option_map, refl, sym, ap, ◌∙◌, arith}
 use Rattle.toml_subset.specs.Tables.{Node, Branches}
 use Rattle.toml_subset.specs.declared.string.Key.{Key}
-use Rattle.toml_subset.specs.frames.Levels.{found_at, hole, opened, replaced, size}
+use Rattle.toml_subset.specs.frames.Levels.{found_at, hole, header_branches, branches_with_node, size}
 use Rattle.toml_subset.proofs.frames.Levels.{old_room}
 use Rattle.toml_value.specs.AroundViews.{around_view, opened_view}
 use Rattle.toml_value.specs.BranchViews.{branches_view}
@@ -34,7 +34,7 @@ further-requires-clause-shallow c =
     let key = c.args.key.now in
     let here = (cursor_view c.args.self).here in
     let there = found_there key here c.args.place c.requires.found in
-    let is = redefined_ok key (opened c.args.part there.0) (around_view c.in-Ok.kind, branches_view c.in-Ok.inner)
+    let is = redefined_ok key (header_branches c.args.part there.0) (around_view c.in-Ok.kind, branches_view c.in-Ok.inner)
     (c.in-Ok.ensures.opened there.0 (ap (found_at key) c.into_root-table.ensures.view ∙ there.1)) in
     let room = old_room c.args.part key (cursor_view c.args.self) c.args.place there.0 (around_view c.in-Ok.kind, branches_view c.in-Ok.inner) c.requires.shallow there.1 is in
     omega arith
@@ -44,12 +44,12 @@ returns-in_ok-document-in-Ok c =
     let key = c.args.key.now in
     let here = (cursor_view c.args.self).here in
     let there = found_there key here c.args.place c.requires.found in
-    let is = redefined_ok key (opened c.args.part there.0) (around_view c.in-Ok.kind, branches_view c.in-Ok.inner)
+    let is = redefined_ok key (header_branches c.args.part there.0) (around_view c.in-Ok.kind, branches_view c.in-Ok.inner)
     (c.in-Ok.ensures.opened there.0 (ap (found_at key) c.into_root-table.ensures.view ∙ there.1)) in
     into_is_old c.args.part key (cursor_view c.args.self) c.args.place there.0 (Some (around_view c.in-Ok.kind, branches_view c.in-Ok.inner)) there.1 (sym is)
-    ∙ ap Ok (sym (further_is (cursor_view c.args.self) (cursor_view c.in_ok-document-in-Ok.document) (replaced c.args.place (hole key) here) (branches_view c.take_opened.new.table)
+    ∙ ap Ok (sym (further_is (cursor_view c.args.self) (cursor_view c.in_ok-document-in-Ok.document) (branches_with_node c.args.place (hole key) here) (branches_view c.take_opened.new.table)
     c.args.place c.args.place (around_view c.in-Ok.kind) (branches_view c.in-Ok.inner)
-    (c.take_opened.ensures.left ∙ ap (replaced c.args.place (hole key)) c.into_root-table.ensures.view) refl c.in_ok-document-in-Ok.ensures))
+    (c.take_opened.ensures.left ∙ ap (branches_with_node c.args.place (hole key)) c.into_root-table.ensures.view) refl c.in_ok-document-in-Ok.ensures))
 
 pub returns-in-Err : goal.returns-in-Err
 returns-in-Err c =

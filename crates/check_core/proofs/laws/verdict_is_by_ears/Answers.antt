@@ -1,5 +1,0 @@
-use Rattle.check_core.proofs.OwnLemmas as lemma
-use Rattle.check_core.proofs.laws.verdict_is_by_ears.Goals as goal
-
-pub returns : goal.returns
-returns c = lemma.by_ears

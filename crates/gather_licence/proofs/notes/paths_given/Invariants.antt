@@ -1,6 +1,0 @@
-use Rattle.std.proofs.Common.{◌≡◌, take}
-use Rattle.gather_licence.specs.Notes as spec
-use Rattle.gather_licence.proofs.notes.paths_given.Given as goal
-
-abbrev pub invariant-files : goal.invariant-files
-invariant-files l = l.paths ≡ spec.paths_given (take l.file-index l.files)

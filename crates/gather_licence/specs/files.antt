@@ -1,8 +1,0 @@
-pub mod Calls
-pub mod Ears
-pub mod FileKey
-pub mod NamedFile
-pub mod Pack
-pub mod Steps
-pub mod Told
-pub mod View

@@ -1,0 +1,42 @@
+-- What the call that settles a crate's licence answers.
+use Rattle.std.specs.Prelude.{◌≡◌, ℕ, List, [], ◌∷◌, ◌++◌, slice_get, Option, option_copied, option_map, option_and_then, if◌then◌else◌}
+use Rattle.std.specs.Option.{option_to_list}
+use Rattle.deny_text.specs.declared.span.Span.{Span}
+use Rattle.spdx_terms.specs.catalog.Catalog.{CatalogLists}
+use Rattle.spdx_terms.specs.declared.catalog.identifier.Match.{Match}
+use Rattle.graph_core.specs.Krate.{CrateRecord}
+use Rattle.gather_license.specs.files.KnownReads.{FolderReads, holds, missing_from}
+use Rattle.gather_license.specs.expression.Scanned.{Scanner, match_by}
+use Rattle.gather_license.specs.declared.scan.Scan.{Scan}
+use Rattle.gather_license.specs.declared.settle.SettledLicense.{SettledLicense}
+use Rattle.gather_license.specs.Clarification.{ClarificationView, PlacedFile, named_in}
+use Rattle.gather_license.specs.Priority.{records_of, basis_of}
+
+-- what texts are identified by, of what was handed in
+abbrev pub scanner_of_scan : {I C : Type 0} → (C → CatalogLists) → (I → List ℕ → Match) → Scan I C → Scanner
+scanner_of_scan lists_of match_of scan = record {
+  lists = lists_of scan.catalog.now;
+  match_of = match_by match_of (option_copied scan.identifier);
+  threshold = scan.threshold;
+}
+
+-- ---- files of clarifications that are not there
+
+abbrev pub span_at : List PlacedFile → ℕ → Option Span
+span_at files number = option_map (λ file. file.span) (slice_get files number)
+
+-- the place of the first file that does not match, where nothing is there
+abbrev pub missing_in : FolderReads → ClarificationView → Option Span
+missing_in known_reads one = option_and_then (span_at one.files) (missing_from known_reads 0 (named_in one))
+
+-- of the clarifications that are tried, up to and with the first that holds
+abbrev pub missing_of : FolderReads → List ClarificationView → List Span
+missing_of known_reads [] = []
+missing_of known_reads (one ∷ more) = option_to_list (missing_in known_reads one) ++ (if holds known_reads (named_in one) then [] else missing_of known_reads more)
+
+-- A crate's licence is settled by what has priority by some ears; what is not there is told, and the reads are recorded by
+-- them.
+pub record IsSettledBy (scanner : Scanner) (clarifications : List ClarificationView) (krate : CrateRecord) (known_reads : FolderReads) (settled : SettledLicense) : Type 0 where
+  pub by_is : settled.by ≡ basis_of scanner clarifications krate known_reads
+  pub missing_is : settled.missing ≡ missing_of known_reads clarifications
+  pub reads_are : settled.reads ≡ records_of scanner clarifications krate known_reads

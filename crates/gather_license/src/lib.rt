@@ -1,0 +1,17 @@
+//! What settles the licence that a crate is under: the policy's clarifications, its own field and its licence
+//! files.
+#![tactic(auto)]
+
+pub mod clarification;
+pub mod expression;
+pub mod files;
+pub mod location;
+mod notes;
+pub mod scan;
+pub mod settle;
+pub mod settling;
+
+pub use clarification::{ClarificationRef, FileRef, HeldClarification};
+pub use scan::Scan;
+pub use settle::{SettledLicense, Spans, folder, settle_license};
+pub use settling::{FilesSeen, JoinedNames, LicenseBasis};

@@ -1,0 +1,66 @@
+-- What the call answers that finds a run's lists and texts.
+use Rattle.std.specs.Prelude.{◌≡◌, ℕ, List, ◌++◌, Option, Some, Result, Ok, Err}
+use Rattle.tree_core.specs.Call.{CallAnswer, Call}
+use Rattle.tree_core.specs.texts.Cause.{Cause, no_memory}
+use Rattle.spdx_terms.specs.catalog.Catalog.{CatalogLists}
+use Rattle.spdx_terms.specs.declared.catalog.identifier.Match.{Match}
+use Rattle.spdx_own_names.specs.Listed.{lists_in}
+use Rattle.spdx_own_names.specs.declared.listing.FileCatalog.{FileCatalog}
+use Rattle.run_found.specs.declared.error.Error.{Error}
+use Rattle.run_found.specs.Error.{cause_of}
+use Rattle.run_found.specs.Hearing.{MadeOn, TreeSeen, read_calls}
+use Rattle.run_found.specs.declared.own_names.found.ListsFound.{ListsFound}
+use Rattle.run_found.specs.declared.own_names.lists.ChosenCatalog.{ChosenCatalog}
+use Rattle.run_found.specs.declared.own_names.texts.ChosenIdentifier.{ChosenIdentifier}
+use Rattle.run_found.specs.own_names.Chosen.{lists_chosen, texts_chosen}
+use Rattle.run_found.specs.own_names.Given.{ListsAsked, ListsGiven, lists_given}
+use Rattle.run_found.specs.own_names.Heard.{ListsHearing, catalog_by, given_heard, lists_calls, store_calls, texts_by}
+
+-- want of memory may come in the place of any answer
+abbrev pub AnswersBy : {X : Type 0} → Cause → Option (Result X Error) → Error → Type 0
+AnswersBy no_memory heard error = Unit {0}
+AnswersBy _ heard error = heard ≡ Some (Err error)
+
+-- what is heard is answered
+abbrev pub AnswersHeard : {X : Type 0} → Option (Result X Error) → Result X Error → Type 0
+AnswersHeard heard (Ok value) = heard ≡ Some (Ok value)
+AnswersHeard heard (Err error) = AnswersBy (cause_of error) heard error
+
+-- The calls of a hearing were made, and no other; what it comes to is answered.
+pub record FindsLists (given : ListsGiven) (asked : ListsAsked) (tree : TreeSeen) (answer : Result ListsGiven Error) : Type 0 where
+  pub hearing : ListsHearing
+  pub begun : hearing.begun ≡ tree.count_before
+  pub made : MadeOn tree (lists_calls given asked hearing)
+  pub answers : AnswersHeard (given_heard given asked hearing) answer
+
+-- ---- the catalogue alone, and the texts alone
+
+-- by a read, which was made or given up before
+pub record HasCatalog (given : CatalogLists) (path : Option (List ℕ)) (begun after : ℕ) (old new : List Call) (answer : Result CatalogLists Error) : Type 0 where
+  pub read : Option CallAnswer
+  pub made : new ≡ old ++ read_calls path read
+  pub answers : AnswersHeard (catalog_by given path begun after read) answer
+
+pub record HasTexts (given : List ℕ → Match) (path : Option (List ℕ)) (begun after : ℕ) (old new : List Call) (answer : Result (List ℕ → Match) Error) : Type 0 where
+  pub listing : Option CallAnswer
+  pub reads : List CallAnswer
+  pub made : new ≡ old ++ store_calls path listing reads
+  pub answers : AnswersHeard (texts_by given path begun after listing reads) answer
+
+-- ---- answers, as the values of the code stand for them
+
+abbrev pub listing_answer : Result FileCatalog Error → Result CatalogLists Error
+listing_answer (Ok listing) = Ok (lists_in listing)
+listing_answer (Err error) = Err error
+
+abbrev pub lists_answer : {C : Type 0} → (C → CatalogLists) → Result (ChosenCatalog C) Error → Result CatalogLists Error
+lists_answer lists (Ok chosen) = Ok (lists_chosen lists chosen)
+lists_answer lists (Err error) = Err error
+
+abbrev pub texts_answer : {I : Type 0} → (I → List ℕ → Match) → Result (ChosenIdentifier I) Error → Result (List ℕ → Match) Error
+texts_answer match_of (Ok chosen) = Ok (texts_chosen match_of chosen)
+texts_answer match_of (Err error) = Err error
+
+abbrev pub found_answer : {C I : Type 0} → (C → CatalogLists) → (I → List ℕ → Match) → Result (ListsFound C I) Error → Result ListsGiven Error
+found_answer lists match_of (Ok found) = Ok (lists_given (lists_chosen lists found.catalog) (texts_chosen match_of found.identifier))
+found_answer lists match_of (Err error) = Err error

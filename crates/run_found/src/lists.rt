@@ -1,9 +1,0 @@
-//! The catalogue and the licence texts of a run: those that are built in, or an organisation's own.
-
-pub mod found;
-pub mod lists;
-pub mod texts;
-
-pub use found::{ListsFound, lists_found};
-pub use lists::Lists;
-pub use texts::Texts;

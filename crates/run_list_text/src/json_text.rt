@@ -1,0 +1,128 @@
+//! A listing for a program.
+ghost use Rattle.std.specs.Prelude.{◌≡◌, IfOk, OnOk, map};
+ghost use Rattle.serde_json.specs.Data.{array};
+ghost use Rattle.serde_json.specs.View.{items_of};
+ghost use Rattle.diag_print.specs.JsonTokens.{Adds, data_tokens};
+ghost use Rattle.run_list_text.specs.Listing.{crate_data, data_by_crate, data_by_license, data_of, json_text};
+ghost use Rattle.run_list_text.specs.Listing.{license_data, texts_data};
+
+use crate::listed::{ListedCrate, all_licenses, names_under};
+use deny_text::Text;
+use json::Writer;
+use run_request::Layout;
+use std::alloc::{AllocError, Global};
+
+/// The texts in order.
+fn write_texts(out: &mut Writer, texts: &[Text]) -> Result<(), AllocError>
+    ensures { OnOk result (Adds out.old out.new (data_tokens (texts_data texts.now))) }
+{
+    out.begin_array()?;
+    'texts: for text in texts {
+        out.string(text.as_str())?;
+    }
+    out.end_array()
+}
+
+/// A crate and its licences.
+fn write_crate(out: &mut Writer, listed: &ListedCrate) -> Result<(), AllocError>
+    ensures { OnOk result (Adds out.old out.new (data_tokens (crate_data listed.now))) }
+{
+    out.begin_object()?;
+    out.key("crate")?;
+    out.string(listed.name.as_str())?;
+    out.key("licenses")?;
+    write_texts(out, listed.licenses.items())?;
+    out.end_object()
+}
+
+/// All crates and their licences.
+fn write_by_crate(out: &mut Writer, crates: &[ListedCrate]) -> Result<(), AllocError>
+    ensures { OnOk result (Adds out.old out.new (data_tokens (data_by_crate crates.now))) }
+{
+    out.begin_array()?;
+    'crates: for listed in crates {
+        write_crate(out, listed)?;
+    }
+    out.end_array()
+}
+
+/// A licence and the crates that have it.
+fn write_license(
+    alloc: Global,
+    out: &mut Writer,
+    crates: &[ListedCrate],
+    license: &str,
+) -> Result<(), AllocError>
+    ensures { OnOk result (Adds out.old out.new (data_tokens (license_data crates.now license.now))) }
+{
+    let names = names_under(alloc, crates, Some(license))?;
+    out.begin_array()?;
+    out.string(license)?;
+    write_texts(out, names.items())?;
+    out.end_array()
+}
+
+/// Licences and the crates that have them.
+fn write_licenses(
+    alloc: Global,
+    out: &mut Writer,
+    crates: &[ListedCrate],
+    licenses: &[Text],
+) -> Result<(), AllocError>
+    ensures { let licenses = items_of (map (license_data crates.now) licenses.now) in
+        OnOk result (Adds out.old out.new (data_tokens (array licenses))) }
+{
+    out.begin_array()?;
+    'licenses: for license in licenses {
+        write_license(alloc, out, crates, license.as_str())?;
+    }
+    out.end_array()
+}
+
+/// All licences and the crates that have them, and the crates without one.
+fn write_by_license(
+    alloc: Global,
+    out: &mut Writer,
+    crates: &[ListedCrate],
+) -> Result<(), AllocError>
+    ensures { OnOk result (Adds out.old out.new (data_tokens (data_by_license crates.now))) }
+{
+    let licenses = all_licenses(alloc, crates)?;
+    let names = names_under(alloc, crates, None)?;
+    out.begin_object()?;
+    out.key("licenses")?;
+    write_licenses(alloc, out, crates, licenses.items())?;
+    out.key("unlicensed")?;
+    write_texts(out, names.items())?;
+    out.end_object()
+}
+
+/// The whole value in a layout.
+fn write_value(
+    alloc: Global,
+    out: &mut Writer,
+    crates: &[ListedCrate],
+    layout: Layout,
+) -> Result<(), AllocError>
+    ensures { OnOk result (Adds out.old out.new (data_tokens (data_of layout crates.now))) }
+{
+    match layout {
+        Layout::Crate => write_by_crate(out, crates),
+        Layout::License => write_by_license(alloc, out, crates),
+    }
+}
+
+/// The text of the value, and a line feed.
+pub(crate) fn json_text(
+    alloc: Global,
+    crates: &[ListedCrate],
+    layout: Layout,
+) -> Result<Vec<u8>, AllocError>
+    ensures { IfOk result (λ text. text.items ≡ json_text (data_of layout crates.now)) }
+{
+    let mut writer = Writer::new(Vec::new(alloc));
+    write_value(alloc, &mut writer, crates, layout)?;
+    let mut text = writer.into_inner();
+    text.push(b'\n')?;
+    Ok(text)
+}

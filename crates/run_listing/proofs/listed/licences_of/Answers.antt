@@ -1,6 +1,0 @@
-use Rattle.std.specs.List.Sorted.{IsStrictlySortedBy}
-use Rattle.run_listing.proofs.listed.licences_of.Goals as goal
-
-pub returns-in-Unlicensed-clause-ordered : goal.returns-in-Unlicensed-clause-ordered
-unfolding IsStrictlySortedBy
-returns-in-Unlicensed-clause-ordered c = rw c.new.ensures tt

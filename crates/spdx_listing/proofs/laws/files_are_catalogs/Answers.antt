@@ -1,5 +1,0 @@
-use Rattle.spdx_listing.proofs.CatalogLemmas.{files_are_catalogs}
-use Rattle.spdx_listing.proofs.laws.files_are_catalogs.Goals as goal
-
-pub returns : goal.returns
-returns c = files_are_catalogs

@@ -1,7 +1,0 @@
-//! Laws of catalogue files.
-ghost use Rattle.spdx_listing.specs.File.{FilesAreCatalogs};
-
-/// What a file without a fault defines is a catalogue.
-pub fn files_are_catalogs()
-    ensures { FilesAreCatalogs }
-{}
