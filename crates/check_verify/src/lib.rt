@@ -9,6 +9,6 @@ pub mod laws;
 pub mod recorded;
 pub mod verifying;
 
-pub use answer::{VerifyAnswer, NoReason};
+pub use answer::{NoReason, VerifyAnswer};
 pub use recorded::recorded_verdict;
 pub use verifying::verify;

@@ -11,7 +11,7 @@ ghost use Rattle.check_core.specs.evaluate.Evaluation.{exception_numbers};
 ghost use Rattle.check_record.specs.Items.{ids_of};
 ghost use Rattle.check_verify.specs.Verified.{IsFirst, IsFlagged, IsVerified, all_steps, ids_gathered};
 
-use crate::answer::{VerifyAnswer, NoReason, with_id};
+use crate::answer::{NoReason, VerifyAnswer, with_id};
 use crate::crates::{CrateInPolicy, fault_of};
 use check_core::evaluate::EntryIndex;
 use check_record::{Record, RecordItem};

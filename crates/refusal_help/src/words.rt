@@ -24,7 +24,8 @@ pub(crate) fn what_words(what: UnsupportedPart) -> &'static str
         }
         UnsupportedPart::Which => "name the check that is carried, and no other: check licenses",
         UnsupportedPart::Format => "--format sarif is not carried: human or json",
-        UnsupportedPart::Target => "--target is not carried: the crates of all platforms are checked",
+        UnsupportedPart::Target =>
+            "--target is not carried: the crates of all platforms are checked",
         UnsupportedPart::Graph => "--graph is not carried",
         UnsupportedPart::Audit => "--audit-compatible-output is not carried",
         UnsupportedPart::ExcludeSpec => {

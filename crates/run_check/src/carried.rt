@@ -34,7 +34,11 @@ fn is_licenses(check: WhichCheck) -> bool
 }
 
 /// The first part of a request that is not carried.
-pub fn unsupported_in(log_ctx: LogContext, args: &CheckArgs, context: &KrateContext) -> Option<UnsupportedPart>
+pub fn unsupported_in(
+    log_ctx: LogContext,
+    args: &CheckArgs,
+    context: &KrateContext,
+) -> Option<UnsupportedPart>
     ensures { result ≡ unsupported_of log_ctx args.now context.now }
 {
     if context.metadata_path.is_none() {

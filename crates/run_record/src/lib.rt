@@ -8,5 +8,5 @@ pub mod verdicts;
 pub mod verifying;
 
 pub use recording::record_since;
-pub use verdicts::{VerifyAnswer, NoReason, VerifiedCrates};
+pub use verdicts::{NoReason, VerifiedCrates, VerifyAnswer};
 pub use verifying::verify_since;

@@ -1,5 +1,5 @@
 //! What verifying comes to.
-pub use check_verify::{VerifyAnswer, NoReason};
+pub use check_verify::{NoReason, VerifyAnswer};
 use run_found::CrateReads;
 
 /// Whether a record is right, and the reads by which the crates' licences were settled.

@@ -11,7 +11,7 @@ ghost use Rattle.run_command.specs.Given.{command_arguments_of};
 ghost use Rattle.run_record.specs.Steps.{IsRead, TellsHeard};
 ghost use Rattle.run_record.specs.Verified.{Verifies, VerifiesFirst, answer_text};
 
-use crate::verdicts::{VerifyAnswer, NoReason, VerifiedCrates};
+use crate::verdicts::{NoReason, VerifiedCrates, VerifyAnswer};
 use check_record::{Record, RecordError, decode};
 use check_verify::verify;
 use deny_text::Steps;

@@ -2,7 +2,7 @@
 ghost use Rattle.std.specs.Prelude.{◌≡◌, ◌<◌};
 
 use check_record::{Record, RecordError, decode, encode};
-use check_verify::{VerifyAnswer, NoReason, verify};
+use check_verify::{NoReason, VerifyAnswer, verify};
 use deny_text::{Steps, Texts};
 use diag_core::Notes;
 use gather_core::{

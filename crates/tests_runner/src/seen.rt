@@ -3,9 +3,9 @@ use crate::command::CommandEnd;
 use crate::counted::CountedSink;
 use crate::settings::Ending;
 use deny_run::{
-    VerifyAnswer, Color, CrateReport, DiagPrinter, Diagnostics, Error, Format, LicenseExprSource,
-    LogContext, NoReason, Report, Request, RunEnd, ShapeErrors, Stats, StoreFault, SyntaxError,
-    Verdict,
+    Color, CrateReport, DiagPrinter, Diagnostics, Error, Format, LicenseExprSource, LogContext,
+    NoReason, Report, Request, RunEnd, ShapeErrors, Stats, StoreFault, SyntaxError, Verdict,
+    VerifyAnswer,
 };
 use deny_text::Span;
 use diag_core::LevelFilter;

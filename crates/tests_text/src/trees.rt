@@ -7,7 +7,9 @@ use std::fs::{File, OpenFile};
 use std::rt::Files;
 use std::{fs, io};
 use tests_files::{AnswerText, Case, Cases, KeyAnswer};
-use tree_core::{FolderEntries, Entry, FolderTree, MemSink, MemTree, Sink, Tree, TreeError, write_all};
+use tree_core::{
+    Entry, FolderEntries, FolderTree, MemSink, MemTree, Sink, Tree, TreeError, write_all,
+};
 
 /// Bytes of which none is alike at a distance that reads are likely to have.
 fn counted(alloc: Global, length: usize) -> Result<Vec<u8>, AllocError> {

@@ -17,7 +17,7 @@ ghost use Rattle.tree_core.specs.Readable.{IsReadable};
 ghost use Rattle.tree_core.specs.SystemNames.{TellsNames, names_entry, system_names, names_in_listing};
 
 use crate::trace::Trace;
-use crate::tree::{FolderEntries, Entry, Tree, TreeError};
+use crate::tree::{Entry, FolderEntries, Tree, TreeError};
 use deny_text::path::join;
 use deny_text::{Bytes, PathBuf, Text};
 use std::alloc::{AllocError, Global};

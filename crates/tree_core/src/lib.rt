@@ -23,4 +23,4 @@ pub use reads::{ReadAnswer, ReadKind, ReadRecord, Reads};
 pub use sink::{Sink, SinkFailed, write_all};
 pub use std_sink::StdSink;
 pub use trace::Trace;
-pub use tree::{FolderEntries, Entry, Tree, TreeError};
+pub use tree::{Entry, FolderEntries, Tree, TreeError};

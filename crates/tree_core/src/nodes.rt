@@ -9,7 +9,7 @@ ghost use Rattle.tree_core.specs.Found.{found_node};
 ghost use Rattle.tree_core.specs.TreeState.{Clashes, IsClosedAbove, Puts};
 
 use crate::place::Place;
-use crate::tree::{FolderEntries, Entry};
+use crate::tree::{Entry, FolderEntries};
 use deny_text::{Bytes, Text};
 use std::alloc::{AllocError, Global};
 use std::collections::BTreeMap;
