@@ -93,14 +93,14 @@ fn measure_all(rt: &HostRuntime, meter: &mut Meter<'_>) -> Result<(), BenchFailu
     Ok(())
 }
 
-/// What is told of one measure.
+/// What is reported of one measure.
 fn one(rt: &HostRuntime, words: &[String]) -> Result<String, BenchFailure> {
     let mut meter = Meter::timed(rt, word_at(words, 2));
     measure(rt, &mut meter, word_at(words, 0), word_at(words, 1))?;
     Ok(meter.told()?)
 }
 
-/// What is told of all, without times.
+/// What is reported of all, without times.
 fn all(rt: &HostRuntime) -> Result<String, BenchFailure> {
     let mut meter = Meter::untimed(rt);
     measure_all(rt, &mut meter)?;

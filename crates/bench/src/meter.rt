@@ -3,7 +3,7 @@ use std::alloc::AllocError;
 use std::time::{Clock, Instant};
 use tests_files::AnswerText;
 
-/// A clock and the lines that were told by it.
+/// A clock and the lines that were reported by it.
 #[derive(Drop)]
 pub(crate) struct Meter<'r> {
     rt: &'r HostRuntime,

@@ -108,7 +108,7 @@ fn score(meter: &mut Meter<'_>, alloc: Global, text: &str) -> Result<usize, Benc
     Ok(usize::from(found.score))
 }
 
-/// Where a licence field stands; the end of the text where there is none.
+/// Where a licence field is; the end of the text where there is none.
 fn field_start(text: &str) -> usize {
     match license_span(text) {
         Some(span) => span.start,

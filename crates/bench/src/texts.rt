@@ -2,8 +2,8 @@
 use std::alloc::{AllocError, Global};
 use tests_files::AnswerText;
 
-/// Puts a piece that stands behind a percent sign. Its first character is a mark: a digit stands for the number that is so much
-/// higher, but for the last one at most, and a comma for itself, except in the last part.
+/// Puts a piece that is behind a percent sign. Its first character is a mark: a digit stands for the number
+/// that is so much higher, but for the last one at most, and a comma for itself, except in the last part.
 fn put_marked(out: &mut AnswerText, piece: &str, number: usize, last: usize) {
     let mut marked = piece.chars();
     match marked.next() {
@@ -38,7 +38,7 @@ fn put_parts(out: &mut AnswerText, part: &str, count: usize) {
     }
 }
 
-/// The text of a recipe: what stands between `⟦` and `⟧` stands so many times.
+/// The text of a recipe: what is between `⟦` and `⟧` is there so many times.
 pub(crate) fn made(alloc: Global, recipe: &str, count: usize) -> Result<String, AllocError> {
     let mut out = AnswerText::new(alloc);
     for piece in recipe.split('⟦') {

@@ -202,7 +202,7 @@ pub any_gain : {E : Type 0} (files : List File) (policy : ValidConfig) (licenses
 any_gain files policy licenses old new (Ok reports) placed points packs front lie = whole_gain files policy licenses placed points old new (verdicts_of reports) packs lie
 any_gain files policy licenses old new (Err error) placed points packs front lie = front_gain files policy licenses old new placed points front
 
--- ---- where an expression stands
+-- ---- where an expression is
 
 info_points : (files : List File) (policy : Policy) (krate : CrateRecord) (info : LicenseInfo) → IsExpressionIn info → InfoStands files info → InfoPoints files policy krate info
 info_points files policy krate Unlicensed facts stands = tt

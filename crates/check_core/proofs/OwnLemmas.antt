@@ -1,4 +1,4 @@
--- Equal ears, equal verdicts.
+-- Equal known reads, equal verdicts.
 use Rattle.std.proofs.Common.{◌≡◌, ◌∙◌, refl, sym, ap, ap₂, subst, ℕ, Bool, true, false, ◌&&◌, cond, List, [], ◌∷◌, ◌++◌, map, Option, Some, None}
 use Rattle.std.specs.Prelude.{filter, not, option_map, unwrap_or}
 use Rattle.std.specs.List.{AllByRecursion, flat_map, fold}
@@ -78,11 +78,11 @@ module _ (P : List ℕ → Type 0) where
   place_each sorted [] first all = first
   place_each sorted (path ∷ paths) first all = place_each (paths_with path sorted) paths (place_one path sorted all.0 first) all.1
 
--- what is heard of a file, as it is kept
+-- what is read of a file, as it is kept
 abbrev heard_by : FolderReads → List ℕ → List ℕ × ReadResult
 heard_by known_reads path = (path, normal_heard (known_reads.file (components_of path)))
 
--- ---- what is read by two ears
+-- ---- what is read by two known reads
 
 module _ (one other : FolderReads) where
   abbrev SameAt : List ℕ → Type 0

@@ -59,7 +59,7 @@ pub bounded_whole : (policy : Policy) (licenses : List KrateLicense) (i start st
     → (passed : List Bool) → ArePassedOver policy (gathered_of_licenses licenses) passed → steps ≤ start + entries_of_all policy (gathered_of_licenses licenses) passed
 bounded_whole policy licenses i start steps bounded passed are = let so_far = bounded passed are in omega arith
 
--- after one more crate, which stands behind those before
+-- after one more crate, which is behind those before
 pub bounded_next : (policy : Policy) (licenses front rest : List KrateLicense) (license : KrateLicense) (start before after : ℕ) → front ++ license ∷ rest ≡ licenses
     → ((private : Bool) → IsTrue private ↔ IsPrivate policy (gathered_of_license license).krate → after ≤ before + entries_for private policy (gathered_of_license license))
     → IsBounded policy licenses (length front) start before → IsBounded policy licenses (length (front ++ license ∷ [])) start after

@@ -1,4 +1,4 @@
--- Hits, and which entries of a policy are told to be none, in other words than the packs.
+-- Hits, and which entries of a policy are reported to be none, in other words than the packs.
 use Rattle.std.specs.Prelude.{◌≡◌, ◌↔◌, ◌⊎◌, ℕ, false, List, [], ◌∷◌, Some, Any}
 use Rattle.std.specs.List.{AllZip}
 use Rattle.spdx_terms.specs.declared.term.ExpressionReq.{ExpressionReq}
@@ -20,7 +20,7 @@ use Rattle.check_core.specs.Check.{all_hits}
 use Rattle.check_core.specs.Turns.{GatheredCrate}
 use Rattle.check_core.specs.Verdicts.{is_skipped}
 
--- each term of a crate's expression is told at its own place by what allows it
+-- each term of a crate's expression is reported at its own place by what allows it
 abbrev pub TermsAreTold : Type 0
 TermsAreTold = (policy : Policy) (krate : CrateRecord) (nfo : LicenseExprInfo) (terms : List ExpressionReq)
     → AllZip (λ term label. label ≡ term_label nfo term.span (hit_of policy krate term.req)) terms (term_labels nfo terms (term_hits policy krate terms))
@@ -43,9 +43,9 @@ IsNeeded policy [] verdicts hit = ⊥
 IsNeeded policy (asked ∷ more) [] hit = ⊥
 IsNeeded policy (asked ∷ more) (verdict ∷ verdicts) hit = Needs policy hit asked verdict ⊎ IsNeeded policy more verdicts hit
 
--- After these crates the entries are told that no crate needs: an allowed licensee is a hit just where some crate that is not
--- skipped has a term that it allows, whether or not the crate is accepted and a choice takes the term; an exception, where one
--- of its entries is.
+-- After these crates the entries are reported that no crate needs: an allowed licensee is a hit just where some crate
+-- that is not skipped has a term that it allows, whether or not the crate is accepted and a choice takes the term; an
+-- exception, where one of its entries is.
 pub record TellUnneeded (policy : ValidConfig) (asked : List GatheredCrate) (verdicts : List Verdict) : Type 0 where
   pub told : TellUnused policy (all_hits (policy_of policy) asked verdicts) (unused_findings policy (all_hits (policy_of policy) asked verdicts))
   pub licenses : (place : ℕ) → LicenseIsHit (all_hits (policy_of policy) asked verdicts) place ↔ IsNeeded (policy_of policy) asked verdicts (Allowed place)

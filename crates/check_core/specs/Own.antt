@@ -1,4 +1,4 @@
--- A verdict hangs on what is heard of the crate's own folder and files, and on nothing else of a tree.
+-- A verdict depends on what is read of the crate's own folder and files, and on nothing else of a tree.
 use Rattle.std.specs.Prelude.{◌≡◌, ℕ, List, ◌++◌, map, Option, option_map, All}
 use Rattle.std.specs.List.{flat_map}
 use Rattle.deny_text.specs.Path.{components_of}
@@ -18,7 +18,7 @@ use Rattle.policy_core.specs.declared.valid.policy.ValidConfig.{ValidConfig}
 use Rattle.policy_core.specs.valid.View.{policy_of}
 use Rattle.check_core.specs.Verdicts.{IsVerdict}
 
--- the expression of a crate, by what is heard
+-- the expression of a crate, by what is read
 abbrev pub expression_by : Scanner → ValidConfig → CrateRecord → FolderReads → Option ExpressionView
 expression_by scanner policy krate known_reads =
     option_map (λ answer. answer.expression) (priority_of scanner (clarifications_of krate (entries_of policy)) krate known_reads)
@@ -33,12 +33,12 @@ clarified_paths one = map (λ named. named.path) (named_in one)
 abbrev pub paths_around : ReadResult → List ClarificationView → CrateRecord → List (List ℕ)
 paths_around listing clarifications krate = license_files_in listing krate.license_file ++ flat_map clarified_paths clarifications
 
--- the same is heard of its folder and of its files
+-- the same is read of its folder and of its files
 pub record HearTheSame (clarifications : List ClarificationView) (krate : CrateRecord) (one other : FolderReads) : Type 0 where
   pub listing : one.listing ≡ other.listing
   pub files : All (λ path. one.file (components_of path) ≡ other.file (components_of path)) (paths_around one.listing clarifications krate)
 
--- what a content has of a crate's folder and of its files, so what reads of them let hear that do not fail
+-- what a content has of a crate's folder and of its files, so what reads of them say that do not fail
 abbrev pub known_reads_there : CrateRecord → Content → FolderReads
 known_reads_there krate content = record {
   listing = listing_heard content (resolve (folder_of krate));
@@ -47,7 +47,7 @@ known_reads_there krate content = record {
 
 -- ---- laws
 
--- equal ears, equal verdicts with equal certificates
+-- equal known reads, equal verdicts with equal certificates
 abbrev pub VerdictIsByKnownReads : Type 0
 VerdictIsByKnownReads = (scanner : Scanner) (policy : ValidConfig) (krate : CrateRecord) (one other : FolderReads) (first second : Verdict)
     → HearTheSame (clarifications_of krate (entries_of policy)) krate one other

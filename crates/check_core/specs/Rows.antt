@@ -1,4 +1,4 @@
--- Rows of policies and crates, with the judgement, the hits and what is told, worked out by hand from the rules.
+-- Rows of policies and crates, with the judgement, the hits and what is reported, worked out by hand from the rules.
 use Rattle.std.specs.Prelude.{ℕ, Bool, true, false, List, [], ◌∷◌, map, codes, Option, Some, None}
 use Rattle.spdx_terms.specs.declared.term.ExpressionReq.{ExpressionReq}
 use Rattle.spdx_terms.specs.declared.term.LicenseReq.{LicenseReq}

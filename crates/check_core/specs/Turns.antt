@@ -1,4 +1,4 @@
--- What is told of each crate, and after all of them.
+-- What is reported of each crate, and after all of them.
 use Rattle.std.specs.Prelude.{ℕ, Bool, true, false, List, [], ◌∷◌, ◌++◌}
 use Rattle.graph_core.specs.Krate.{CrateRecord}
 use Rattle.spdx_core.specs.declared.certificates.verdict.Hit.{Hit}

@@ -40,7 +40,7 @@ pub struct CheckCtx<'c, T> {
     /// The part of the policy that the check reads.
     pub cfg: T,
     pub krates: &'c Krates,
-    /// The level from which on findings are written. What is found does not hang on it.
+    /// The level from which on findings are written. What is found does not depend on it.
     pub log_level: LevelFilter,
     /// The files that findings point into.
     pub files: &'c Files,
@@ -87,7 +87,7 @@ fn length_in(files: &Files, id: FileId) -> usize
     }
 }
 
-/// The text of an expression that stands in its file fits there, since the file's text is at least as long.
+/// The text of an expression that is in its file fits there, since the file's text is at least as long.
 fn text_fits(files: &Files, expr: &Expression, nfo: &LicenseExprInfo)
     requires { Stands files.now nfo.now expr.now.text }
     ensures { PlaceFits nfo.now (length expr.now.text) }
@@ -162,7 +162,8 @@ fn tell_unused(
     sink.push(last)
 }
 
-/// The reports on crates whose expressions have so many nodes at most, and what is told of the policy after them.
+/// The reports on crates whose expressions have so many nodes at most, and what is reported of the policy
+/// after them.
 #[tactic(auto, using(crate::proofs::CheckLemmas::no_front, crate::proofs::CheckLemmas::whole_front, crate::proofs::CheckLemmas::gained_then))]
 fn judge_with_room<L: Ledger>(
     alloc: Global,

@@ -70,7 +70,7 @@ impl Model for Checker {
     } };
 }
 
-/// A crate that the policy passes over: nothing of what was gathered is told.
+/// A crate that the policy passes over: nothing of what was gathered is reported.
 fn skip(alloc: Global, license: KrateLicense<'_>) -> Result<JudgedCrate, AllocError>
     ensures report { IfOk result (λ judged. judged.report ≡ report_of license.entry Verdict.Skipped) }
     ensures pack { let krate = krate_of license.entry in
@@ -285,7 +285,7 @@ impl Checker {
         self.ask(alloc, policy, license, steps)
     }
 
-    /// What is told after all crates: the entries of the policy that were no hit. It may be empty.
+    /// What is reported after all crates: the entries of the policy that were no hit. It may be empty.
     pub fn finish(&self, alloc: Global, policy: &ValidConfig) -> Result<Pack, AllocError>
         ensures { (hits : List Hit) → self.now.flags ≡ flags_by policy.now hits
             → IfOk result (λ pack. pack ≡ unused.last_pack policy.now hits) }

@@ -14,8 +14,8 @@ pub fn more_exceptions_are_as_good()
     ensures { MoreExceptionsAreAsGood }
 {}
 
-/// Where the same is heard of a crate's folder, of the licence files in it, and of the files that its record or a
-/// clarification for it names, its verdict is the same, with what shows it.
+/// Where the same is read of a crate's folder, of the licence files in it, and of the files that its record
+/// or a clarification for it names, its verdict is the same, with what shows it.
 pub fn verdict_is_by_known_reads()
     ensures { VerdictIsByKnownReads }
 {}
@@ -25,8 +25,8 @@ pub fn verdict_is_own()
     ensures { VerdictIsOwn }
 {}
 
-/// Each term of an expression is told at its own place by what allows it: an entry of the crate's first exception,
-/// an allowed licensee, or nothing.
+/// Each term of an expression is reported at its own place by what allows it: an entry of the crate's first
+/// exception, an allowed licensee, or nothing.
 pub fn terms_are_told()
     ensures { TermsAreTold }
 {}

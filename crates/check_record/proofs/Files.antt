@@ -43,7 +43,7 @@ items_count (item ∷ items) rest =
     let others = items_count items rest in
     omega (arith, length-append (line ++ more) rest, length-append line more, length-append more rest)
 
--- the lines behind others, and what stands behind them
+-- the lines behind others, and what is behind them
 record TakesItems (front : List RecordItem) (bytes : List ℕ) (all : List RecordItem) (rest : List ℕ) : Type 0 where
   items : List RecordItem
   all_are : all ≡ front ++ items
@@ -94,7 +94,7 @@ record_again items more is =
     ap record_at (spelled_parts items more)
     ∙ rw (behind_text_again head rest, items_again items [] (foot ++ more) (length rest) is.each (items_count items (foot ++ more)) refl, behind_text_again foot more, is.ids_rise) refl
 
--- a record and what stands behind it
+-- a record and what is behind it
 record TakesRecord (bytes : List ℕ) (items : List RecordItem) (rest : List ℕ) : Type 0 where
   is : IsRecord items
   parts : bytes ≡ spelled_of items ++ rest

@@ -11,7 +11,7 @@ use Rattle.check_record.specs.Reading.{◌>>=◌, allowed_at, begins, begins_dig
 use Rattle.check_record.proofs.Numbers.{number_again, number_takes}
 use Rattle.check_record.proofs.Steps.{begins_is, behind_is, bind_some, pick, some_is}
 
--- neither a digit nor a space stands first
+-- neither a digit nor a space is first
 pub record Ends (bytes : List ℕ) : Type 0 where
   pub digit : begins_digit bytes ≡ false
   pub space : begins 32 bytes ≡ false
@@ -25,7 +25,7 @@ hit_again (Exception exception entry) rest fits ends =
     ap exception_at (append_assoc (decimal exception) (46 ∷ decimal entry) rest)
     ∙ rw (number_again exception (46 ∷ (decimal entry ++ rest)) fits.0 refl, number_again entry rest fits.1 ends) refl
 
--- a hit and what stands behind it
+-- a hit and what is behind it
 pub record TakesHit (bytes : List ℕ) (hit : Hit) (rest : List ℕ) : Type 0 where
   pub parts : bytes ≡ hit_text hit ++ rest
   pub fits : IsHit hit
@@ -77,7 +77,7 @@ place_hit_again place hit rest number fits ends =
     ap place_hit_at (append_assoc (decimal place) (61 ∷ hit_text hit) rest)
     ∙ rw (number_again place (61 ∷ (hit_text hit ++ rest)) number refl, hit_again hit rest fits ends) refl
 
--- a place with its hit behind a space, and what stands behind them
+-- a place with its hit behind a space, and what is behind them
 record TakesPlaceHit (bytes : List ℕ) (found : PlaceHit) (rest : List ℕ) : Type 0 where
   parts : 32 ∷ bytes ≡ place_hit_text found.place found.hit ++ rest
   number : IsNumber found.place
@@ -149,7 +149,7 @@ chosen_count (place ∷ places) (hit ∷ hits) rest as_many =
     let others = chosen_count places hits rest (omega arith) in
     omega (arith, length-append (front ++ more) rest, length-append front more, length-append more rest)
 
--- the places and hits that a choice has behind others, and what stands behind it
+-- the places and hits that a choice has behind others, and what is behind it
 pub record TakesChosen (choice : List ℕ) (hits : List Hit) (bytes : List ℕ) (all : ChoiceAndHits) (rest : List ℕ) : Type 0 where
   pub places : List ℕ
   pub found : List Hit
@@ -238,7 +238,7 @@ places_count (place ∷ places) rest =
     let others = places_count places rest in
     omega (arith, length-append (decimal place ++ more) rest, length-append (decimal place) more, length-append more rest)
 
--- the places behind others, and what stands behind them
+-- the places behind others, and what is behind them
 pub record TakesPlaces (front bytes all rest : List ℕ) : Type 0 where
   pub places : List ℕ
   pub all_are : all ≡ front ++ places

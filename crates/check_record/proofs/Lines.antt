@@ -44,7 +44,7 @@ lettered_again (Rejected blocks) rest is ends =
     let text = flat_map place_text blocks ++ rest in
     rw (places_again blocks [] rest (length text) is.each (places_count blocks rest) ends, is.rise) refl
 
--- a verdict that its letter begins, and what stands behind it
+-- a verdict that its letter begins, and what is behind it
 record TakesVerdict (bytes : List ℕ) (verdict : RecordVerdict) (rest : List ℕ) : Type 0 where
   parts : bytes ≡ letter_text verdict ++ rest
   is : IsRecordVerdict verdict
@@ -114,7 +114,7 @@ id_again : (text rest : List ℕ) → IsUtf8 text → IsNumber (length text) →
 unfolding id_at
 id_again text rest utf8 counted = rw (number_again (length text) (58 ∷ (text ++ rest)) counted refl) (text_again text rest utf8)
 
--- an id and what stands behind it
+-- an id and what is behind it
 record TakesId (bytes text rest : List ℕ) : Type 0 where
   parts : bytes ≡ decimal (length text) ++ (58 ∷ (text ++ rest))
   utf8 : IsUtf8 text
@@ -179,7 +179,7 @@ item_again item rest is =
     ap (λ (r : List ℕ). item_at (99 ∷ 32 ∷ r)) regrouped
     ∙ rw (id_again item.id (32 ∷ (letter ++ (10 ∷ rest))) is.text is.counted, lettered_again item.verdict (10 ∷ rest) is.verdict (record { digit = refl; space = refl })) refl
 
--- a line and what stands behind it
+-- a line and what is behind it
 pub record TakesItem (bytes : List ℕ) (item : RecordItem) (rest : List ℕ) : Type 0 where
   pub parts : bytes ≡ item_text item ++ rest
   pub is : IsRecordItem item

@@ -69,7 +69,7 @@ shorter byte (one ∷ bytes) after first short = omega arith
 pub place_hit_smaller : (bytes : List ℕ) (found : PlaceHit) (after : List ℕ) → begins 32 bytes ≡ true → place_hit_at (drop 1 bytes) ≡ Some (found, after) → length after < length bytes
 place_hit_smaller bytes found after first e = shorter 32 bytes after first (place_hit_shortens (drop 1 bytes) found after e)
 
--- what is read does not hang on the count, where that is not less than the bytes
+-- what is read does not depend on the count, where that is not less than the bytes
 chosen_same : (m n : ℕ) (choice : List ℕ) (hits : List Hit) (bytes : List ℕ) (b : Bool) (read : Read PlaceHit) → begins 32 bytes ≡ b → place_hit_at (drop 1 bytes) ≡ read
     → length bytes ≤ m → length bytes ≤ n → chosen_on m choice hits bytes ≡ chosen_on n choice hits bytes
 chosen_same m n choice hits bytes false read first e low high = chosen_end m choice hits bytes first ∙ sym (chosen_end n choice hits bytes first)

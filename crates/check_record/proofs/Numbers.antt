@@ -73,7 +73,7 @@ digits_take (b ∷ bytes) m n rest below e =
           ([], ap (λ (q : ℕ × List ℕ). q.1) same, refl, value, subst (λ (k : ℕ). k < 2 ^ 64) value below)
     ]
 
--- a number and what stands behind it
+-- a number and what is behind it
 pub record TakesNumber (bytes : List ℕ) (n : ℕ) (rest : List ℕ) : Type 0 where
   pub parts : bytes ≡ decimal n ++ rest
   pub below : IsNumber n

@@ -1,4 +1,4 @@
--- Steps of a reading, and what stands behind a byte or a text.
+-- Steps of a reading, and what is behind a byte or a text.
 use Rattle.std.proofs.Common.{◌≡◌, ◌⊎◌, ◌∙◌, refl, sym, ap, inl, inr, ℕ, ◌&&◌, Bool, true, false, true≢false, cond, eqb, nat_eq, eqb-true, List, [], ◌∷◌, ◌++◌, length, take, drop, drop_at, Option, Some, None}
 use Rattle.std.specs.List.{starts_with}
 use Rattle.std.proofs.lemmas.Bool.Decides.{Decides-eqb}

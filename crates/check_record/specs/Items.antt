@@ -69,7 +69,7 @@ pub record IsRecordItem (item : RecordItem) : Type 0 where
 abbrev pub ids_of : List RecordItem → List (List ℕ)
 ids_of items = map (λ item. item.id) items
 
--- the ids rise strictly in byte order, so that none stands twice
+-- the ids rise strictly in byte order, so that none is there twice
 pub record IsRecord (items : List RecordItem) : Type 0 where
   pub ids_rise : IsTrue (all_rise is_before (ids_of items))
   pub each : AllByRecursion IsRecordItem items

@@ -1,4 +1,5 @@
--- Reading a file from left to right: a value and what stands behind it, or nothing. Only the contracts of private calls cite it.
+-- Reading a file from left to right: a value and what is behind it, or nothing. Only the contracts of private calls
+-- cite it.
 use Rattle.std.specs.Prelude.{◌≡◌, ℕ, zero, suc, ◌+◌, ◌-◌, ◌*◌, ◌^◌, ◌==◌, nat_lt, nat_eq, Bool, true, false, ◌&&◌, List, [], ◌∷◌, ◌++◌, length, take, drop, codes, Option, Some, None, Result, Ok, Err, if◌then◌else◌}
 use Rattle.std.specs.Char.{is_ascii_digit}
 use Rattle.std.specs.List.{starts_with}
@@ -39,7 +40,7 @@ abbrev pub begins : ℕ → List ℕ → Bool
 begins byte [] = false
 begins byte (first ∷ bytes) = first == byte
 
--- what stands behind a byte
+-- what is behind a byte
 abbrev pub rest_behind : ℕ → List ℕ → Option (List ℕ)
 rest_behind byte bytes = if begins byte bytes then Some (drop 1 bytes) else None
 
@@ -155,7 +156,7 @@ items_on (suc most) items bytes =
 
 -- ---- files
 
--- what stands behind a text
+-- what is behind a text
 unfoldable pub behind_text : List ℕ → List ℕ → Option (List ℕ)
 behind_text text bytes = if starts_with nat_eq bytes text then Some (drop (length text) bytes) else None
 

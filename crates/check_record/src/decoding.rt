@@ -9,7 +9,7 @@ use crate::error::RecordError;
 use crate::items::{Record, RecordItems};
 use std::alloc::Global;
 
-/// What stands behind a text.
+/// What is behind a text.
 #[tactic(auto, unfolding(crate::specs::Reading::behind_text))]
 fn behind_text<'b>(bytes: &'b [u8], text: &[u8]) -> Result<&'b [u8], RecordError>
     ensures { Reads (λ rest. rest.now) result (spec.behind_text text.now bytes.now) }

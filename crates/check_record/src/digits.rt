@@ -5,7 +5,7 @@ ghost use Rattle.check_record.specs.Reading.{Reads};
 
 use crate::error::RecordError;
 
-/// Whether a byte stands first.
+/// Whether a byte is first.
 pub fn begins(bytes: &[u8], byte: u8) -> bool
     ensures answer { result ≡ spec.begins byte bytes.now }
     ensures some { IsTrue result → 1 ≤ length bytes.now }
@@ -16,7 +16,7 @@ pub fn begins(bytes: &[u8], byte: u8) -> bool
     }
 }
 
-/// What stands behind the first byte.
+/// What is behind the first byte.
 pub fn behind_first(bytes: &[u8]) -> &[u8]
     requires { 1 ≤ length bytes.now }
     ensures { result.now ≡ drop 1 bytes.now }
@@ -24,7 +24,7 @@ pub fn behind_first(bytes: &[u8]) -> &[u8]
     bytes.split_at(1).1
 }
 
-/// What stands behind a byte.
+/// What is behind a byte.
 pub fn behind(bytes: &[u8], byte: u8) -> Result<&[u8], RecordError>
     ensures { Reads (λ rest. rest.now) result (spec.rest_behind byte bytes.now) }
 {
@@ -35,7 +35,7 @@ pub fn behind(bytes: &[u8], byte: u8) -> Result<&[u8], RecordError>
     }
 }
 
-/// Whether a decimal digit stands first.
+/// Whether a decimal digit is first.
 fn begins_digit(bytes: &[u8]) -> bool
     ensures answer { result ≡ spec.begins_digit bytes.now }
     ensures some { IsTrue result → 1 ≤ length bytes.now }

@@ -84,7 +84,7 @@ first_cases : {A : Type 0} (b : Bool) (x z : A) (rest : Option A) → cond b (So
 first_cases true x z rest e = inl (refl, some_is x z e)
 first_cases false x z rest e = inr (refl, e)
 
--- the first item that passes stands in the list, and passes
+-- the first item that passes is in the list, and passes
 pub find_at : {A : Type 0} (p : A → Bool) (xs : List A) (x : A) → find p xs ≡ Some x → Has xs x × (p x ≡ true)
 find_at p [] x e = absurd cc
 find_at p (y ∷ xs) x e =

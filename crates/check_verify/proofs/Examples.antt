@@ -148,7 +148,7 @@ of_no_term : (reason mit_alone only_mit (Rejected (7 ∷ [])) ≡ Some (HasHit t
     × (reason mit_alone only_mit (Rejected (18446744073709551615 ∷ [])) ≡ Some (HasHit the_id))
 of_no_term = (refl, refl)
 
--- the reason of the first crate that has one is told
+-- the reason of the first crate that has one is reported
 the_first_crate : reason_of mit_alone (seen crate_a false only_mit ∷ seen crate_b false only_mit ∷ [])
     (item the_id (Rejected (0 ∷ [])) ∷ item (codes "b 1.0.0") (Accepted (0 ∷ []) (Allowed 9 ∷ [])) ∷ []) ≡ Some (HasHit the_id)
 the_first_crate = refl

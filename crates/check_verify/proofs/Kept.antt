@@ -13,7 +13,7 @@ length_set [] i x = refl
 length_set (y ∷ xs) zero x = refl
 length_set (y ∷ xs) (suc i) x = ap suc (length_set xs i x)
 
--- what stands at a place of a list that was changed at one
+-- what is at a place of a list that was changed at one
 get_set : {A : Type 0} (xs : List A) (i j : ℕ) (x : A) → (slice_get (set xs i x) j ≡ slice_get xs j) ⊎ ((i ≡ j) × (slice_get (set xs i x) j ≡ Some x))
 get_set [] i j x = inl refl
 get_set (y ∷ xs) zero zero x = inr (refl, refl)

@@ -14,7 +14,7 @@ use Rattle.policy_core.specs.valid.Policy.{Policy, first_exception, granted_lice
 use Rattle.policy_core.specs.valid.Satisfied.{satisfies}
 use Rattle.check_core.specs.evaluate.Entries.{entries_by}
 
--- a number stands in a list
+-- a number is in a list
 abbrev pub is_among : List ℕ → ℕ → Bool
 is_among numbers number = list_any (λ other. other == number) numbers
 

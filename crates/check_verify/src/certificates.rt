@@ -1,5 +1,5 @@
-//! Whether places are a choice of an expression, and whether places meet each choice. Both are told by the
-//! certificate on the expression where just some terms have a hit.
+//! Whether places are a choice of an expression, and whether places meet each choice. Both are reported by
+//! the certificate on the expression where just some terms have a hit.
 ghost use Rattle.std.specs.Prelude.{◌≡◌, ◌&&◌, ℕ, IfOk, not, length, nat_lt};
 ghost use Rattle.spdx_core.specs.certificates.Certificates.{has_hit};
 ghost use Rattle.check_verify.specs.Terms as spec;

@@ -24,7 +24,8 @@ use spdx_core::certificates::Hit;
 use std::alloc::{AllocError, Global};
 use std::sync::ledger::Ledger;
 
-/// A crate with the exception that counts for it, and where the entries of each licence family stand in the policy.
+/// A crate with the exception that counts for it, and where the entries of each licence family are in the
+/// policy.
 #[derive(Clone, Copy)]
 pub struct CrateInPolicy<'k> {
     pub krate: &'k Krate,

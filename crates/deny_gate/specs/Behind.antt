@@ -1,4 +1,4 @@
--- What is told behind a run.
+-- What is printed behind a run.
 use Rattle.std.specs.Prelude.{ℕ, ◌-◌, ◌^◌, ◌==◌, ◌&&◌, nat_lt, Bool, true, false, Option, Some, None}
 use Rattle.run_request.specs.declared.request.Request.{Request}
 use Rattle.deny_run.specs.declared.outcome.RunEnd.{RunEnd}
@@ -10,7 +10,7 @@ use Rattle.refusal_help.specs.Told.{IsStill, TellsHelp, ToldBetween}
 abbrev pub is_whole : ℕ → ℕ → Bool
 is_whole before after = (before == after) && nat_lt after (2 ^ 64 - 1)
 
--- behind a refusal its help is told, and behind no other end anything
+-- behind a refusal its help is printed, and behind no other end anything
 abbrev pub TellsEnd : Request → ToldBetween → RunEnd → Type 0
 TellsEnd request told (Refused error) = TellsHelp request error told
 TellsEnd request told _ = IsStill told
@@ -19,7 +19,7 @@ abbrev pub TellsRequest : Option Request → ToldBetween → RunEnd → Type 0
 TellsRequest (Some request) told ended = TellsEnd request told ended
 TellsRequest None told ended = IsStill told
 
--- where the run's own text was cut nothing more is told
+-- where the run's own text was cut nothing more is reported
 abbrev pub TellsBehind : Bool → Option Request → ToldBetween → RunEnd → Type 0
 TellsBehind true request told ended = TellsRequest request told ended
 TellsBehind false request told ended = IsStill told

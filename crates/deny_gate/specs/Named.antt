@@ -6,7 +6,7 @@ use Rattle.deny_text.specs.Path.{join_of}
 abbrev pub is_equals : ℕ → Bool
 is_equals byte = byte == 61
 
--- what stands behind the first `=` of a word, where it has one, as the value of an option does
+-- what is behind the first `=` of a word, where it has one, as the value of an option does
 abbrev pub value_in : List ℕ → Option (List ℕ)
 value_in word = option_map (λ at. drop (at + 1) word) (position is_equals word)
 

@@ -32,8 +32,8 @@ pub record IsGateRun (words : List (List ℕ)) (folder : List ℕ) (seen : RunSe
   pub folder_given : given.cwd ≡ folder
   pub run : IsRun given seen outcome
 
--- The run ended at some moment, at which the tree had told so much and so much was on standard error; behind that its help was told, on
--- standard error alone.
+-- The run ended at some moment, at which the tree had reported so much and so much was on standard error; behind that
+-- its help was printed, on standard error alone.
 pub record RunsAndTells (words : List (List ℕ)) (folder : List ℕ) (seen : RunSeen) (outcome : Outcome) : Type 0 where
   pub content : Option Content
   pub count : ℕ
@@ -45,7 +45,7 @@ pub record RunsAndTells (words : List (List ℕ)) (folder : List ℕ) (seen : Ru
   pub made : HasMade (from_there seen.tree content count calls)
   pub later : faults ≤ seen.err.after
 
--- the outcome is that of a run over some words and some folder, and its help was told behind it
+-- the outcome is that of a run over some words and some folder, and its help was printed behind it
 pub record RunsOverSome (seen : RunSeen) (outcome : Outcome) : Type 0 where
   pub words : List (List ℕ)
   pub folder : List ℕ

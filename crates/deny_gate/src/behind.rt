@@ -1,4 +1,4 @@
-//! What is told behind a run.
+//! What is printed behind a run.
 ghost use Rattle.std.specs.Prelude.{◌≡◌, ◌≤◌};
 ghost use Rattle.refusal_help.specs.Told.{told_between};
 ghost use Rattle.deny_gate.specs.Behind as behind;
@@ -38,7 +38,7 @@ fn tell_end<T: Tree, E: Sink>(
     }
 }
 
-/// What is told behind a run: the help of its refusal, where standard error took the line of that.
+/// What is printed behind a run: the help of its refusal, where standard error took the line of that.
 pub(crate) fn tell_behind<T: Tree, E: Sink>(
     alloc: Global,
     outcome: &Outcome,

@@ -32,9 +32,9 @@ use tree_core::{FolderTree, Sink, StdSink, Tree, write_all};
 #[derive(Clone, Copy, Debug, PartialEq, Eq)]
 pub enum StartError {
     Memory,
-    /// A word that the process was given is no UTF-8, or the words were not told.
+    /// A word that the process was given is no UTF-8, or the words were not reported.
     Words,
-    /// The folder that the process was started in was not told.
+    /// The folder that the process was started in was not reported.
     Folder,
 }
 

@@ -7,7 +7,7 @@ use deny_text::PathBuf;
 use deny_text::path::join;
 use std::alloc::{AllocError, Global};
 
-/// What stands behind the first `=` of a word, as the value of an option does.
+/// What is behind the first `=` of a word, as the value of an option does.
 fn value_of(word: &str) -> Option<&str>
     ensures { option_copied result ≡ value_in word.now }
 {
@@ -35,7 +35,7 @@ fn push_paths(
     Ok(())
 }
 
-/// The paths that the words name: each word, and what stands behind its first `=`, joined to the folder. A pipe
+/// The paths that the words name: each word, and what is behind its first `=`, joined to the folder. A pipe
 /// or a device is read at these alone.
 pub fn named_paths(
     alloc: Global,

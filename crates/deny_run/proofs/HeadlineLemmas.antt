@@ -37,7 +37,7 @@ use Rattle.deny_run.proofs.EndLemmas.{checked_as, listed_other, recorded_other, 
 
 -- ---- a check
 
--- what is told of a check that has its report: what was heard, and the verdicts
+-- what is reported of a check that has its report: what was read, and the verdicts
 pub record IsReported (asked : CommandRequest) (tree : TreeSeen) (report : Report) : Type 0 where
   pub hearing : CommandHearing
   pub had : ListsGiven

@@ -98,7 +98,7 @@ module _ (lists : CatalogLists) (match_of : List ℕ → Match) (request : Reque
 
 -- ---- a run
 
--- where memory was wanting before the request was had
+-- where memory was wanting before the request was found
 lost_as : {X : Type 0} (end_by : X → RunEnd) (MayRefuse : Error → Type 0) → MayRefuse Memory → (answer : Result RunEnd Error) → answer ≡ Err Memory → EndsAs end_by MayRefuse (end_of answer)
 lost_as {X} end_by MayRefuse may answer is = inr (Memory, ap end_of is, may)
 

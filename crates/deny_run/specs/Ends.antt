@@ -79,8 +79,8 @@ Answers lists match_of request (Verify path) seen answer =
 
 -- ---- words
 
--- The answer to words: where they are taken and ask for something it is that to their request; else no call is made, help and the version
--- are shown, and mistakes are told.
+-- The answer to words: where they are taken and ask for something it is that to their request; else no call is made,
+-- help and the version are shown, and mistakes are reported.
 abbrev pub AnswersOf : RunArguments → Option Request → RunSeen → Result RunEnd Error → Type 0
 AnswersOf given (Some request) seen answer = HasRequest given request × Answers given.lists given.match_of request request.command seen answer
 AnswersOf given None seen answer = IsUntouched seen.tree × AnswersNone given seen answer

@@ -36,7 +36,7 @@ use Rattle.deny_run.specs.Given.{RunArguments, asked_of}
 use Rattle.deny_run.specs.Seen.{RunSeen}
 use Rattle.deny_run.specs.Words.{HasRequest}
 
--- the words ask for this check, and their request is told
+-- the words ask for this check, and their request is reported
 pub record AsksCheck (given : RunArguments) (outcome : Outcome) (args : CheckArgs) (asked : CommandRequest) : Type 0 where
   pub request : Request
   pub of_words : HasRequest given request

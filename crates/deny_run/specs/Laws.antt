@@ -1,4 +1,5 @@
--- What the log level changes: which findings are written, and nothing of what is asked, heard and reported, nor of the status.
+-- What the log level changes: which findings are written, and nothing of what is asked, read and reported, nor of the
+-- status.
 use Rattle.std.specs.Prelude.{◌≡◌, ℕ, All}
 use Rattle.tree_core.specs.Content.{Content}
 use Rattle.diag_core.specs.declared.severity.LevelFilter.{LevelFilter}
@@ -18,12 +19,12 @@ command_at level given = record given { request = record given.request { log = r
 abbrev pub at_level : LevelFilter → CommandRequest → CommandRequest
 at_level level given = record given { command = command_at level given.command }
 
--- what was heard, and the report by that
+-- what was read, and the report by that
 pub record IsReported (given : CommandRequest) (hearing : CommandHearing) (had : ListsGiven) (report : Report) : Type 0 where
   pub comes : ComesBy given hearing had
   pub is : IsReport (command_by given.command had) hearing.found report
 
--- what is heard of a content, where no call fails and no memory is wanting
+-- what is read of a content, where no call fails and no memory is wanting
 pub record IsHeardOf (given : CommandRequest) (content : Content) (count : ℕ) (hearing : CommandHearing) (had : ListsGiven) : Type 0 where
   pub begun : HasBegun hearing count
   pub tells : All (TellsContent content) (run_calls given hearing had)

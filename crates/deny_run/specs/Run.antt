@@ -55,10 +55,12 @@ RefusesUnsupported given seen outcome =
 
 -- What a run over words promises.
 pub record IsRun (given : RunArguments) (seen : RunSeen) (result : Outcome) : Type 0 where
-  -- The request that is told is that of the words, where they are taken and have one; what it asks for is answered, by what was heard and
-  -- nothing else, each refusal by its cause, and written. Else help and the version are shown, mistakes are told, and no call is made.
+  -- The request that is reported is that of the words, where they are taken and have one; what it asks for is answered,
+  -- by what was read and nothing else, each refusal by its cause, and written. Else help and the version are shown,
+  -- mistakes are reported, and no call is made.
   pub outcome : IsOutcome given seen result.request result.ended
-  -- Words that have a request have it told, and help and mistakes are answered so, but for want of memory and a refused write of help.
+  -- Words that have a request have it reported, and help and mistakes are answered so, but for want of memory and a
+  -- refused write of help.
   pub words : AnswersWords given result.request result.ended
   -- Where a part of the request is not carried, that is the refusal, and no call is made.
   pub unsupported : RefusesUnsupported given seen result
@@ -66,7 +68,7 @@ pub record IsRun (given : RunArguments) (seen : RunSeen) (result : Outcome) : Ty
   pub policy : result.ended ≡ Refused (ConfigRead Absent) → ⊥
   -- Calls were made on the tree, and nothing else came of it; no count of a sink fell.
   pub later : IsLater seen
-  -- A failed read is told with the tree's counts, between which it rose.
+  -- A failed read is reported with the tree's counts, between which it rose.
   pub counts : (error : Error) → result.ended ≡ Refused error → ReadCounts seen.tree.count_before seen.tree.count_before seen.tree.count_after (cause_of error)
   -- Each label of each finding lies in the text of its file, between characters.
   pub labels : HasLabels result.ended

@@ -1,4 +1,4 @@
--- What a tree and two sinks told before a run and behind it.
+-- What a tree and two sinks reported before a run and behind it.
 use Rattle.std.specs.Prelude.{◌≡◌, ◌≤◌, ℕ, List, Option, Result, Ok, Err}
 use Rattle.tree_core.specs.Faults.{Rose}
 use Rattle.tree_core.specs.Script.{LineWritten}

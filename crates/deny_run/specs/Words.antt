@@ -1,4 +1,5 @@
--- What a run over words comes to that have no request: help and the version are shown, mistakes are told, and no call is made.
+-- What a run over words comes to that have no request: help and the version are shown, mistakes are reported, and no
+-- call is made.
 use Rattle.std.specs.Prelude.{◌≡◌, ◌⊎◌, ℕ, true, false, List, Option, Some, None, Result, Ok, Err}
 use Rattle.tree_core.specs.Faults.{Gained}
 use Rattle.tree_core.specs.texts.Cause.{Cause, no_memory, refused_write}
@@ -34,9 +35,9 @@ abbrev pub IsUnshown : SinkSeen → List ℕ → Error → Type 0
 IsUnshown sink text (WriteFault before after) = IsRefusedIn sink text before after
 IsUnshown sink text _ = ⊥
 
--- The answer to words that have no request, of which the line of a refusal is not written yet: some text was shown on `out`; or `out`
--- refused a write of it; or some text was told on `err`, or a prefix of it where `err` refused, which changes nothing in the answer; or
--- memory was wanting before anything was written.
+-- The answer to words that have no request, of which the line of a refusal is not written yet: some text was shown on
+-- `out`; or `out` refused a write of it; or some text was reported on `err`, or a prefix of it where `err` refused,
+-- which changes nothing in the answer; or memory was wanting before anything was written.
 pub data AnswersNone (given : RunArguments) (seen : RunSeen) (answer : Result RunEnd Error) : Type 0 where
   shown : MayShow given → (text : List ℕ) → Gained seen.out.old seen.out.new text → IsStill seen.err → answer ≡ Ok Shown → AnswersNone given seen answer
   unshown : MayShow given → (text : List ℕ) (error : Error) → IsUnshown seen.out text error → IsStill seen.err → answer ≡ Err error → AnswersNone given seen answer
@@ -45,7 +46,7 @@ pub data AnswersNone (given : RunArguments) (seen : RunSeen) (answer : Result Ru
 
 -- ---- completeness: but for want of memory, and for a refused write of help
 
--- words that are taken and ask for something have it told
+-- words that are taken and ask for something have it reported
 abbrev pub AnswersRequest : RunArguments → Option Request → RunEnd → Type 0
 AnswersRequest given told ended = (request : Request) → HasRequest given request → (told ≡ Some request) ⊎ (ended ≡ Refused Memory)
 

@@ -73,8 +73,8 @@ fn check_by<T: Tree, O: Sink, E: Sink, C: Catalog, I: Identifier>(
     }
 }
 
-/// The report that a request for a check asks for, behind what comes before it. What is told of the policy's load and
-/// what was found goes to `err`, and the summary to its sink.
+/// The report that a request for a check asks for, behind what comes before it. What is printed of the
+/// policy's load and what was found goes to `err`, and the summary to its sink.
 pub(crate) fn check_request<T: Tree, O: Sink, E: Sink, C: Catalog, I: Identifier>(
     alloc: Global,
     request: &Request,

@@ -20,7 +20,7 @@ use spdx_core::{Catalog, Identifier};
 use std::alloc::Global;
 use tree_core::{Sink, Tree};
 
-/// The crates of a request are listed on `out`; what is told of the policy's load goes to `err`.
+/// The crates of a request are listed on `out`; what is printed of the policy's load goes to `err`.
 pub(crate) fn list_request<T: Tree, O: Sink, E: Sink, C: Catalog, I: Identifier>(
     alloc: Global,
     request: &Request,
@@ -62,7 +62,8 @@ pub(crate) fn list_request<T: Tree, O: Sink, E: Sink, C: Catalog, I: Identifier>
     }
 }
 
-/// The verdicts on the crates of a request are written to `out`, and what is told of the policy's load to `err`.
+/// The verdicts on the crates of a request are written to `out`, and what is printed of the policy's load to
+/// `err`.
 pub(crate) fn record_request<T: Tree, O: Sink, E: Sink, C: Catalog, I: Identifier>(
     alloc: Global,
     request: &Request,
@@ -102,8 +103,8 @@ pub(crate) fn record_request<T: Tree, O: Sink, E: Sink, C: Catalog, I: Identifie
     }
 }
 
-/// It is told on `out` whether the verdict file at a path is right about the crates of a request; what is told of
-/// the policy's load goes to `err`.
+/// It is reported on `out` whether the verdict file at a path is right about the crates of a request; what is
+/// reported of the policy's load goes to `err`.
 pub(crate) fn verify_request<T: Tree, O: Sink, E: Sink, C: Catalog, I: Identifier>(
     alloc: Global,
     request: &Request,

@@ -1,8 +1,8 @@
 //! Laws of runs.
 ghost use Rattle.deny_run.specs.Laws.{LevelChangesNoReport, LevelKeepsStatus};
 
-/// The log level says which findings are written, and nothing else: what is asked, heard and reported at one level
-/// is so at each, and so are the counts and the status.
+/// The log level says which findings are written, and nothing else: what is asked, read and reported at one
+/// level is so at each, and so are the counts and the status.
 pub fn level_changes_no_report()
     ensures { LevelChangesNoReport }
 {}

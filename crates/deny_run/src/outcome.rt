@@ -10,13 +10,14 @@ use run_request::Request;
 pub enum RunEnd {
     /// The crates were checked.
     Checked(Report),
-    /// The licences of the crates were listed; the reads of each are told.
+    /// The licences of the crates were listed; the reads of each are reported.
     Listed(CrateReads),
     /// The crates of the sample were checked.
     Sampled(Report),
-    /// The verdicts on the crates were written; the reads of each crate are told.
+    /// The verdicts on the crates were written; the reads of each crate are reported.
     Recorded(CrateReads),
-    /// It was told whether the verdicts of a file are right, with the reads by which the crates' licences were settled.
+    /// It was reported whether the verdicts of a file are right, with the reads by which the crates' licences
+    /// were settled.
     Verified(VerifiedCrates),
     /// Help or the version was written.
     Shown,

@@ -69,12 +69,13 @@ fn outcome_of(request: Option<Request>, ended: RunEnd) -> Outcome
 }
 
 /// Runs the licence gate over the words of a command line, whose first is the program's name. Paths in them
-/// are read from `cwd`. Help and the version go to `out`, and the mistakes of words to `err`. What is told of the
-/// policy's load, then what was found, and the line of a refusal go to `err`; the summary goes to `out`, and as JSON
-/// to `err`.
+/// are read from `cwd`. Help and the version go to `out`, and the mistakes of words to `err`. What is
+/// reported of the policy's load, then what was found, and the line of a refusal go to `err`; the summary
+/// goes to `out`, and as JSON to `err`.
 ///
-/// The status is 0 where no finding is an error, 4 where one is, 2 where the words are not taken, and 1 after a
-/// refusal; it is 0 after help and the version. Where a verdict file is verified it is 0 where that is right, else 4.
+/// The status is 0 where no finding is an error, 4 where one is, 2 where the words are not taken, and 1 after
+/// a refusal; it is 0 after help and the version. Where a verdict file is verified it is 0 where that is
+/// right, else 4.
 pub fn run<T: Tree, O: Sink, E: Sink, C: Catalog, I: Identifier>(
     alloc: Global,
     words: &[String],

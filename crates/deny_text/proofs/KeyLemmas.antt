@@ -84,7 +84,7 @@ names_of_key (name ∷ names) good =
     ∙ names_append name (key_parts names)
     ∙ ap₂ ◌++◌ (one_name name good.0) (names_of_key names good.1)
 
--- ---- what stands in front of the names
+-- ---- what is in front of the names
 
 leading_name : (name rest : List ℕ) → IsGood name → leading_components (name ++ slash ∷ rest) ≡ []
 leading_name [] rest good = let bad : false ≡ true = good.named in cc

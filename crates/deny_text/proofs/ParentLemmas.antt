@@ -26,7 +26,7 @@ unfolding is_nil
 nil_from [] e = refl
 nil_from (x ∷ xs) e = cc
 
--- the byte trails, where the other stands before it
+-- the byte trails, where the other is before it
 test : ℕ → ℕ → Bool
 test byte before = byte == slash || (byte == dot && before == slash)
 

@@ -161,7 +161,7 @@ leading_same [] ys = refl
 leading_same (a ∷ []) ys = refl
 leading_same (a ∷ b ∷ xs) ys = refl
 
--- what stands before the slash decides the first parts
+-- what is before the slash decides the first parts
 first_parts : List ℕ → List (List ℕ)
 first_parts front = leading_components (front ++ slash ∷ []) ++ path_names front
 

@@ -8,7 +8,7 @@ is_at_sign byte = byte == 64
 abbrev pub is_colon : ℕ → Bool
 is_colon byte = byte == 58
 
--- what stands before the first such byte, and what stands behind it; none without one
+-- what is before the first such byte, and what is behind it; none without one
 abbrev pub cut_at : (ℕ → Bool) → List ℕ → Option (List ℕ × List ℕ)
 cut_at is_mark text =
     if nat_lt (position_or_len is_mark text) (length text)

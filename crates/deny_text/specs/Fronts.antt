@@ -1,6 +1,6 @@
 -- Lists that grow at their end.
 use Rattle.std.specs.Prelude.{◌≡◌, List, ◌++◌}
 
--- what stood in a list stays, in front of what was added
+-- what was there in a list stays, in front of what was added
 abbrev pub StandsInFront : {X : Type 0} → List X → List X → Type 0
 StandsInFront {X} old new = (more : List X) × (new ≡ old ++ more)

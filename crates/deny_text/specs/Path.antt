@@ -106,7 +106,7 @@ key_of path = flat_map (λ part. part ++ codes "/") (components_of path)
 abbrev pub KeysTellPaths : Type 0
 KeysTellPaths = (x y : List ℕ) → eq_by_cmp path_order x y ≡ eq_by_cmp (slice_cmp nat_cmp) (key_of x) (key_of y)
 
--- the texts are the same up to the place, and a slash stands there in both
+-- the texts are the same up to the place, and a slash is there in both
 pub record IsSharedSlash (x y : List ℕ) (place : ℕ) : Type 0 where
   pub in_first : place < length x
   pub in_second : place < length y

@@ -122,7 +122,7 @@ fn last_shared_slash(x: &str, y: &str) -> Option<usize>
     slash
 }
 
-/// The place where a slash stands there, and else the one before.
+/// The place where a slash is there, and else the one before.
 fn slash_at(byte: u8, place: usize, before: Option<usize>) -> Option<usize>
     ensures { result ≡ (if byte == 47 then Some place else before) }
 {

@@ -2,7 +2,7 @@
 ghost use Rattle.std.specs.Prelude.{◌↔◌, Any, IfOk, IfErr, IsTrue, IsSorted};
 ghost use Rattle.deny_text.specs.Search.{IsEqualPlace, IsOwnPlace};
 
-/// A place at which `query` stands, or else the place where it belongs.
+/// A place at which `query` is, or else the place where it belongs.
 #[tactic(auto, using(crate::proofs::SearchLemmas::own_place))]
 pub fn binary_search<T: Ord>(s: &[T], query: &T) -> Result<usize, usize>
     requires { IsSorted T.cmp s.now }

@@ -10,7 +10,7 @@ pub struct Span {
     pub end: usize,
 }
 
-/// A value and where it stands in its text. The place does not count in comparisons.
+/// A value and where it is in its text. The place does not count in comparisons.
 #[derive(Drop, Debug)]
 #[derive_where(PartialEq, Eq, PartialOrd, Ord; T)]
 pub struct Spanned<T> {

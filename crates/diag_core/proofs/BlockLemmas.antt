@@ -11,7 +11,7 @@ take_past [] rest n = ap (λ k. take k rest) {x = 0 + n} {y = n} (omega arith)
 take_past (x ∷ front) rest n =
     ap (λ k. take k (x ∷ (front ++ rest))) {x = suc (length front) + n} {y = suc (length front + n)} (omega arith) ∙ ap (λ l. x ∷ l) (take_past front rest n)
 
--- what stands before a place is what stands before an earlier one, and what is between them
+-- what is before a place is what is before an earlier one, and what is between them
 take_split : (xs : List ℕ) (low high : ℕ) → low ≤ high → high ≤ length xs → take high xs ≡ take low xs ++ slice_range xs low high
 take_split xs low high order within =
     let long : length (take low xs) ≡ low = omega (arith, length-take low xs) in

@@ -9,7 +9,7 @@ use Rattle.diag_core.specs.declared.position.FilesErr.TheVariants.{IndexTooLarge
 abbrev pub is_line_feed : ℕ → Bool
 is_line_feed byte = byte == 10
 
--- how many line feeds stand before the place
+-- how many line feeds are before the place
 abbrev pub line_of : List ℕ → ℕ → ℕ
 line_of text place = count_by is_line_feed (take place text)
 
@@ -17,7 +17,7 @@ line_of text place = count_by is_line_feed (take place text)
 abbrev pub line_count : List ℕ → ℕ
 line_count text = count_by is_line_feed text + 1
 
--- the places behind each line feed, in a text whose first byte stands at the place
+-- the places behind each line feed, in a text whose first byte is at the place
 abbrev pub places_behind_line_feeds : ℕ → List ℕ → List ℕ
 places_behind_line_feeds place [] = []
 places_behind_line_feeds place (byte ∷ text) =
@@ -43,7 +43,7 @@ begins_character byte = nat_lt byte 128 || nat_le 192 byte
 abbrev pub is_inside_character : List ℕ → ℕ → Bool
 is_inside_character text place = nat_lt place (length text) && not (begins_character (slice_index text place))
 
--- how many characters stand between the start of the place's line and the place
+-- how many characters are between the start of the place's line and the place
 abbrev pub column_of : List ℕ → ℕ → ℕ
 column_of text place = count_by begins_character (slice_range text (line_start text (line_of text place)) place)
 

@@ -22,7 +22,7 @@ fn character_count(bytes: &[u8]) -> usize
     bytes.iter().filter(|byte| begins_character(**byte)).count()
 }
 
-/// How many characters stand before each block of a text.
+/// How many characters are before each block of a text.
 pub(crate) fn count_blocks(alloc: Global, text: &[u8]) -> Result<Vec<usize>, AllocError>
     ensures { IfOk result (λ counts. CountsBlocks text.now counts.items) }
 {
@@ -36,7 +36,7 @@ pub(crate) fn count_blocks(alloc: Global, text: &[u8]) -> Result<Vec<usize>, All
     Ok(counts)
 }
 
-/// How many characters stand before a place, by the counts of the blocks before it.
+/// How many characters are before a place, by the counts of the blocks before it.
 pub(crate) fn characters_before(counts: &[usize], text: &[u8], place: usize) -> usize
     requires counted { CountsBlocks text.now counts.now }
     requires within { place ≤ length text.now }

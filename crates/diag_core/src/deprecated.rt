@@ -62,7 +62,7 @@ impl fmt::Display for DeprecationReason {
 /// A key that is no longer wanted.
 #[derive(Clone, Copy, Debug)]
 pub struct Deprecated {
-    /// Where the key stands in the file.
+    /// Where the key is in the file.
     pub key: Span,
     pub reason: DeprecationReason,
     pub file_id: FileId,

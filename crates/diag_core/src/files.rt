@@ -168,7 +168,7 @@ impl Files {
     }
 
     /// Makes the index of a file's lines, where there is none and memory for it: places in it are found fast
-    /// from then on. Without an index all that stands before a place is gone over.
+    /// from then on. Without an index all that is before a place is gone over.
     pub fn index(&mut self, id: FileId)
         ensures { self.new ≡ self.old }
     {

@@ -10,7 +10,7 @@ use crate::position::{FilesErr, Location};
 use deny_text::Span;
 use std::alloc::{AllocError, Global};
 
-/// Where the lines of a text start, and how many characters stand before each block of it.
+/// Where the lines of a text start, and how many characters are before each block of it.
 #[derive(Drop)]
 pub(crate) struct LineIndex {
     pub(crate) line_starts: Vec<usize>,
@@ -107,7 +107,7 @@ impl LineIndex {
         }
     }
 
-    /// How many characters stand before a place.
+    /// How many characters are before a place.
     fn characters_before(&self, text: &str, place: usize) -> usize
         requires index { Indexes self.now text.now }
         requires within { place ≤ length text.now }

@@ -1,4 +1,4 @@
-//! Lines and columns of a text without an index: all that stands before a place is gone over.
+//! Lines and columns of a text without an index: all that is before a place is gone over.
 ghost use Rattle.std.specs.Prelude.{◌≡◌, ◌<◌, ◌≤◌, ◌+◌, ◌^◌, ◌∷◌, [], length, count_by, slice_get};
 ghost use Rattle.diag_core.specs.Position.{line_of, line_end, line_range_of, column_of, is_line_feed};
 ghost use Rattle.diag_core.specs.Position.{line_starts};
@@ -8,7 +8,7 @@ use crate::characters::begins_character;
 use crate::position::{FilesErr, Location};
 use deny_text::Span;
 
-/// Where the byte behind a place stands.
+/// Where the byte behind a place is.
 fn behind(at: Location, byte: u8) -> Location
     requires line { at.line + 1 < 2 ^ 64 }
     requires column { at.column + 1 < 2 ^ 64 }

@@ -32,7 +32,7 @@ pub(crate) struct SourceFile {
     source: Text,
     /// Without it places are found by going over the text.
     index: Option<LineIndex>,
-    /// Where its licence field stands, once that was searched for.
+    /// Where its licence field is, once that was searched for.
     license: Option<Option<Span>>,
 }
 

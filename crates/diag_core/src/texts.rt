@@ -1,4 +1,4 @@
-//! Texts that a finding points into: where a manifest writes its licence, where a fault stands in an
+//! Texts that a finding points into: where a manifest writes its licence, where a fault is in an
 //! expression with slashes, and a text that is written in place of a manifest.
 
 pub mod manifest;

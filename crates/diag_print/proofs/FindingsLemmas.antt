@@ -64,7 +64,7 @@ module _ (old mid new : Option (List ℕ)) (pending text : List ℕ) (before : L
   pub pending_written : Gained mid new pending → Gained old new text
   pending_written gained = subst (Gained old new) before.parts (Gained-then old mid new before.front pending before.gained gained)
 
-  -- a front of what was pending and of a text behind it is a front of the whole
+  -- a prefix of what was pending and of a text behind it is a prefix of the whole
   pub pending_cut : (more rest whole : List ℕ) → whole ≡ text ++ (more ++ rest) → GainedPrefix mid new (pending ++ more) → GainedPrefix old new whole
   pending_cut more rest whole is cut = record {
     front = before.front ++ cut.front;
@@ -78,7 +78,7 @@ module _ (old mid new : Option (List ℕ)) (pending text : List ℕ) (before : L
     gained = Gained-then old mid new before.front cut.front before.gained cut.gained;
   }
 
-  -- a front of what was pending is a front of the text
+  -- a prefix of what was pending is a prefix of the text
   pub pending_left : GainedPrefix mid new pending → GainedPrefix old new text
   pending_left cut = record {
     front = before.front ++ cut.front;
@@ -92,12 +92,12 @@ module _ {A : Type 0} (f : A → List ℕ) (xs : List A) (i : ℕ) (x : A) (old 
   pub one_pending : (left : List ℕ) → LeavesPending mid new left (pending ++ f x) → LeavesPending old new left (flat_map f (take (i + 1) xs))
   one_pending left next = subst (LeavesPending old new left) (sym (text_more f xs i x within at)) (pending_more old mid new pending (flat_map f (take i xs)) before left (f x) next)
 
-  -- a front of them is a front of the whole
+  -- a prefix of them is a prefix of the whole
   pub one_pending_cut : GainedPrefix mid new (pending ++ f x) → GainedPrefix old new (flat_map f xs)
   one_pending_cut cut = pending_cut old mid new pending (flat_map f (take i xs)) before (f x) (flat_map f (drop (i + 1) xs)) (flat_map f xs) (text_cut f xs i x within at) cut
 
 module _ {A : Type 0} (f : A → List ℕ) (xs : List A) (i : ℕ) (old mid new : Option (List ℕ)) (pending : List ℕ) (before : LeavesPending old mid pending (flat_map f (take i xs))) (all : take i xs ≡ xs) where
-  -- behind the last item a front of what is pending is a front of the whole
+  -- behind the last item a prefix of what is pending is a prefix of the whole
   pub all_left : {T E : Type 0} (result : Result T E) → OnErr result (GainedPrefix mid new pending) → OnErr result (GainedPrefix old new (flat_map f xs))
   all_left (Ok value) cut = tt
   all_left (Err error) cut = subst (λ items. GainedPrefix old new (flat_map f items)) all (pending_left old mid new pending (flat_map f (take i xs)) before cut)

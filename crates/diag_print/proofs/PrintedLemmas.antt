@@ -26,7 +26,7 @@ same_held : (held : Option (List ℕ)) → Gained held held []
 same_held None = refl
 same_held (Some bytes) = ap Some (sym (append-nil bytes))
 
--- a sink that is as it was has gained a front of any text
+-- a sink that is as it was has gained a prefix of any text
 pub gained_none : {T E : Type 0} (result : Result T E) (held : Option (List ℕ)) (text : List ℕ) → OnErr result (GainedPrefix held held text)
 gained_none (Ok value) held text = tt
 gained_none (Err error) held text = record { front = []; rest = text; parts = refl; gained = same_held held }

@@ -10,7 +10,7 @@ use Rattle.serde_json.specs.Written.{outline}
 abbrev pub data_tokens : Data → List Token
 data_tokens value = json_tokens (outline value)
 
--- what stood before stays, and these tokens come behind those that were written
+-- what was there before stays, and these tokens come behind those that were written
 pub record Adds (old new : Written) (further : List Token) : Type 0 where
   pub before : new.before ≡ old.before
   pub tokens : new.tokens ≡ old.tokens ++ further

@@ -1,4 +1,4 @@
--- Checks that are told one after another.
+-- Checks that are reported one after another.
 use Rattle.std.proofs.Common.{◌≡◌, ◌∙◌, refl, ap, List, [], ◌∷◌, ◌++◌, append_assoc, flat_map}
 use Rattle.json.specs.Token.{end_object}
 use Rattle.json.specs.Tree.{members_tokens}

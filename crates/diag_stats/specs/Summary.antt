@@ -49,7 +49,7 @@ sink_counts out_before out_after err_before err_after = record {
   err_after = err_after;
 }
 
--- a sink refused a write, with these counts, and a front of the script was written
+-- a sink refused a write, with these counts, and a prefix of the script was written
 pub record IsCutShort (counts : FaultCounts) (before after : ℕ) (old new : SinkTexts) (script : Script) : Type 0 where
   pub begun : Script
   pub cut : IsCut counts before after script begun
@@ -65,7 +65,7 @@ abbrev pub count_of : OutputSink → ℕ → ℕ → ℕ
 count_of to_out out err = out
 count_of to_err out err = err
 
--- a refused write is told with the count of its sink right behind it
+-- a refused write is reported with the count of its sink right behind it
 abbrev pub HasCountBehind : OutputSink → ℕ → ℕ → PrintError → Type 0
 HasCountBehind target out err (WriteFault before after) = after ≡ count_of target out err
 HasCountBehind target out err Memory = Unit {0}

@@ -34,7 +34,7 @@ fn count_in(pack: &Pack, severity: Severity) -> u64
     count as u64
 }
 
-/// How many findings of packs are of this severity, or as many as can be told.
+/// How many findings of packs are of this severity, or as many as can be reported.
 fn count_at(packs: &[Pack], severity: Severity) -> u64
     ensures { result ≡ count_at packs.now severity }
 {

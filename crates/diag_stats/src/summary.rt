@@ -115,7 +115,7 @@ pub fn print_stats<O: Sink, E: Sink>(
         (record { out = O.written out.old; err = E.written err.old })
         (record { out = O.written out.new; err = E.written err.new })
         (summary_of log_ctx.format log_ctx.log_level show_stats stats.now)) }
-    // A refused write left a front of the summary; where memory was wanting nothing was written.
+    // A refused write left a prefix of the summary; where memory was wanting nothing was written.
     ensures err { IfErr result (IsUnwritten
         (sink_counts (O.fault_count out.old) (O.fault_count out.new) (E.fault_count err.old) (E.fault_count err.new))
         (record { out = O.written out.old; err = E.written err.old })

@@ -1,4 +1,4 @@
--- The calls of a crate's turn, and what further reads let hear.
+-- The calls of a crate's turn, and what further reads say.
 use Rattle.std.proofs.Common.{◌≡◌, ◌∙◌, ℕ, Bool, true, false, not, ◌&&◌, ◌||◌, cond, List, [], ◌∷◌, ◌++◌, map, append-nil, append_assoc, Option, None, Some, Result, Ok, Err, OnErr, is_some, refl, sym, ap, ap₂, subst}
 use Rattle.std.specs.List.{list_any}
 use Rattle.std.specs.Option.{option_to_list}
@@ -104,7 +104,7 @@ pub no_manifest : (scanner : Scanner) (clarifications : List ClarificationView) 
 no_manifest scanner clarifications krate known_reads =
     no_manifest_where known_reads (folder_of krate) (reads_of known_reads krate.license_file (named_files clarifications)) (looks_at_files scanner clarifications krate)
 
--- ---- what is heard of files is not changed by reads of manifests, and the other way round
+-- ---- what is read of files is not changed by reads of manifests, and the other way round
 
 pub known_reads_behind : (reads more : List AnsweredRead) → AreManifests (records_of_reads reads) → known_reads_by (reads ++ more) ≡ known_reads_by more
 known_reads_behind reads more are =
@@ -168,7 +168,7 @@ grows_located_by told tells before after old new path field files left (Ok locat
     subst (Grows files) (sym by.is.files_are) (grows_by path field files (manifest_by by.reads) (file_id_at files path))
 grows_located_by told tells before after old new path field files left (Err error) by stays = grows_same files left stays
 
--- ---- fronts
+-- ---- prefixes
 
 -- what is wanted first is wanted among more
 pub starves_wider : {told tells : Option Content} {before after : ℕ} {old new : List Call} (folder : List ℕ) (wanted wider : FolderReads → ReadResult → List ReadRecord)
@@ -214,7 +214,7 @@ with_next reads more next = ap (λ l. l ++ next) (records_in-append reads more) 
 abbrev manifest_asked : Bool → CrateRecord → List File → ReadResult → List ReadRecord
 manifest_asked asks krate files manifest = option_to_list (located_where asks krate files manifest).read
 
--- the records of a turn, by what is heard
+-- the records of a turn, by what is read
 abbrev pub wanted : Scanner → ℕ → List ClarificationView → CrateRecord → List File → FolderReads → ReadResult → List ReadRecord
 wanted scanner policy clarifications krate files known_reads manifest = records_in (turn_with scanner policy clarifications krate known_reads manifest files)
 

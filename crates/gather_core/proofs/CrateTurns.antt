@@ -1,4 +1,4 @@
--- The turns of crates, one after another, whose crates, whose reads, and what is told of them.
+-- The turns of crates, one after another, whose crates, whose reads, and what is reported of them.
 use Rattle.std.proofs.Common.{◌≡◌, ◌∙◌, ℕ, List, [], ◌∷◌, ◌++◌, map, refl, sym, ap, subst}
 use Rattle.std.proofs.lemmas.List.Sums.{fold-append}
 use Rattle.std.proofs.lemmas.Slice.Zip.{all_zipped_more}
@@ -36,7 +36,7 @@ module _ (scanner : Scanner) (policy : ℕ) (all : List ClarificationEntry) wher
   turns_push one files (first ∷ crates) =
       ap (λ (rest : List CrateTurn). turn_by scanner policy all files first ∷ rest) (turns_push one (files_behind (turn_by scanner policy all files first).turn) crates)
 
-  -- what is told of the crates is told of one more
+  -- what is reported of the crates is reported of one more
   pub turns_more : (one : ReadsOfCrate) (files : List File) (crates : List ReadsOfCrate) (licenses : List KrateLicense) (license : KrateLicense) (middle last : List File)
       → AreTurnsBy files (turns_of scanner policy all files crates) licenses middle → Grows middle last → IsTurnBy last (turn_by scanner policy all middle one) license
       → last ≡ files_behind (turn_by scanner policy all middle one).turn
@@ -60,7 +60,7 @@ module _ (scanner : Scanner) (policy : ℕ) (all : List ClarificationEntry) wher
         cuts = cut_grown middle last own.turn grows is.cuts;
       }
 
-  -- the crates of what is told
+  -- the crates of what is reported
   pub krates_told : (files : List File) (crates : List ReadsOfCrate) (licenses : List KrateLicense) (last : List File)
       → AreTurnsBy files (turns_of scanner policy all files crates) licenses last → map (λ (one : ReadsOfCrate). one.krate) crates ≡ map krate_of licenses
   krates_told files crates licenses last turns =

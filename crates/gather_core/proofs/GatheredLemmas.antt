@@ -11,7 +11,7 @@ use Rattle.gather_core.specs.declared.summary.KrateLicense.{KrateLicense}
 use Rattle.gather_core.specs.Told.{answer_view, info_by, notes_of, no_place}
 use Rattle.gather_core.specs.Turns.{IsTurn, TurnInput, info_in, located_in, points_in, basis_in}
 
--- ---- what is told has priority
+-- ---- what is reported has priority
 
 told_answer : (policy : ℕ) (location : Option Coord) (place : Coord) (by : LicenseBasis) → answer_view (info_by policy location place by) (notes_of (answer_in by)) ≡ answer_in by
 told_answer policy location place (Clarified held) = refl

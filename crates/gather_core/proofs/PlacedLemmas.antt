@@ -143,7 +143,7 @@ grows_behind turn =
     grows_then turn.files (files_located turn) (files_behind turn) (grows_located turn)
     (grows_left turn.krate (faults_in turn.scanner turn.krate) (located_in turn).location (files_located turn) (basis_in turn))
 
--- ---- what is taken stands in the policy's file
+-- ---- what is taken is in the policy's file
 
 module _ (files : List File) (policy : ℕ) where
   span_lies : (placed : List PlacedFile) (number : ℕ) → All (λ (file : PlacedFile). PlaceLies files policy file.span) placed → All (PlaceLies files policy) (option_to_list (span_at placed number))
@@ -198,7 +198,7 @@ held_grown files more policy (Files seen joined) stands = tt
 pub by_grown : (files new : List File) (policy : ℕ) (by : LicenseBasis) → Grows files new → ByStands files policy by → ByStands new policy by
 by_grown files new policy by grows stands = subst (λ (files : List File). ByStands files policy by) (sym grows.1) (held_grown files grows.0 policy by stands)
 
--- of a turn over a policy whose places stand in the table
+-- of a turn over a policy whose places are in the table
 pub missing_taken : (turn : TurnInput) (taken : LocatedLicense) (new : List File) → IsTaken turn taken new → All (IsClarificationPlaced turn.files turn.policy) turn.clarifications → All (PlaceLies new turn.policy) taken.missing
 missing_taken turn taken new is placed =
     subst (λ (missing : List Span). All (PlaceLies new turn.policy) missing) (sym is.missing)
@@ -214,7 +214,7 @@ held_taken turn taken new is placed =
     (subst (λ (files : List File). ByStands files turn.policy (basis_in turn)) (sym is.table)
     (by_grown turn.files (files_located turn) turn.policy (basis_in turn) (grows_located turn) stands))
 
--- those that are for a crate stand where all do
+-- those that are for a crate are where all do
 pub for_krate : (files : List File) (policy : ℕ) (krate : CrateRecord) (all : List ClarificationEntry) → ArePlacedIn files policy all → All (IsClarificationPlaced files policy) (clarifications_of krate all)
 for_krate files policy krate all placed =
     All-map (IsClarificationPlaced files policy) (λ (entry : ClarificationEntry). entry.clarification) _

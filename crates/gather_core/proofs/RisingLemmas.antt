@@ -16,7 +16,7 @@ use Rattle.gather_core.specs.Gathered.{all_reads}
 use Rattle.gather_core.proofs.CrateTurns.{reads_turned}
 use Rattle.gather_core.proofs.TurnCalls.{counts_of_all}
 
--- the records that are told of crates are those of their reads
+-- the records that are reported of crates are those of their reads
 records_told : (turns : List CrateTurn) (licenses : List KrateLicense) (last : List File) → AllZip (IsTurnBy last) turns licenses
     → records_of_reads (flat_map (λ (own : CrateTurn). own.reads) turns) ≡ all_reads licenses
 records_told [] [] last each = refl

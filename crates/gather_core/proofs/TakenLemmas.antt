@@ -1,4 +1,4 @@
--- What is taken at a crate's turn, by whatever is heard.
+-- What is taken at a crate's turn, by whatever is read.
 use Rattle.std.proofs.Common.{◌≡◌, ◌∙◌, ℕ, true, false, not, ◌&&◌, cond, List, [], ◌∷◌, ◌++◌, Option, None, Some, is_some, is_none, refl, sym, ap}
 use Rattle.std.specs.Option.{option_to_list}
 use Rattle.std.specs.Prelude.{option_map, unwrap_or}

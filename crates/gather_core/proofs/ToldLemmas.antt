@@ -1,4 +1,4 @@
--- Where what is told of a crate stands.
+-- Where what is reported of a crate is.
 use Rattle.std.proofs.Common.{◌≡◌, ◌∙◌, ℕ, zero, suc, ◌+◌, ◌-◌, ◌<◌, ◌≤◌, Bool, true, false, length, drop, List, [], ◌∷◌, Option, None, Some, unwrap_or, refl, sym, ap, subst, arith, length-drop}
 use Rattle.std.specs.Prelude.{is_none, option_and_then, option_map}
 use Rattle.std.specs.List.{All}

@@ -34,7 +34,7 @@ use Rattle.gather_core.proofs.GatheredLemmas.{map_push, priority_turn}
 
 -- ---- one crate
 
--- what is told of a crate is what its turn says by its own reads
+-- what is reported of a crate is what its turn says by its own reads
 pub license_answered : {told tells : Option Content} {before after : ℕ} {old new : List Call} (scanner : Scanner) (policy : ℕ) (all : List ClarificationEntry) (files last : List File) (krate : CrateRecord)
     (records : List ReadRecord) (reads : List AnsweredRead) (result : Result KrateLicense AllocError) → records_of_reads reads ≡ records → MadeReads told tells before after old new (folder_of krate) reads
     → IfOk result (λ license. krate_of license ≡ krate) → IfOk result (λ license. license.reads ≡ records)
@@ -86,7 +86,7 @@ reads_push : (crates : List ReadsOfCrate) (one : ReadsOfCrate) → reads_of_all 
 reads_push crates one =
     flat_map-append (λ (one : ReadsOfCrate). one.reads) crates (one ∷ []) ∙ ap (λ (reads : List AnsweredRead). reads_of_all crates ++ reads) (append-nil one.reads)
 
--- records tell what the answers let hear, and so do those of the next crate
+-- records tell what the answers say, and so do those of the next crate
 are_then : {told mid : Option Content} {before middle : ℕ} {old between : List Call} (crates : List ReadsOfCrate) (more : List AnsweredRead) → Made told mid before middle old between (calls_of_all crates)
     → AreReads before (reads_of_all crates) → AreReads middle more → AreReads before (reads_of_all crates ++ more)
 are_then {told} {mid} {before} {middle} crates more made first then =

@@ -1,4 +1,4 @@
--- What is told of a crate at its turn.
+-- What is reported of a crate at its turn.
 use Rattle.std.proofs.Common.{◌≡◌, ◌∙◌, List, ◌++◌, map, Option, sym, ap, subst}
 use Rattle.std.specs.List.{All}
 use Rattle.std.specs.Prelude.{unwrap_or}

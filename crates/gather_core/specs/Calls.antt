@@ -1,5 +1,5 @@
--- Over any tree, whatever it tells of its content: the calls that are made at the turns of crates, and what is so by what their
--- answers let hear.
+-- Over any tree, whatever it tells of its content: the calls that are made at the turns of crates, and what is so by
+-- what their answers say.
 use Rattle.std.specs.Prelude.{◌≡◌, ℕ, List, [], ◌∷◌, ◌++◌, map, fold, Option, All}
 use Rattle.std.specs.List.{AllZip, flat_map}
 use Rattle.std.specs.Option.{option_to_list}
@@ -25,23 +25,24 @@ use Rattle.gather_core.specs.Turns.{IsCutOut, IsTurn, TurnInput, files_behind, r
 
 -- ---- one crate
 
--- Reads with these records were made over a tree, for a crate in this folder: their calls were made, and no other, and this is so
--- by what their answers let hear of the crate's files and of its manifest.
+-- Reads with these records were made over a tree, for a crate in this folder: their calls were made, and no other, and
+-- this is so by what their answers say of the crate's files and of its manifest.
 pub record IsByOwnReads (told tells : Option Content) (before after : ℕ) (old new : List Call) (folder : List ℕ) (records : List ReadRecord) (IsSo : FolderReads → ReadResult → Type 0) : Type 0 where
   pub reads : List AnsweredRead
   pub recorded_are : records_of_reads reads ≡ records
   pub made : MadeReads told tells before after old new folder reads
   pub is_so : IsSo (known_reads_by reads) (manifest_by reads)
 
--- These reads were made over a tree, for a crate in this folder, and then memory was wanting, perhaps in the call of one more.
--- They, and that one, are the first ones of those that are made by what they let hear.
+-- These reads were made over a tree, for a crate in this folder, and then memory was wanting, perhaps in the call of
+-- one more. They, and that one, are the first ones of those that are made by what they say.
 pub record StarvesTaking (told tells : Option Content) (before after : ℕ) (old new : List Call) (folder : List ℕ) (wanted : FolderReads → ReadResult → List ReadRecord) : Type 0 where
   pub reads : List AnsweredRead
   pub next : Option ReadRecord
   pub made : LackedMemory told tells before after old new folder reads next
   pub front : IsFront (records_of_reads reads ++ option_to_list next) (wanted (known_reads_by reads) (manifest_by reads))
 
--- what is told of a crate is what its turn says by what is heard, and the labels of what is found cut out what they say
+-- what is reported of a crate is what its turn says by what is read, and the labels of what is found cut out what they
+-- say
 abbrev pub IsTurnHeard : Scanner → ℕ → List ClarificationEntry → List File → KrateLicense → List File → FolderReads → ReadResult → Type 0
 IsTurnHeard scanner policy all files license last known_reads manifest =
     IsTurn (turn_of scanner policy all known_reads manifest files license) license last
@@ -59,7 +60,7 @@ pub record CrateTurn : Type 0 where
   pub reads : List AnsweredRead
   pub turn : TurnInput
 
--- the turn of a crate among all, by what its own reads let hear, with the table that the crates before have left
+-- the turn of a crate among all, by what its own reads say, with the table that the crates before have left
 abbrev pub turn_by : Scanner → ℕ → List ClarificationEntry → List File → ReadsOfCrate → CrateTurn
 turn_by scanner policy all files one = record {
   reads = one.reads;
@@ -87,8 +88,8 @@ calls_of_all crates = flat_map (λ one. calls_in (folder_of one.krate) one.reads
 abbrev pub reads_of_all : List ReadsOfCrate → List AnsweredRead
 reads_of_all crates = flat_map (λ one. one.reads) crates
 
--- What is told of a crate is what its turn says by its own reads, which have the records that are told of it; it has priority by
--- them; and the labels of what is found cut out what they say, in the table that is left at last.
+-- What is reported of a crate is what its turn says by its own reads, which have the records that are reported of it;
+-- it has priority by them; and the labels of what is found cut out what they say, in the table that is left at last.
 pub record IsTurnBy (last : List File) (own : CrateTurn) (license : KrateLicense) : Type 0 where
   pub krate : own.turn.krate ≡ krate_of license
   pub recorded_are : records_of_reads own.reads ≡ license.reads
@@ -96,13 +97,13 @@ pub record IsTurnBy (last : List File) (own : CrateTurn) (license : KrateLicense
   pub answer : answer_view license.lic_info license.notes ≡ priority_of own.turn.scanner own.turn.clarifications own.turn.krate own.turn.known_reads
   pub cuts : IsCutOut last own.turn
 
--- what is told of crates, one by one, is what these turns say, and the table that is left at last is theirs
+-- what is reported of crates, one by one, is what these turns say, and the table that is left at last is theirs
 pub record AreTurnsBy (files : List File) (turns : List CrateTurn) (licenses : List KrateLicense) (last : List File) : Type 0 where
   pub each : AllZip (IsTurnBy last) turns licenses
   pub left : last ≡ files_behind_all files turns
 
--- Crates had their turns over a tree, each by its own reads: the calls of these were made, one crate after another, and no other;
--- their records tell what the answers let hear; and what is told of each crate is what its turn says by them.
+-- Crates had their turns over a tree, each by its own reads: the calls of these were made, one crate after another, and
+-- no other; their records tell what the answers say; and what is reported of each crate is what its turn says by them.
 pub record AreTurnsByReads (told tells : Option Content) (before after : ℕ) (old new : List Call) (scanner : Scanner) (policy : ℕ) (all : List ClarificationEntry) (files : List File) (licenses : List KrateLicense) (last : List File) : Type 0 where
   pub crates : List ReadsOfCrate
   pub made : Made told tells before after old new (calls_of_all crates)
@@ -111,8 +112,9 @@ pub record AreTurnsByReads (told tells : Option Content) (before after : ℕ) (o
 
 -- ---- for want of memory
 
--- Some of these crates, the first ones, had their turns over a tree, and memory was wanting at the turn of the next one, perhaps in
--- a call. Its reads, and that call's, are the first ones of those that its turn asks for by what they let hear.
+-- Some of these crates, the first ones, had their turns over a tree, and memory was wanting at the turn of the next
+-- one, perhaps in a call. Its reads, and that call's, are the first ones of those that its turn asks for by what they
+-- say.
 pub record StarvesGathering (told tells : Option Content) (before after : ℕ) (old new : List Call) (scanner : Scanner) (policy : ℕ) (all : List ClarificationEntry) (files : List File) (krates : List CrateRecord) : Type 0 where
   pub crates : List ReadsOfCrate
   pub begun : ReadsOfCrate

@@ -34,12 +34,12 @@ scanner_of_gatherer lists match_of gatherer = record {
   threshold = gatherer.threshold;
 }
 
--- ---- what of a policy gathering hangs on
+-- ---- what of a policy gathering depends on
 
 abbrev pub include_of : ValidConfig → Include
 include_of policy = record { dev = policy.include_dev; build = policy.include_build }
 
--- ---- what is told of each crate
+-- ---- what is reported of each crate
 
 abbrev pub krate_of : KrateLicense → CrateRecord
 krate_of license = record_of license.krate.now

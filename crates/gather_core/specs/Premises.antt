@@ -1,4 +1,4 @@
--- Where a policy's places stand, and where the places of what was gathered do.
+-- Where a policy's places are, and where the places of what was gathered do.
 use Rattle.std.specs.Prelude.{◌≡◌, ℕ, List, All, ⊤}
 use Rattle.diag_core.specs.File.{File}
 pub use Rattle.diag_core.specs.File.{Grows}
@@ -12,7 +12,7 @@ use Rattle.gather_core.specs.Entries.{ClarificationEntry}
 
 -- ---- what is asked of a policy
 
--- the paths of its files lie in the policy's file, and its expression stands there
+-- the paths of its files lie in the policy's file, and its expression is there
 pub record IsClarificationPlaced (files : List File) (policy : ℕ) (one : ClarificationView) : Type 0 where
   pub expression : StandsIn files policy one.offset one.whole one.expression.text
   pub paths : All (λ (file : PlacedFile). PlaceLies files policy file.span) one.files
@@ -22,7 +22,7 @@ ArePlacedIn files policy entries = All (λ (entry : ClarificationEntry). IsClari
 
 -- ---- what was taken
 
--- an expression of a clarification that settles the licence stands in the policy's file
+-- an expression of a clarification that settles the licence is in the policy's file
 abbrev pub ByStands : List File → ℕ → LicenseBasis → Type 0
 ByStands files policy (Clarified held) = StandsIn files policy held.offset held.whole held.expression.text
 ByStands files policy (Field expression) = ⊤
@@ -36,7 +36,7 @@ TextIs words (Files seen joined) = ⊤
 
 -- ---- what is left
 
--- each label lies in its file, between characters, and the expression stands in its own
+-- each label lies in its file, between characters, and the expression is in its own
 pub record IsPlacedAt (files : List File) (license : KrateLicense) : Type 0 where
   pub labels : All (LabelLies files) (labels_of license.diags)
   pub expression : InfoStands files license.lic_info

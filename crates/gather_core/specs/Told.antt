@@ -1,4 +1,4 @@
--- What is told of a crate's licence.
+-- What is reported of a crate's licence.
 use Rattle.std.specs.Prelude.{ℕ, List, [], Option, Some, None, option_map}
 use Rattle.std.specs.Option.{option_map_or}
 use Rattle.diag_core.specs.declared.label.Coord.{Coord}
@@ -12,7 +12,7 @@ use Rattle.gather_core.specs.declared.findings.license.LicenseExprSource.TheVari
 use Rattle.gather_core.specs.declared.findings.license.LicenseInfo.{LicenseInfo}
 use Rattle.gather_core.specs.declared.findings.license.LicenseInfo.TheVariants.{SpdxExpression, Unlicensed}
 
--- ---- where an expression's text stands
+-- ---- where an expression's text is
 
 -- at a place of a file of the table
 abbrev pub info_at : Coord → LicenseExprSource → LicenseExprInfo
@@ -25,8 +25,8 @@ no_place = record { file = 0; span = record { start = 0; end = 0 } }
 abbrev pub field_source : Option Coord → LicenseExprSource
 field_source location = Metadata (option_map (λ at. (at.file, at.span)) location)
 
--- The licence that is told: of a clarification, its expression with its place in the policy's file; of a field and of joined
--- names, the place that finding has given them.
+-- The licence that is reported: of a clarification, its expression with its place in the policy's file; of a field and
+-- of joined names, the place that finding has given them.
 abbrev pub joined_info : Coord → Option JoinedNames → LicenseInfo
 joined_info place None = Unlicensed
 joined_info place (Some joined) = SpdxExpression joined.expression (info_at place (LicenseFiles joined.paths))
@@ -41,7 +41,7 @@ abbrev pub joined_notes : Option JoinedNames → List (List ℕ)
 joined_notes None = []
 joined_notes (Some joined) = joined.notes
 
--- ---- the answer that has priority, as it is told
+-- ---- the answer that has priority, as it is reported
 
 abbrev pub source_view : LicenseExprSource → ExpressionSource
 source_view (Metadata location) = metadata

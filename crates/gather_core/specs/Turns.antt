@@ -1,4 +1,4 @@
--- One crate's turn: what it asks of the tree and of the file table, what is told of it, and what it leaves.
+-- One crate's turn: what it asks of the tree and of the file table, what is reported of it, and what it leaves.
 use Rattle.std.specs.Prelude.{◌≡◌, ℕ, Bool, ◌&&◌, List, [], ◌++◌, map, Option, Some, None, is_none, is_some, option_map, unwrap_or, if◌then◌else◌}
 use Rattle.std.specs.List.{All}
 use Rattle.std.specs.Option.{option_map_or, option_to_list}
@@ -31,8 +31,8 @@ use Rattle.gather_core.specs.declared.findings.license.LicenseInfo.{LicenseInfo}
 use Rattle.gather_core.specs.declared.summary.KrateLicense.{KrateLicense}
 use Rattle.gather_core.specs.Told.{info_by, notes_of, no_place}
 
--- What texts are identified by; the number of the policy's file; the clarifications that are for the crate; the crate; what is
--- heard of its folder and its files, and of its manifest; and the file table as the turn begins.
+-- What texts are identified by; the number of the policy's file; the clarifications that are for the crate; the crate;
+-- what is read of its folder and its files, and of its manifest; and the file table as the turn begins.
 pub record TurnInput : Type 0 where
   pub scanner : Scanner
   pub policy : ℕ
@@ -74,7 +74,7 @@ files_located turn = files_where (asks_manifest turn.clarifications turn.krate t
 
 -- ---- the reads
 
--- The record of the manifest stands before the listing of a third step, and behind what clarifications let read.
+-- The record of the manifest is before the listing of a third step, and behind what clarifications let read.
 abbrev pub in_order : Bool → Option ReadRecord → List ReadRecord → List ReadRecord
 in_order manifest_first manifest reads = if manifest_first then option_to_list manifest ++ reads else reads ++ option_to_list manifest
 
@@ -118,7 +118,7 @@ text_settled krate (Clarified held) = None
 text_settled krate (Field expression) = Some (field_text krate)
 text_settled krate (Files seen joined) = joined_expression_text joined
 
--- where the expression stands, what is found, and the table afterwards: nothing of a clarification
+-- where the expression is, what is found, and the table afterwards: nothing of a clarification
 abbrev pub points_for : CrateRecord → List ParseError → Option Coord → List File → LicenseBasis → PlacedFindings
 points_for krate faults location files by = option_map_or (λ outcome. points_of (case_with krate faults location outcome) files) (outcome_in by) no_points
 
@@ -137,7 +137,7 @@ points_in turn = points_for turn.krate (faults_in turn.scanner turn.krate) (loca
 abbrev pub findings_in : TurnInput → List Diag
 findings_in turn = missing_findings turn.policy (missing_of turn.known_reads turn.clarifications) ++ (points_in turn).findings
 
--- ---- what is told, and what is left
+-- ---- what is reported, and what is left
 
 abbrev pub info_in : TurnInput → LicenseInfo
 info_in turn = info_by turn.policy (located_in turn).location (unwrap_or (points_in turn).expression no_place) (basis_in turn)
@@ -164,7 +164,7 @@ pub record IsCutOut (files : List File) (turn : TurnInput) : Type 0 where
   pub lie : All (LabelLies files) (labels_of (points_in turn).findings)
   pub cuts : map (text_under files) (labels_of (points_in turn).findings) ≡ label_texts turn
 
--- what is told of a crate is what its turn says, and so is the table that it leaves
+-- what is reported of a crate is what its turn says, and so is the table that it leaves
 pub record IsTurn (turn : TurnInput) (license : KrateLicense) (files : List File) : Type 0 where
   pub info : license.lic_info ≡ info_in turn
   pub noted : license.notes ≡ notes_in turn

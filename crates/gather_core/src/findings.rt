@@ -1,5 +1,5 @@
 //! What is found on the way to a crate's licence: its findings, the places that they point at, and the
-//! manifest that is written in place of its own; and the licence, with where its expression stands.
+//! manifest that is written in place of its own; and the licence, with where its expression is.
 
 pub mod case;
 mod failures;

@@ -196,7 +196,7 @@ impl<'i, I: Identifier> Gatherer<'i, I> {
             (T.fault_count tree.new) (T.trace tree.old) (T.trace tree.new)
             (scanner_of_gatherer (C.lists catalog.now) I.match_of self.entry) policy.now.file_id (entries_of policy.now)
             files.old (selected_in (include_of policy.now) krates.entry.now)) }
-        // where the policy's places stand in its file, each label and each expression stands in its own, in the
+        // where the policy's places are in its file, each label and each expression is in its own, in the
         // table that is left
         ensures placed { ArePlacedIn files.old policy.now.file_id (entries_of policy.now)
             → IfOk result (λ summary. All (IsPlacedAt files.new) summary.nfos) }

@@ -1,4 +1,4 @@
-//! What is told of a crate, and what is found of it.
+//! What is reported of a crate, and what is found of it.
 ghost use Rattle.std.specs.Prelude.{◌≡◌, IfOk, OnOk, IfSome, All, map, option_copied};
 ghost use Rattle.std.specs.Prelude.{option_map};
 ghost use Rattle.graph_core.specs.Krate.{record_of};
@@ -79,7 +79,7 @@ fn settles(by: &LicenseBasis) -> Option<ExpressionBasis<'_>>
     }
 }
 
-/// What is found of a crate, and where its expression stands; nothing where a clarification settles its
+/// What is found of a crate, and where its expression is; nothing where a clarification settles its
 /// licence.
 fn find_points(
     alloc: Global,
@@ -120,7 +120,7 @@ fn find_points(
     }
 }
 
-/// What is told of a crate by what was taken at its turn.
+/// What is reported of a crate by what was taken at its turn.
 pub(crate) fn tell<'k>(
     alloc: Global,
     files: &mut Files,
@@ -140,7 +140,7 @@ pub(crate) fn tell<'k>(
     ensures found { (turn : TurnInput) → turn.krate ≡ record_of krate.now
         → faults.now ≡ faults_in turn.scanner turn.krate → IsTaken turn taken files.old
         → OnOk result (IsCutOut files.new turn) }
-    // where the policy's places stand in its file
+    // where the policy's places are in its file
     ensures placed { All (PlaceLies files.old policy) taken.missing → ByStands files.old policy taken.by
         → TextIs (field_text (record_of krate.now)) taken.by
         → IfOk result (λ license. IsPlacedAt files.new license) }

@@ -1,4 +1,4 @@
-//! What is told of a crate's licence, by what settles it.
+//! What is reported of a crate's licence, by what settles it.
 ghost use Rattle.std.specs.Prelude.{◌≡◌, None, unwrap_or};
 ghost use Rattle.gather_license.specs.Priority.{answer_in};
 ghost use Rattle.gather_core.specs.Told.{field_source, info_at, info_by, joined_info, joined_notes, notes_of};
@@ -31,7 +31,7 @@ fn place_or_nowhere(place: Option<Coord>) -> Coord
     }
 }
 
-/// An expression that stands at a place.
+/// An expression that is at a place.
 fn told_at(expr: Expression, at: Coord, source: LicenseExprSource) -> LicenseInfo
     ensures { result ≡ LicenseInfo.SpdxExpression expr (info_at at source) }
 {

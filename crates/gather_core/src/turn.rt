@@ -1,4 +1,4 @@
-//! What is taken at a crate's turn: what settles its licence, and where its field stands.
+//! What is taken at a crate's turn: what settles its licence, and where its field is.
 ghost use Rattle.std.specs.Prelude.{◌≡◌, ◌++◌, ◌&&◌, ℕ, not, true, false, IfOk, IfSome, OnErr, is_some};
 ghost use Rattle.std.specs.Prelude.{map};
 ghost use Rattle.std.specs.Option.{option_to_list};
@@ -54,7 +54,7 @@ fn reads_of(alloc: Global, read: Option<ReadRecord>) -> Result<Reads, AllocError
     Ok(reads)
 }
 
-/// Where a crate's field stands, where it has one; else its manifest is not asked for.
+/// Where a crate's field is, where it has one; else its manifest is not asked for.
 fn locate_field<T: Tree>(
     alloc: Global,
     tree: &mut T,

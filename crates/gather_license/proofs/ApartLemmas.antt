@@ -99,7 +99,7 @@ apart_in_order paths apart = apart_sorting [] paths tt apart (new_to_none paths)
 
 -- ---- files that are found by their paths
 
--- what is heard at the paths of files that are apart is what the files have, where each look-up agrees
+-- what is read at the paths of files that are apart is what the files have, where each look-up agrees
 pub heard_at_paths : (hears : List (List ℕ) → ReadResult) (files : List (List ℕ × ReadResult)) → AreApart (paths_of files)
     → ((path : List ℕ) (heard : ReadResult) → file_at files path ≡ Some heard → normal_heard (hears (components_of path)) ≡ heard)
     → map (λ path. (path, normal_heard (hears (components_of path)))) (paths_of files) ≡ files

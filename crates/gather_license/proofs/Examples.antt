@@ -51,7 +51,7 @@ krate license_file = record {
   rust_version = None;
 }
 
--- what is heard of one file; of any other, nothing is there
+-- what is read of one file; of any other, nothing is there
 abbrev known_reads : ReadResult → List ℕ → ReadResult → FolderReads
 known_reads listing path heard = record { listing = listing; file = λ parts. cond (pointwise bytes_eq (components_of path) parts) heard absent }
 
@@ -113,7 +113,7 @@ reads_no_listing = refl
 
 -- ---- files that are not there
 
--- nothing is there, and the place of the path is told
+-- nothing is there, and the place of the path is reported
 not_there : missing_of (known_reads listed (codes "COPYING") (text [])) (clarified (codes "LICENSE")) ≡ at_path ∷ []
 unfolding path_components path_names
 not_there = refl

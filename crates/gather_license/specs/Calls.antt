@@ -6,8 +6,8 @@ use Rattle.tree_core.specs.declared.reads.ReadRecord.{ReadRecord}
 use Rattle.tree_core.specs.file_reads.Read.{MadeReads, AnsweredRead, records_of_reads}
 use Rattle.gather_license.specs.files.KnownReads.{FolderReads, known_reads_by}
 
--- Reads with these records were made over a tree, for a crate in this folder: their calls were made, and no other, and this is so
--- by what their answers let hear.
+-- Reads with these records were made over a tree, for a crate in this folder: their calls were made, and no other, and
+-- this is so by what their answers say.
 pub record IsByReads (told tells : Option Content) (before after : ℕ) (old new : List Call) (folder : List ℕ) (recorded : List ReadRecord) (IsSo : FolderReads → Type 0) : Type 0 where
   pub reads : List AnsweredRead
   pub records : records_of_reads reads ≡ recorded

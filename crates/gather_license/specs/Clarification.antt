@@ -14,8 +14,8 @@ pub record PlacedFile : Type 0 where
   pub named : NamedFileView
   pub span : Span
 
--- The expression that a policy gives a crate, where it stands in the policy's file, and the files that have to have their
--- hashes. The text begins at the offset; of a string with escapes the whole place is told.
+-- The expression that a policy gives a crate, where it is in the policy's file, and the files that have to have their
+-- hashes. The text begins at the offset; of a string with escapes the whole place is reported.
 pub record ClarificationView : Type 0 where
   pub expression : ExpressionView
   pub offset : ℕ
@@ -36,7 +36,7 @@ held_in clarification = record { expression = clarification.expression; offset =
 abbrev pub lent_clarification : Bor ClarificationView → ClarificationView
 lent_clarification clarification = clarification.now
 
--- a clarification is told apart by its parts
+-- a clarification is distinguished by its parts
 abbrev pub placed_code : Coded PlacedFile
 placed_code =
     code_by (List ℕ × (ℕ × Span)) (coded× (coded_list coded_ℕ) (coded× coded_ℕ spans.the_row.coded))

@@ -38,7 +38,7 @@ field_of lists krate = option_and_then (field_read lists) krate.license
 
 -- ---- the third case: the licence files
 
--- what is heard of files, in order
+-- what is read of files, in order
 abbrev pub files_heard : FolderReads → List (List ℕ) → List (List ℕ × ReadResult)
 files_heard known_reads paths = map (λ path. (path, normal_heard (known_reads.file (components_of path)))) paths
 
@@ -71,8 +71,8 @@ settling_by (Some held) field files = Clarified held
 settling_by None (Some expression) files = Field expression
 settling_by None None files = files
 
--- what settles the licence of a crate, by the clarifications that are for it, in the policy's order, and what is heard of its
--- files
+-- what settles the licence of a crate, by the clarifications that are for it, in the policy's order, and what is read
+-- of its files
 abbrev pub basis_of : Scanner → List ClarificationView → CrateRecord → FolderReads → LicenseBasis
 basis_of scanner clarifications krate known_reads =
     settling_by (option_map held_in (holding_clarification known_reads clarifications)) (field_of scanner.lists krate)
@@ -80,7 +80,7 @@ basis_of scanner clarifications krate known_reads =
 
 -- ---- the expression that it gives
 
--- where an expression comes from; licence files are told by the paths of those that give a name
+-- where an expression comes from; licence files are reported by the paths of those that give a name
 pub data ExpressionSource : Type 0 where
   metadata : ExpressionSource
   user_override : ExpressionSource
@@ -98,7 +98,7 @@ answer_without_notes source expression = record { expression = expression; sourc
 abbrev pub joined_answer : JoinedNames → LicenseAnswer
 joined_answer joined = record { expression = joined.expression; source = license_files joined.paths; notes = joined.notes }
 
--- a clarification's as it stands in the policy, the field's, the names joined where a file gives one
+-- a clarification's as it is in the policy, the field's, the names joined where a file gives one
 abbrev pub answer_in : LicenseBasis → Option LicenseAnswer
 answer_in (Clarified held) = Some (answer_without_notes user_override held.expression)
 answer_in (Field expression) = Some (answer_without_notes metadata expression)

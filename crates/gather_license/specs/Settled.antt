@@ -34,8 +34,8 @@ abbrev pub missing_of : FolderReads → List ClarificationView → List Span
 missing_of known_reads [] = []
 missing_of known_reads (one ∷ more) = option_to_list (missing_in known_reads one) ++ (if holds known_reads (named_in one) then [] else missing_of known_reads more)
 
--- A crate's licence is settled by what has priority by some ears; what is not there is told, and the reads are recorded by
--- them.
+-- A crate's licence is settled by what has priority by some known reads; what is not there is reported, and the reads
+-- are recorded by them.
 pub record IsSettledBy (scanner : Scanner) (clarifications : List ClarificationView) (krate : CrateRecord) (known_reads : FolderReads) (settled : SettledLicense) : Type 0 where
   pub by_is : settled.by ≡ basis_of scanner clarifications krate known_reads
   pub missing_is : settled.missing ≡ missing_of known_reads clarifications

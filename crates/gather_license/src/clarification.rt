@@ -55,7 +55,7 @@ impl<'p> NamedFile for FileRef<'p> {
     }
 }
 
-/// The expression of a clarification that holds, and where it stands in the policy's file.
+/// The expression of a clarification that holds, and where it is in the policy's file.
 #[derive(Drop)]
 pub struct HeldClarification {
     pub expression: Expression,
@@ -65,7 +65,7 @@ pub struct HeldClarification {
     pub whole: Option<Span>,
 }
 
-/// A clarification: the expression that a policy gives a crate, where that stands in the policy's file, and
+/// A clarification: the expression that a policy gives a crate, where that is in the policy's file, and
 /// the files that it was read from.
 #[derive(Drop)]
 pub struct ClarificationRef<'p> {
@@ -112,7 +112,7 @@ impl<'p> ClarificationRef<'p> {
         }
     }
 
-    /// The expression and where it stands.
+    /// The expression and where it is there.
     pub fn held(&self, alloc: Global) -> Result<HeldClarification, AllocError>
         ensures { IfOk result (λ held. held ≡ held_in self.now) }
     {

@@ -1,4 +1,4 @@
-//! Where the licence field of a crate stands in its manifest.
+//! Where the licence field of a crate is in its manifest.
 
 pub mod location;
 mod search;

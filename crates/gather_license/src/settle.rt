@@ -194,7 +194,7 @@ fn is_nothing(clarifications: &[&ClarificationRef<'_>]) -> bool
 }
 
 /// What settles the licence of a crate: the first that holds of a clarification that is for it, with the
-/// expression as it stands there; its field, which is handed in as it was read; the names of its licence
+/// expression as it is there; its field, which is handed in as it was read; the names of its licence
 /// files, joined; else nothing. Its folder is listed, and licence files are read, where a clarification is
 /// for it, and where its field gives no expression.
 pub fn settle_license<T: Tree, I: Identifier, C: Catalog>(

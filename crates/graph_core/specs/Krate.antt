@@ -18,7 +18,8 @@ use Rattle.graph_core.specs.declared.krate.Krate.{Krate}
 abbrev pub Version : Type 0
 Version = ℕ × ℕ × ℕ × List ℕ × List ℕ
 
--- A crate without where it lies in memory. The features stand in the byte order of their names, each with what it turns on.
+-- A crate without where it lies in memory. The features are in the byte order of their names, each with what it turns
+-- on.
 pub record CrateRecord : Type 0 where
   pub name : List ℕ
   pub id : List ℕ

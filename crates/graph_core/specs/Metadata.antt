@@ -46,7 +46,7 @@ nodes_of all (krate ∷ crates) (edges ∷ lists) =
 
 -- ---- what holds of the parts
 
--- the ids rise strictly, so none stands twice
+-- the ids rise strictly, so none is there twice
 abbrev pub AreRising : List (List ℕ) → Type 0
 AreRising ids = IsStrictlySortedBy (slice_cmp nat_cmp) ids
 

@@ -32,7 +32,7 @@ pub struct Krate {
     pub description: Option<Text>,
     /// The path of its manifest.
     pub manifest_path: PathBuf,
-    /// The `license` field of the manifest, as it stands there.
+    /// The `license` field of the manifest, as it is there.
     pub license: Option<Text>,
     /// The `license-file` field of the manifest, by the folder of the manifest.
     pub license_file: Option<PathBuf>,

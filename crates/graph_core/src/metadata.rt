@@ -45,7 +45,7 @@ impl Model for Metadata {
 }
 
 impl Metadata {
-    /// Puts the parts together. The crates stand in the order of their ids, with the edges out of each; the
+    /// Puts the parts together. The crates are in the order of their ids, with the edges out of each; the
     /// members and the root are places among them.
     pub fn of_parts(
         crates: Vec<Krate>,

@@ -1,4 +1,4 @@
--- What is told of each item, one item after another.
+-- What is reported of each item, one item after another.
 use Rattle.std.proofs.Common.{◌≡◌, ℕ, ◌+◌, ◌<◌, ◌≤◌, List, [], ◌∷◌, ◌++◌, map, length, drop, get_or, Ok, Err, refl, sym, ◌∙◌, ap, subst, append_assoc, append-nil}
 use Rattle.std.proofs.lemmas.List.{drop_all}
 use Rattle.serde_json.specs.Data.{Data}
@@ -9,7 +9,7 @@ use Rattle.graph_metadata.specs.declared.fault.MetaError.TheVariants.{Syntax, Sh
 use Rattle.graph_metadata.specs.Told.{MetadataReading, ◌>>=◌, reading_of_each, each_item, items_in, Fails}
 use Rattle.graph_metadata.proofs.Drops.{at-drop}
 
--- what is told of the rest, behind what was told before
+-- what is reported of the rest, behind what was reported before
 abbrev pub onto : {T : Type 0} → List T → MetadataReading (List T) → MetadataReading (List T)
 onto done (Ok rest) = Ok (done ++ rest)
 onto done (Err fault) = Err fault
@@ -72,7 +72,8 @@ pub each-view : {T : Type 0} (row : ℕ → Data → MetadataReading T) (values 
     → each_item row (items_view values) ≡ reading_of_each (λ j value. row j (view value)) 0 values
 each-view row values = ap (reading_of_each row 0) (items-map values) ∙ each-map view row 0 values
 
--- ---- for a loop over the items: what is told of all is what is told of the rest, behind what was told before
+-- ---- for a loop over the items: what is reported of all is what is reported of the rest, behind what was reported
+-- ---- before
 
 module _ {A T : Type 0} (row : ℕ → A → MetadataReading T) (xs : List A) (i : ℕ) (done : List T) (whole : MetadataReading (List T)) where
   pub starts : done ≡ [] → whole ≡ reading_of_each row 0 xs → whole ≡ onto done (reading_of_each row 0 (drop 0 xs))

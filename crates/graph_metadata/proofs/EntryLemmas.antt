@@ -82,7 +82,7 @@ unfolding IsStrictlySortedBy
 keys-rise [] h = tt
 keys-rise (e ∷ es) h = (below-keys e.0 es (left _ _ h), keys-rise es (right _ _ h))
 
--- ---- entries whose keys stand at their values in a list of keys: no two have one value
+-- ---- entries whose keys are at their values in a list of keys: no two have one value
 
 module _ (ids : List (List ℕ)) where
   apart : (e f : List ℕ × ℕ) → T (is_lt (by_bytes e.0 f.0)) → HasIdAt ids e.0 e.1 → HasIdAt ids f.0 f.1 → f.1 ≡ e.1 → ⊥

@@ -16,7 +16,7 @@ use Rattle.graph_metadata.proofs.EntryLemmas.{AllEntries, keys-rise, none_some, 
 use Rattle.graph_metadata.proofs.SoundLemmas.{sound}
 
 module _ (firsts : IdPlaces) (crates : List CrateRecord) (lists : List (List Edge)) where
-  -- a crate that stands at its place has a node with its id
+  -- a crate that is at its place has a node with its id
   id-first : (krate : Option CrateRecord) (node : Option ℕ) (id : List ℕ) → option_map (λ one. one.id) krate ≡ Some id → (rest : List CrateNode)
       → map (λ one. one.krate.id) (cons_option (option_map (λ one. record { krate = one; edges = map (link_to crates) (edges_of_node lists node) }) krate) rest)
       ≡ id ∷ map (λ one. one.krate.id) rest

@@ -1,4 +1,4 @@
--- What was told tells what holds of it, row by row.
+-- What was reported tells what holds of it, row by row.
 use Rattle.std.proofs.Common.{◌≡◌, ℕ, zero, suc, ◌+◌, ◌<◌, ◌==◌, List, [], ◌∷◌, map, length, slice_get, true, false, cond, T, Option, Some, None, IfSome, option_map, Ok, Err, is_ok, refl, sym, ◌∙◌, ap, subst, arith, codes}
 use Rattle.std.specs.List.{AllByRecursion}
 use Rattle.std.specs.FinMap as finmap
@@ -61,7 +61,7 @@ module _ {A V : Type 0} (row : ℕ → A → MetadataReading V) where
   unfolding reading_of_each
   none i all e = sym (same_ok [] all e)
 
-  -- each item is told, and each that is told is of an item
+  -- each item is reported, and each that is reported is of an item
   pub each-at : (i : ℕ) (xs : List A) (ys : List V) → reading_of_each row i xs ≡ Ok ys → (j : ℕ) (x : A) → slice_get xs j ≡ Some x
       → (y : V) × (slice_get ys j ≡ Some y) × (row (i + j) x ≡ Ok y)
   each-at i [] ys e j x at = absurd (none_some x at)

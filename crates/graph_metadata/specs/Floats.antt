@@ -7,7 +7,7 @@ use Rattle.serde_json.specs.Written.{has_float}
 use Rattle.graph_metadata.specs.declared.fault.MetaReason.TheVariants.{Float}
 use Rattle.graph_metadata.specs.Told.{MetadataReading, meta_fault, with_key, with_index}
 
--- where the first float of a value stands, which itself stands at a place; none without one
+-- where the first float of a value is, which itself is at a place; none without one
 abbrev mutual
   pub float_in : List ℕ → Data → Option (List ℕ)
   float_in place null = None
@@ -27,7 +27,7 @@ abbrev mutual
   float_in_members place (member key first rest) =
       option_or (float_in (with_key place key) first) (float_in_members place rest)
 
--- the value, unless a float stands in it
+-- the value, unless a float is in it
 abbrev pub unless_found : Data → Option (List ℕ) → MetadataReading Data
 unless_found found None = Ok found
 unless_found found (Some place) = meta_fault place Float

@@ -18,7 +18,7 @@ rank_at ranks place = slice_index_or ranks place 0
 abbrev pub rank_of_member : List ℕ → Member → ℕ
 rank_of_member ranks member = rank_at ranks member.place
 
--- the rank of each of the first places is where it stands among them
+-- the rank of each of the first places is where it is among them
 abbrev pub AreRanks : List ℕ → ℕ → List ℕ → Type 0
 AreRanks places count ranks =
     (j place : ℕ) → j < count → slice_get places j ≡ Some place → slice_get places (rank_at ranks place) ≡ Some place

@@ -6,7 +6,7 @@ use Rattle.graph_metadata.specs.NodeRows.{member_of}
 use Rattle.graph_metadata.specs.Order.{AreRanks, spot_place, id_of_member, rank_at, rank_of_member, ranked_edges}
 use Rattle.graph_metadata.specs.Records.{spots_of}
 
--- the spots are those of the crates, and all else is told by their ranks
+-- the spots are those of the crates, and all else is reported by their ranks
 pub record AreOrdered (rows : AllRows) (parts : OrderedParts) : Type 0 where
   pub spots : parts.spots.items ≡ spots_of rows.root.known rows.nodes.firsts
   pub ranks : AreRanks (map spot_place (spots_of rows.root.known rows.nodes.firsts)) (length (spots_of rows.root.known rows.nodes.firsts)) parts.ranks.items

@@ -22,7 +22,7 @@ id_row known index found = do
   id ← text_at (Package index) (codes "id") found
   new_from index (key_place (Package index) (codes "id")) id (finmap.get known id)
 
--- the path of the manifest, which stands in a folder
+-- the path of the manifest, which is in a folder
 abbrev pub in_folder : List ℕ → List ℕ → Option (List ℕ) → MetadataReading (List ℕ)
 in_folder place path (Some folder) = Ok path
 in_folder place path None = meta_fault place NoFolder

@@ -1,4 +1,4 @@
--- The records of metadata: no JSON, the one fault that is told, or the crates with their edges.
+-- The records of metadata: no JSON, the one fault that is reported, or the crates with their edges.
 use Rattle.std.specs.Prelude.{◌≡◌, ℕ, List, [], map, Option, Some, None, option_map, unwrap_or, slice_get, Result, Ok, Err, ◌⊎◌}
 use Rattle.std.specs.FinMap as finmap
 use Rattle.std.specs.List.{filter_map}
@@ -27,7 +27,7 @@ pub record MetadataRows : Type 0 where
 
 -- ---- the graph of what the rows tell
 
--- where a crate stands in the text: the place of its package, and that of its node, where it has one
+-- where a crate is in the text: the place of its package, and that of its node, where it has one
 abbrev pub spot_of : IdPlaces → List ℕ × ℕ → Spot
 spot_of firsts entry = record { place = entry.1; node = finmap.get firsts entry.0 }
 
@@ -62,7 +62,7 @@ graph_of rows = record {
   root = option_map (id_of_package rows.crates) rows.resolve.root;
 }
 
--- ---- the whole, in the order in which faults are told
+-- ---- the whole, in the order in which faults are reported
 
 unfoldable pub rows_in : List ℕ → Data → MetadataReading MetadataRows
 rows_in sparse_dir found = do
@@ -95,6 +95,6 @@ IsMetaCause Memory told = Unit {0}
 IsMetaCause (Shape fault) told = told ≡ Some (Err fault)
 IsMetaCause Syntax told = told ≡ None
 
--- and what is told is answered, unless memory was refused
+-- and what is reported is answered, unless memory was refused
 abbrev pub AnswersOr : {T : Type 0} → Result T MetaError → Result T MetaError → Type 0
 AnswersOr result wanted = (result ≡ wanted) ⊎ (result ≡ Err Memory)

@@ -24,7 +24,7 @@ text_from place (Some _) = meta_fault place WrongKind
 abbrev pub text_at : ObjectPlace → List ℕ → Data → MetadataReading (List ℕ)
 text_at place key found = text_from (key_place place key) (get key found)
 
--- a string, or null; where nothing stands it counts as null
+-- a string, or null; where nothing is it counts as null
 abbrev pub optional_text_from : List ℕ → Option Data → MetadataReading (Option (List ℕ))
 optional_text_from place None = Ok None
 optional_text_from place (Some null) = Ok None
@@ -43,7 +43,7 @@ list_from place (Some _) = meta_fault place WrongKind
 abbrev pub list_at : ObjectPlace → List ℕ → Data → MetadataReading Items
 list_at place key found = list_from (key_place place key) (get key found)
 
--- a list; where nothing stands it is empty
+-- a list; where nothing is it is empty
 abbrev pub list_or_empty_from : List ℕ → Option Data → MetadataReading Items
 list_or_empty_from place None = Ok no_items
 list_or_empty_from place (Some (array items)) = Ok items

@@ -9,7 +9,7 @@ use Rattle.graph_metadata.specs.Records.{MetadataRows}
 abbrev pub HasIdAt : List (List ℕ) → List ℕ → ℕ → Type 0
 HasIdAt ids id place = slice_get ids place ≡ Some id
 
--- no place stands twice
+-- no place is there twice
 abbrev pub AreApart : List ℕ → Type 0
 AreApart [] = Unit {0}
 AreApart (place ∷ places) = AllByRecursion (λ other. other ≡ place → ⊥) places × AreApart places

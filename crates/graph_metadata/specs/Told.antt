@@ -1,4 +1,4 @@
--- What a walk over metadata answers: a value, or the one fault that is told, with its place.
+-- What a walk over metadata answers: a value, or the one fault that is reported, with its place.
 use Rattle.std.specs.Prelude.{◌≡◌, ℕ, ◌+◌, List, [], ◌∷◌, ◌++◌, codes, decimal, Result, Ok, Err, String, string_bytes}
 use Rattle.std.specs.Global.{Global}
 use Rattle.std.specs.declared.alloc.AllocError.{AllocError}
@@ -23,7 +23,7 @@ abbrev pub ◌>>=◌ : {A B : Type 0} → MetadataReading A → (A → MetadataR
 
 -- ---- lists
 
--- What is told of each item of a list, from the one at this index on. The first item with a fault tells it.
+-- What is reported of each item of a list, from the one at this index on. The first item with a fault tells it.
 unfoldable pub reading_of_each : {A T : Type 0} → (ℕ → A → MetadataReading T) → ℕ → List A → MetadataReading (List T)
 reading_of_each row index [] = Ok []
 reading_of_each row index (first ∷ rest) = do
@@ -48,11 +48,11 @@ with_key place key = place ++ codes "/" ++ key
 abbrev pub with_index : List ℕ → ℕ → List ℕ
 with_index place index = place ++ codes "/" ++ decimal index
 
--- where a dependency stands
+-- where a dependency is
 unfoldable pub dep_place : ℕ → ℕ → List ℕ
 dep_place i j = codes "/resolve/nodes/" ++ decimal i ++ codes "/deps/" ++ decimal j
 
--- where each object of metadata stands
+-- where each object of metadata is
 abbrev pub object_place_text : ObjectPlace → List ℕ
 object_place_text Root = []
 object_place_text (Package i) = codes "/packages/" ++ decimal i
@@ -77,13 +77,13 @@ item_place place key index = with_index (key_place place key) index
 
 -- ---- what a call answers
 
--- an error is want of memory, or the fault that is told
+-- an error is want of memory, or the fault that is reported
 abbrev pub Fails : {T : Type 0} → MetaError → MetadataReading T → Type 0
 Fails Memory told = Unit {0}
 Fails (Shape fault) told = told ≡ Err fault
 Fails Syntax told = ⊥
 
--- a result, seen by `view`, is what is told, unless memory was refused
+-- a result, seen by `view`, is what is reported, unless memory was refused
 abbrev pub AnswersMeta : {S T : Type 0} → (S → T) → Result S MetaError → MetadataReading T → Type 0
 AnswersMeta view (Ok value) told = told ≡ Ok (view value)
 AnswersMeta view (Err error) told = Fails error told

@@ -23,7 +23,7 @@ pub enum MetaReason {
     RepeatedId,
     /// An id that no package has.
     UnknownId,
-    /// The path of a manifest that stands in no folder.
+    /// The path of a manifest that is in no folder.
     NoFolder,
     /// A kind of dependency that is neither null nor `dev` nor `build`.
     UnknownKind,
@@ -77,7 +77,7 @@ impl<T: Drop> From<AllocFailed<T>> for MetaError {
     }
 }
 
-/// Where an object of the metadata stands, by its places in lists.
+/// Where an object of the metadata is, by its places in lists.
 #[derive(Clone, Copy, Debug)]
 pub(crate) enum ObjectPlace {
     Root,
@@ -89,7 +89,7 @@ pub(crate) enum ObjectPlace {
     Kind(usize, usize, usize),
 }
 
-/// Where a dependency stands: the places of its node and of itself.
+/// Where a dependency is: the places of its node and of itself.
 #[derive(Drop)]
 struct DepPlace {
     node: usize,

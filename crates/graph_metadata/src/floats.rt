@@ -64,7 +64,7 @@ fn with_index(alloc: Global, place: &str, index: usize) -> Result<String, AllocE
     Ok(text)
 }
 
-/// Where the first float of a value stands, which itself stands at a place.
+/// Where the first float of a value is, which itself is at a place.
 #[cycle(float_in)]
 fn float_in(alloc: Global, place: &str, value: &Value) -> Result<Option<Text>, AllocError>
     ensures { IfOk result (λ found. found ≡ spec.float_in place.now (view value.now)) }

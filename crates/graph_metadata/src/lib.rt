@@ -1,4 +1,4 @@
-//! Reads the metadata of a workspace: the rows of its table of shapes, and the one fault that is told.
+//! Reads the metadata of a workspace: the rows of its table of shapes, and the one fault that is reported.
 #![tactic(auto)]
 
 pub mod fault;

@@ -210,7 +210,7 @@ pub(crate) struct DepRow<'v> {
     pub(crate) kinds: Option<&'v [Value]>,
 }
 
-/// The list of kinds; where nothing stands there is none.
+/// The list of kinds; where nothing is there is none.
 fn kinds_list_at<'v>(
     alloc: Global,
     place: ObjectPlace,

@@ -19,7 +19,7 @@ use deny_text::{PathBuf, Text, Texts};
 use graph_core::{Edge, Edges, Krate, Metadata};
 use std::alloc::{AllocError, Global};
 
-/// Where a crate stands in the text: the place of its package, and that of its node, where it has one.
+/// Where a crate is in the text: the place of its package, and that of its node, where it has one.
 #[derive(Clone, Copy)]
 pub(crate) struct Spot {
     place: usize,

@@ -35,7 +35,7 @@ fn id_row<'v>(
     new_at(alloc, known, ObjectPlace::Package(index), index, id)
 }
 
-/// The path of the manifest, which stands in a folder.
+/// The path of the manifest, which is in a folder.
 #[tactic(auto, unfolding(crate::specs::Packages::manifest_row))]
 fn manifest_row<'v>(alloc: Global, index: usize, value: &'v Value) -> Result<&'v str, MetaError>
     ensures { AnswersMeta (λ path. path.now) result (spec.manifest_row index (view value.now)) }

@@ -76,7 +76,7 @@ pub(crate) fn list_at<'v>(
     }
 }
 
-/// A list; where nothing stands it is empty.
+/// A list; where nothing is it is empty.
 pub(crate) fn list_or_empty_at<'v>(
     alloc: Global,
     place: ObjectPlace,
@@ -144,7 +144,7 @@ pub(crate) fn texts_in(
     Ok(texts)
 }
 
-/// A list of strings; where nothing stands it is empty.
+/// A list of strings; where nothing is it is empty.
 #[tactic(auto, unfolding(crate::specs::Shape::texts_or_empty_at))]
 pub(crate) fn texts_or_empty_at(
     alloc: Global,

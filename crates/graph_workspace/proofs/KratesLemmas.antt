@@ -1,4 +1,4 @@
--- The crates from what was heard of the metadata's file, by what each step answers.
+-- The crates from what was read of the metadata's file, by what each step answers.
 use Rattle.std.proofs.Common.{◌≡◌, ◌∙◌, sym, ap, subst, ℕ, List, Option, Some, None, Result, Ok, Err, IfErr}
 use Rattle.tree_core.specs.Call.{Call}
 use Rattle.tree_core.specs.texts.Heard.{IsTextRead}
@@ -19,7 +19,7 @@ use Rattle.graph_workspace.specs.declared.error.KratesError.TheVariants.{Memory,
 use Rattle.tree_core.specs.texts.Cause.{heard_cause, ReadCounts}
 use Rattle.graph_workspace.specs.Krates.{krates_cause, error_of_build, error_of_records, graph_in, graph_or_error, sparse_dir, AreFrom, GathersBy, AnswersGraph}
 
--- ---- what is told
+-- ---- what is reported
 
 error_told : (told : Option (MetadataReading Graph)) (error : MetaError) → IsMetaCause error told → AnswersGraph (graph_or_error told) (Err (error_of_records error))
 error_told told records.Memory cause = tt

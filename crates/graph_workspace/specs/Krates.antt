@@ -1,4 +1,4 @@
--- The crates that metadata tells of, from what was heard of its file.
+-- The crates that metadata tells of, from what was read of its file.
 use Rattle.std.specs.Prelude.{◌≡◌, ℕ, List, [], ◌∷◌, ◌++◌, codes, Option, Some, None, Result, Ok, Err}
 use Rattle.tree_core.specs.Call.{CallAnswer, Call}
 use Rattle.graph_core.specs.Metadata.{Graph}
@@ -50,26 +50,26 @@ graph_or_error None = Err MetadataSyntax
 graph_or_error (Some (Err fault)) = Err (MetadataShape fault)
 graph_or_error (Some (Ok graph)) = Ok graph
 
--- the graph, from what was heard of the metadata's file
+-- the graph, from what was read of the metadata's file
 abbrev pub graph_in : Result (List ℕ) ReadFault → Result Graph KratesError
 graph_in (Ok text) = graph_or_error (metadata_of text sparse_dir)
 graph_in (Err fault) = Err (MetadataRead fault)
 
--- a call answers what is told, or for want of memory
+-- a call answers what is reported, or for want of memory
 abbrev pub AnswersGraph : Result Graph KratesError → Result Graph KratesError → Type 0
 AnswersGraph asked (Err Memory) = Unit {0}
 AnswersGraph asked result = asked ≡ result
 
 -- ---- the crates that a choice reaches in it
 
--- the crates that a choice reaches in the graph that is told
+-- the crates that a choice reaches in the graph that is reported
 pub record AreReached (choice : Choice) (asked : Result Graph KratesError) (chosen : ReachedCrates) : Type 0 where
   pub graph : Graph
   pub tells : asked ≡ Ok graph
   pub rooted : HasRoot graph choice
   pub reached : IsChosen graph choice chosen
 
--- no root is left of the graph that is told
+-- no root is left of the graph that is reported
 pub record AreRootless (choice : Choice) (asked : Result Graph KratesError) (base excluded unpublished : ℕ) : Type 0 where
   pub graph : Graph
   pub tells : asked ≡ Ok graph
@@ -87,7 +87,7 @@ AreFrom choice heard result = AreOf choice (graph_in heard) result
 
 -- ---- the crates that are gathered from a tree, by what it answered
 
--- one call was made, the read of the path; what its answer lets hear, and the crates from it
+-- one call was made, the read of the path; what its answer says, and the crates from it
 pub record AreKratesRead (choice : Choice) (begun after : ℕ) (old new : List Call) (path : List ℕ) (result : Result ReachedCrates KratesError) : Type 0 where
   pub heard : Result (List ℕ) ReadFault
   pub read : IsTextRead begun after old new path heard

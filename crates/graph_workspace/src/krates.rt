@@ -21,7 +21,7 @@ fn sparse_dir() -> &'static str
     "index.crates.io-1949cf8c6b5b557f"
 }
 
-/// What the metadata tells, from what was heard of its file. The text is let go before it is answered.
+/// What the metadata tells, from what was read of its file. The text is let go before it is answered.
 fn metadata_of(alloc: Global, heard: TextHeard) -> Result<Metadata, KratesError>
     ensures told { AnswersGraph (graph_in heard) result }
     ensures carried { IfErr result IsCarried }
@@ -32,7 +32,7 @@ fn metadata_of(alloc: Global, heard: TextHeard) -> Result<Metadata, KratesError>
     }
 }
 
-/// The crates that a selection reaches, from what was heard of the metadata's file.
+/// The crates that a selection reaches, from what was read of the metadata's file.
 fn krates_of(alloc: Global, heard: TextHeard, selection: &Selection) -> Result<Krates, KratesError>
     ensures from { AreFrom (choice_of selection.now) heard result }
     ensures carried { IfErr result IsCarried }

@@ -1,4 +1,4 @@
--- Files that are told one after another.
+-- Files that are reported one after another.
 use Rattle.std.proofs.Common.{◌≡◌, ℕ, Bool, true, false, ◌&&◌, List, [], ◌∷◌, ◌++◌, Option, Some, None, map, refl, sym, ap, ◌∙◌, append_assoc, append-nil, Result, is_ok, rules, take, get_or, length, ◌+◌, ◌<◌}
 use Rattle.std.specs.List.{All}
 use Rattle.std.proofs.lemmas.Grind.{flat_map-append}
@@ -29,7 +29,7 @@ names_more f items place item name within is named =
     ap (map f) (take_more items place item within) ∙ map-append f (take place items) (get_or items place item ∷ [])
     ∙ ap (λ last. map f (take place items) ++ last ∷ []) (ap f (sym is) ∙ sym named)
 
--- nothing is told of no file
+-- nothing is reported of no file
 pub told_none : (calls : List Call) (texts : SinkTexts) → AreTold [] calls calls texts texts true
 told_none calls texts = record {
   reads = [];
@@ -41,7 +41,7 @@ told_none calls texts = record {
   all = refl;
 }
 
--- what is told of one file
+-- what is reported of one file
 pub told_one : (path : List ℕ) (heard : Result (List ℕ) ReadFault) (begun behind : ℕ) (old new : List Call) (before after : SinkTexts) (is_told : Bool)
     → IsTextRead begun behind old new path heard → Gained before.out after.out (out_text path heard) → Gained before.err after.err (err_text path heard)
     → is_told ≡ is_ok heard → AreTold (path ∷ []) old new before after is_told
@@ -58,7 +58,7 @@ told_one path heard begun behind old new before after is_told read out err told 
       all = and_true (is_ok heard) ∙ sym told;
     }
 
--- further files behind those that were told
+-- further files behind those that were reported
 pub told_then : (named more : List (List ℕ)) (old middle new : List Call) (before between after : SinkTexts) (first second : Bool)
     → AreTold named old middle before between first → AreTold more middle new between after second
     → AreTold (named ++ more) old new before after (first && second)

@@ -4,7 +4,8 @@ use Rattle.deny_text.specs.Hash.{xxh32_of}
 use Rattle.deny_text.specs.Normal.{normal_of}
 use Rattle.diag_core.specs.texts.Manifest.{padded_digits, hash_text}
 
--- a byte that stands in a basic string by an escape alone: a control character, the quote and the backslash (TOML 1.0: String)
+-- a byte that is in a basic string by an escape alone: a control character, the quote and the backslash (TOML 1.0:
+-- String)
 abbrev pub is_special : ℕ → Bool
 is_special byte = nat_lt byte 32 || byte == 34 || byte == 92 || byte == 127
 

@@ -20,7 +20,7 @@ fault_words (NotUtf8 at) = codes "is no UTF-8, so no clarification can hold by i
 abbrev pub refusal_of : List ℕ → List ℕ → List ℕ
 refusal_of path words = codes "licence-hash: " ++ path ++ codes ": " ++ words ++ codes "\n"
 
--- what standard output gains by what is heard of a file: its entry
+-- what standard output gains by what is read of a file: its entry
 abbrev pub out_text : List ℕ → Result (List ℕ) ReadFault → List ℕ
 out_text path (Ok text) = entry_of path text
 out_text path (Err fault) = []
@@ -30,7 +30,7 @@ abbrev pub err_text : List ℕ → Result (List ℕ) ReadFault → List ℕ
 err_text path (Ok text) = []
 err_text path (Err fault) = refusal_of path (fault_words fault)
 
--- a read: the path, what the tree answered, and what is heard by that; the tree's counts of faults before it and behind
+-- a read: the path, what the tree answered, and what is read by that; the tree's counts of faults before it and behind
 pub record FileRead : Type 0 where
   pub path : List ℕ
   pub answer : CallAnswer
@@ -41,7 +41,7 @@ pub record FileRead : Type 0 where
 abbrev pub call_of : FileRead → Call
 call_of one = read_of one.path one.answer
 
--- what is heard is what the answer says
+-- what is read is what the answer says
 abbrev pub IsHeard : FileRead → Type 0
 IsHeard one = text_answered one.before one.after one.answer ≡ Some one.heard
 

@@ -6,7 +6,7 @@ use deny_text::hash::hash;
 use deny_text::normal::normalize;
 use std::alloc::{AllocError, Global};
 
-/// Whether a byte stands in a basic string of TOML by an escape alone.
+/// Whether a byte is in a basic string of TOML by an escape alone.
 fn is_special(byte: u8) -> bool
     ensures { result ≡ is_special byte }
 {

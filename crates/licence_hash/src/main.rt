@@ -14,7 +14,7 @@ usage: licence-hash FILE..
 Writes for each file the entry that `license-files` of a clarification takes. Run it in the crate's folder,
 since a clarification names a file from there on. Status 1: a file is not there, or is no text.";
 
-/// Writes a line on standard error. Where that refuses it, nothing else can be told.
+/// Writes a line on standard error. Where that refuses it, nothing else can be reported.
 fn complain(rt: &HostRuntime, line: &str) {
     let _ = eprintln!(rt; "{line}");
 }

@@ -54,7 +54,7 @@ fn refusal_of(alloc: Global, path: &str, words: &str) -> Result<String, AllocErr
     Ok(line)
 }
 
-/// Writes what is heard of a file: its entry, or why it has none. Says whether it has one.
+/// Writes what is read of a file: its entry, or why it has none. Says whether it has one.
 fn write_heard<O: Sink, E: Sink>(
     alloc: Global,
     out: &mut O,
@@ -80,7 +80,7 @@ fn write_heard<O: Sink, E: Sink>(
     }
 }
 
-/// Reads a file and writes what is heard of it. Says whether it has an entry.
+/// Reads a file and writes what is read of it. Says whether it has an entry.
 pub fn tell<T: Tree, O: Sink, E: Sink>(
     alloc: Global,
     tree: &mut T,

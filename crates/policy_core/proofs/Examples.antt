@@ -1,4 +1,4 @@
--- All that is told of a policy, in its order, worked out by hand from the rules.
+-- All that is reported of a policy, in its order, worked out by hand from the rules.
 use Rattle.std.proofs.Common.{◌≡◌, ℕ, false, List, [], ◌∷◌, Some, None, Ok, Err, codes, pos, refl}
 use Rattle.spdx_terms.specs.catalog.Catalog.{CatalogLists}
 use Rattle.deny_text.specs.declared.span.Span.{Span}
@@ -49,7 +49,7 @@ all_in_order : shaped_map (λ found. found.findings) (policy_of_files lists numb
     ∷ moved_key_finding (codes "output") 0 (at 0 1) ∷ [])
 all_in_order = refl
 
--- an absent policy is told first, by its path if there is one
+-- an absent policy is reported first, by its path if there is one
 absent : shaped_map (λ found. found.findings) (policy_of_files lists numbers (record { path = Some (codes "p"); value = None }) (policy_itself (codes "p")))
     ≡ Ok (absence_finding (Some (codes "p")) ∷ itself_finding (codes "p") ∷ [])
 absent = refl

@@ -1,4 +1,4 @@
--- What an exceptions file leaves, by what was heard and read of it.
+-- What an exceptions file leaves, by what was read of it.
 use Rattle.std.proofs.Common.{◌≡◌, ◌∙◌, refl, sym, ap, subst, ℕ, true, List, [], ◌∷◌, ◌++◌, append-nil, length, map, Ok, Err}
 use Rattle.spdx_terms.specs.catalog.Catalog.{CatalogLists}
 use Rattle.deny_text.specs.declared.span.Span.{Span}
@@ -36,7 +36,7 @@ kept_is lists file (Err fault) (Err (Syntax place)) reads is = refl
 kept_is lists file (Err fault) (Err (Shape faults)) reads is = absurd reads
 kept_is lists file (Err fault) (Err Memory) reads is = absurd is
 
--- and so is what is told
+-- and so is what is reported
 pub told_is : (lists : CatalogLists) (file : ℕ) (read : TomlReading Toml) (answer : ExceptionsAnswer) → ReadsBy lists read answer → HadMemory answer
     → exceptions_findings lists file (value_or_fault read) ≡ diagnostics_of file answer
 told_is lists file (Ok toml) (Ok held) reads is = ap (λ shaped. map (shape_diagnostic file) (faults_in shaped)) reads
@@ -53,7 +53,7 @@ state_is : (policy other : ValidConfig) (files more : List File) (found further 
     → (let one : LoadState = record { policy = policy; files = files; found = found } in one) ≡ record { policy = other; files = more; found = further }
 state_is policy other files more found further p f d = λ i. record { policy = p i; files = f i; found = d i }
 
--- the state behind a text that was heard and read
+-- the state behind a text that was read
 pub text_taken : (lists : CatalogLists) (path text : List ℕ) (file : ℕ) (answer : ExceptionsAnswer) (policy : ValidConfig) (files : List File) (found : List Diagnostic)
     (exceptions : List ValidException) (more : List File) (further : List Diagnostic)
     → ReadsBy lists (read_text text) answer → HadMemory answer → file ≡ length files

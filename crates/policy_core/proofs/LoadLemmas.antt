@@ -26,12 +26,12 @@ more_exceptions more written sorted puts = record {
   clarifications = puts.clarifications;
 }
 
--- all that is told, in one list
+-- all that is reported, in one list
 one_list : (first absence a c r e t g o : List Diagnostic) → ((((((first ++ absence) ++ ((a ++ c) ++ r)) ++ e) ++ t) ++ g) ++ o)
     ≡ first ++ (((((((absence ++ a) ++ c) ++ r) ++ e) ++ t) ++ g) ++ o)
 one_list first absence a c r e t g o = simp append_assoc refl
 
--- what is kept of a policy, by what was heard of its exceptions file
+-- what is kept of a policy, by what was read of its exceptions file
 pub keeps_policy : (lists : CatalogLists) (hearing : ExceptionsHeard) (file : ℕ) (absence : List Diagnostic) (root : RootConfig)
     (config : Config) (valid licenses : ValidConfig) (files more : List File) (found checked heard all : List Diagnostic)
     → config ≡ licenses_in root

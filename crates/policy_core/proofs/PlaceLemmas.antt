@@ -1,4 +1,4 @@
--- Each label of what is told of a policy, and of its exceptions file, points into its file.
+-- Each label of what is reported of a policy, and of its exceptions file, points into its file.
 use Rattle.std.proofs.Common.{◌≡◌, refl, sym, subst, ℕ, zero, suc, Bool, true, false, cond, List, [], ◌∷◌, ◌++◌, length, map, codes, Option, Some, None, Ok, Err}
 use Rattle.std.specs.Prelude.{⊤, unwrap_or}
 use Rattle.std.specs.List.{AllByRecursion, cons_option}
@@ -166,7 +166,7 @@ module _ (files : List File) (file : ℕ) (text : List ℕ) (source : source_of_
         (λ one kept. clarification_points one (first_fault strict_mode lists one.expression.value) (expression_of_text strict_mode lists one.expression.value) kept refl)
         config.clarify keeps.clarify
 
--- what is told of a policy whose places lie in the text of a file
+-- what is reported of a policy whose places lie in the text of a file
 pub validation_points : (lists : CatalogLists) → IsCatalog lists → (files : List File) (file : ℕ) (text : List ℕ) (config : Config) → source_of_file files file ≡ Some text
     → IsFileText text → ConfigKeeps text config → PointInto files (validation_findings lists file config)
 validation_points lists laws files file text config source is_text keeps =
@@ -215,7 +215,7 @@ exceptions_labels lists laws hearing old new text loads points =
     (both (PointsInto (old.files ++ heard_file_of hearing)) old.found (exceptions_findings lists (length old.files) (exceptions_read_of hearing))
     (point_into_more old.files (heard_file_of hearing) old.found points) (exceptions_point lists laws old.files hearing text))
 
--- ---- what is told in front of the two, and behind them
+-- ---- what is reported in front of the two, and behind them
 
 absence_points : (files : List File) (is_there : Bool) (path : Option (List ℕ)) → PointInto files (absence_findings is_there path)
 absence_points files true path = tt

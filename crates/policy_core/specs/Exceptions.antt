@@ -19,7 +19,7 @@ pub data ExceptionsRead : Type 0 where
   no_file : ExceptionsRead
   -- the file at this path is the policy, and is not read for a second time
   policy_itself : List ℕ → ExceptionsRead
-  -- no text was heard at this path, and why, in words
+  -- no text was read at this path, and why, in words
   no_text : List ℕ → List ℕ → ExceptionsRead
   -- its text has a syntax fault, at this place
   no_value : Span → ExceptionsRead
@@ -32,7 +32,7 @@ abbrev pub valid_exceptions_in : ℕ → ShapeReading ExceptionsFile → List Va
 valid_exceptions_in file (Ok held) = map (exception_in file) held.exceptions
 valid_exceptions_in file (Err faults) = []
 
--- the exceptions of a file, as they stand there
+-- the exceptions of a file, as they are there
 abbrev pub exceptions_kept : CatalogLists → ℕ → ExceptionsRead → List ValidException
 exceptions_kept lists file no_file = []
 exceptions_kept lists file (policy_itself path) = []
@@ -48,7 +48,7 @@ with_exceptions more policy = record policy { exceptions = policy.exceptions ++ 
 abbrev pub HasMoreExceptions : ValidConfig → ValidConfig → Type 0
 HasMoreExceptions old new = (more : List ValidException) × (new ≡ with_exceptions more old)
 
--- ---- what is told
+-- ---- what is reported
 
 abbrev pub path_note : List ℕ → List ℕ
 path_note path = codes "path = '" ++ path ++ codes "'"

@@ -1,4 +1,4 @@
--- What reading the text of an exceptions file answers, and what is kept and told of that.
+-- What reading the text of an exceptions file answers, and what is kept and reported of that.
 use Rattle.std.specs.Prelude.{◌≡◌, ℕ, List, [], ◌∷◌, map, Result, Ok, Err, ⊤}
 use Rattle.spdx_terms.specs.catalog.Catalog.{CatalogLists}
 use Rattle.diag_core.specs.declared.diagnostic.Diagnostic.{Diagnostic}
@@ -24,7 +24,7 @@ GivesExceptions read (Err (Syntax place)) = ⊥
 GivesExceptions read (Err (Shape faults)) = read ≡ Err faults
 GivesExceptions read (Err Memory) = ⊤
 
--- a text has a value, and the answer is its shape's; or it has a syntax fault, whose place is told
+-- a text has a value, and the answer is its shape's; or it has a syntax fault, whose place is reported
 abbrev pub ReadsBy : CatalogLists → TomlReading Toml → ExceptionsAnswer → Type 0
 ReadsBy lists (Ok toml) answer = GivesExceptions (exceptions_file_of lists toml) answer
 ReadsBy lists (Err fault) (Ok held) = ⊥
@@ -47,7 +47,7 @@ abbrev pub answer_exceptions : ℕ → ExceptionsAnswer → List ValidException
 answer_exceptions file (Ok held) = map (exception_in file) held.exceptions
 answer_exceptions file (Err reason) = []
 
--- and what is told of it
+-- and what is reported of it
 abbrev pub diagnostics_of : ℕ → ExceptionsAnswer → List Diagnostic
 diagnostics_of file (Ok held) = []
 diagnostics_of file (Err (Syntax place)) = syntax_finding file place ∷ []

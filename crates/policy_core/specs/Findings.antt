@@ -1,4 +1,4 @@
--- What is told of a policy that loads all the same.
+-- What is reported of a policy that loads all the same.
 use Rattle.std.specs.Prelude.{ℕ, List, [], ◌∷◌, ◌++◌, map, codes, Option, Some, None}
 use Rattle.std.specs.Option.{option_to_list}
 use Rattle.deny_text.specs.declared.span.Span.{Span}
@@ -26,7 +26,7 @@ target_finding file target =
       labels = label_at Primary file target.filter.span [] ∷ [];
     }
 
--- a key that stands in a table now
+-- a key that is in a table now
 abbrev pub moved_key_finding : List ℕ → ℕ → Span → Diagnostic
 moved_key_finding table file key =
     record (plain_diagnostic Warning) {

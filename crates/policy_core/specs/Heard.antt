@@ -1,4 +1,4 @@
--- What is heard of an exceptions file, and what that leaves.
+-- What is read of an exceptions file, and what that leaves.
 use Rattle.std.specs.Prelude.{ℕ, ◌<◌, ◌^◌, true, List, [], ◌∷◌, ◌++◌, codes, length, Ok, Err, ⊤}
 use Rattle.std.specs.Str.{IsUtf8}
 use Rattle.spdx_terms.specs.catalog.Catalog.{CatalogLists}
@@ -14,7 +14,7 @@ use Rattle.policy_core.specs.Exceptions.{ExceptionsRead, no_file, policy_itself,
 use Rattle.policy_core.specs.declared.exceptions.ExceptionsHeard.{ExceptionsHeard}
 use Rattle.policy_core.specs.declared.exceptions.ExceptionsHeard.TheVariants.{NoPath, ThePolicy, Heard}
 
--- why no text was heard
+-- why no text was read
 abbrev pub fault_words : ReadFault → List ℕ
 fault_words (Failed before after) = codes "read failed"
 fault_words Absent = codes "not found"
@@ -25,14 +25,14 @@ abbrev pub value_or_fault : TomlReading Toml → ExceptionsRead
 value_or_fault (Ok toml) = value toml
 value_or_fault (Err fault) = no_value fault.span
 
--- what is read of what is heard
+-- what is read of what is read
 abbrev pub exceptions_read_of : ExceptionsHeard → ExceptionsRead
 exceptions_read_of NoPath = no_file
 exceptions_read_of (ThePolicy path) = policy_itself path
 exceptions_read_of (Heard path (Ok text)) = value_or_fault (read_text text)
 exceptions_read_of (Heard path (Err fault)) = no_text path (fault_words fault)
 
--- a text that is heard goes behind the other files, under its path
+-- a text that is read goes behind the other files, under its path
 abbrev pub heard_file_of : ExceptionsHeard → List File
 heard_file_of NoPath = []
 heard_file_of (ThePolicy path) = []
@@ -44,7 +44,7 @@ pub record IsFileText (text : List ℕ) : Type 0 where
   pub utf8 : IsUtf8 text
   pub fits : length text < 2 ^ 64
 
--- what is heard as a text is one, whatever the tree tells
+-- what is read as a text is one, whatever the tree tells
 abbrev pub IsTextHeard : ExceptionsHeard → Type 0
 IsTextHeard NoPath = ⊤
 IsTextHeard (ThePolicy path) = ⊤

@@ -13,8 +13,8 @@ pub record Surroundings : Type 0 where
   pub files : List File
   pub found : List Diagnostic
 
--- what was found is kept, its lists in order, and told behind the findings so far; a text that was heard goes behind the
--- other files
+-- what was found is kept, its lists in order, and printed behind the findings so far; a text that was read goes behind
+-- the other files
 pub record Keeps (it : PolicyFound) (hearing : ExceptionsHeard) (old new : Surroundings) (loaded : LoadedPolicy) : Type 0 where
   pub licenses : PutsPolicyInOrder it.licenses loaded.licenses
   pub graph : loaded.graph ≡ it.graph

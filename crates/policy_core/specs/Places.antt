@@ -1,4 +1,4 @@
--- Where findings point, and where a policy stands.
+-- Where findings point, and where a policy is.
 use Rattle.std.specs.Prelude.{◌≡◌, ℕ, ◌+◌, List, length, slice_range, Option, Some, None}
 use Rattle.std.specs.List.{AllByRecursion}
 use Rattle.deny_text.specs.declared.span.Span.{Span}
@@ -43,7 +43,7 @@ pub record IsConfigPlaced (files : List File) (file : ℕ) (root : RootConfig) :
   pub is_text : IsFileText text
   pub keeps : RootKeeps text root
 
--- the text stands in the file from that place on, between characters
+-- the text is in the file from that place on, between characters
 pub record IsSpelledAt (files : List File) (file start : ℕ) (words : List ℕ) : Type 0 where
   pub text : List ℕ
   pub source : source_of_file files file ≡ Some text

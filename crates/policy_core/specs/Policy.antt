@@ -1,4 +1,4 @@
--- The policy that was read: what is valid of it, and all that is told of it.
+-- The policy that was read: what is valid of it, and all that is reported of it.
 use Rattle.std.specs.Prelude.{ℕ, Bool, if◌then◌else◌, List, [], ◌∷◌, ◌++◌, Option, is_some, unwrap_or}
 use Rattle.spdx_terms.specs.catalog.Catalog.{CatalogLists}
 use Rattle.diag_core.specs.declared.diagnostic.Diagnostic.{Diagnostic}
@@ -37,7 +37,7 @@ value_read read = unwrap_or read.value empty_table
 
 -- ---- what comes of it
 
--- The policy, its lists as they are written, the settings of graph and output, and all that is told, in order.
+-- The policy, its lists as they are written, the settings of graph and output, and all that is reported, in order.
 pub record PolicyFound : Type 0 where
   pub licenses : ValidConfig
   pub graph : GraphConfig
@@ -48,13 +48,13 @@ pub record PolicyFound : Type 0 where
 abbrev pub licenses_in : RootConfig → Config
 licenses_in root = unwrap_or root.licenses no_config
 
--- what is told where a policy is absent, by whether it is there
+-- what is reported where a policy is absent, by whether it is there
 abbrev pub absence_findings : Bool → Option (List ℕ) → List Diagnostic
 absence_findings is_there path = if is_there then [] else absence_finding path ∷ []
 
--- All that is told of a policy, in order: that it is absent; addresses that can't be read; clarifications whose expressions
--- can't; keys that were removed; what is wrong with the exceptions file; targets, which have no effect; keys that were moved
--- to the table `graph`, and the one that was moved to `output`.
+-- All that is reported of a policy, in order: that it is absent; addresses that can't be read; clarifications whose
+-- expressions can't; keys that were removed; what is wrong with the exceptions file; targets, which have no effect;
+-- keys that were moved to the table `graph`, and the one that was moved to `output`.
 abbrev pub load_findings : CatalogLists → FileNumbers → List Diagnostic → RootConfig → ExceptionsRead → List Diagnostic
 load_findings lists numbers absence root exceptions =
     absence

@@ -1,4 +1,4 @@
-//! The exceptions file, by what was heard of it.
+//! The exceptions file, by what was read of it.
 ghost use Rattle.std.specs.Prelude.{◌≡◌, ◌++◌, Ok, OnOk};
 ghost use Rattle.diag_core.specs.File.{Grows};
 ghost use Rattle.deny_text.specs.Fronts.{StandsInFront};
@@ -18,12 +18,12 @@ use spdx_core::Catalog;
 use std::alloc::{AllocError, Global};
 use tree_core::texts::TextHeard;
 
-/// What was heard of the exceptions file of a policy.
+/// What was read of the exceptions file of a policy.
 #[derive(Drop)]
 pub enum ExceptionsHeard {
     /// There is no path.
     NoPath,
-    /// The file at this path is the policy, of which nothing is heard for a second time.
+    /// The file at this path is the policy, of which nothing is read for a second time.
     ThePolicy(PathBuf),
     /// The text of the file at this path, or why there is none.
     Heard(PathBuf, TextHeard),
@@ -55,7 +55,7 @@ fn keep_or_tell(
     }
 }
 
-/// The exceptions of a text that was heard, or what is wrong with it; the text goes behind the other files.
+/// The exceptions of a text that was read, or what is wrong with it; the text goes behind the other files.
 fn take_text<C: Catalog>(
     alloc: Global,
     cfg: &mut ValidConfig,
@@ -80,12 +80,12 @@ fn take_text<C: Catalog>(
     }
 }
 
-/// Keeps and tells what was heard of an exceptions file: its exceptions go behind those of the policy, and its
-/// text, which gets the next number, behind the other files; what is wrong with it goes behind the findings so
-/// far. Of a file that is the policy, or of which no text was heard, that is told.
+/// Keeps and tells what was read of an exceptions file: its exceptions go behind those of the policy, and its
+/// text, which gets the next number, behind the other files; what is wrong with it goes behind the findings
+/// so far. Of a file that is the policy, or of which no text was read, that is reported.
 ///
-/// It is refused for want of memory alone; the three may have grown then. Files that are known keep their texts,
-/// findings their places, and the policy all that it has but more exceptions, whatever it answers.
+/// It is refused for want of memory alone; the three may have grown then. Files that are known keep their
+/// texts, findings their places, and the policy all that it has but more exceptions, whatever it answers.
 pub fn take_exceptions<C: Catalog>(
     alloc: Global,
     cfg: &mut ValidConfig,

@@ -1,4 +1,4 @@
-//! What is told of a policy's file and of its exceptions file.
+//! What is reported of a policy's file and of its exceptions file.
 ghost use Rattle.std.specs.Prelude.{◌≡◌, [], ◌∷◌, ◌++◌, codes, map, IfOk, OnOk};
 ghost use Rattle.std.specs.Option.{option_copied};
 ghost use Rattle.deny_text.specs.Fronts.{StandsInFront};
@@ -39,7 +39,7 @@ pub(crate) fn tell_itself(
     found.push(diag)
 }
 
-/// The words for why no text was heard.
+/// The words for why no text was read.
 fn fault_words(fault: ReadFault) -> &'static str
     ensures { result.now ≡ heard.fault_words fault }
 {

@@ -10,9 +10,9 @@ pub fn validations_keep_places()
     ensures kept { ValidPoliciesStand }
 {}
 
-/// What is told of an exceptions file that was heard points into that file, and each place that is kept of it
-/// lies there; what is told of a policy's settings points into the policy's file. What was told and kept before
-/// keeps its places.
+/// What is reported of an exceptions file that was read points into that file, and each place that is kept of
+/// it lies there; what is reported of a policy's settings points into the policy's file. What was reported
+/// and kept before keeps its places.
 pub fn exceptions_and_settings_keep_places()
     ensures exceptions_told { ExceptionsPoint }
     ensures exceptions_kept { ExceptionsStand }

@@ -1,5 +1,5 @@
-//! Policies: what of a policy that was read is valid, what its exceptions file adds by what was heard of it, and
-//! all that is told of the two.
+//! Policies: what of a policy that was read is valid, what its exceptions file adds by what was read of it,
+//! and all that is reported of the two.
 #![tactic(auto)]
 
 pub mod config;

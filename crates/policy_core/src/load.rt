@@ -66,8 +66,8 @@ fn licenses_or_default(alloc: Global, licenses: Option<Config>) -> Config
     }
 }
 
-/// What is valid of what a policy says of licences, before its exceptions file is heard; that the policy is absent
-/// and what is wrong with it goes behind the findings so far.
+/// What is valid of what a policy says of licences, before its exceptions file is read; that the policy is
+/// absent and what is wrong with it goes behind the findings so far.
 ///
 /// It is refused for want of memory alone; findings may have grown then, and keep their places.
 pub fn validate_policy<C: Catalog>(
@@ -116,8 +116,8 @@ fn tell_output_key(
     }
 }
 
-/// Tells of what has no effect in a policy, or stands in another table now, behind the findings so far, which keep
-/// their places. It is refused for want of memory alone.
+/// Tells of what has no effect in a policy, or is in another table now, behind the findings so far, which
+/// keep their places. It is refused for want of memory alone.
 pub fn tell_settings(
     alloc: Global,
     file: FileId,

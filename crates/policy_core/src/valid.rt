@@ -1,4 +1,4 @@
-//! Valid policies: what is left of a policy once the findings of its load are told, and what it says of
+//! Valid policies: what is left of a policy once the findings of its load are reported, and what it says of
 //! crates and terms.
 
 pub mod laws;

@@ -119,7 +119,7 @@ module _ (lists : CatalogLists) (context : LogContext) (paths : PolicyPaths) (te
 
 -- ---- the load
 
--- behind calls the count of faults is the one behind those that stand at the end
+-- behind calls the count of faults is the one behind those that are at the end
 pub counts_of : {told tells : Option Content} {before after : ℕ} {old new : List Call} → MadeSome told tells before after old new
     → (read : List Call) → new ≡ old ++ read → after ≡ faults_after before read
 counts_of {told} {tells} {before} {after} {old} {new} some read is = (made_these some is).counts
@@ -147,7 +147,7 @@ module _ (lists : CatalogLists) (context : LogContext) (paths : PolicyPaths) (te
   abbrev known : List File
   known = with_policy old paths text
 
-  -- by the text of the exceptions file the same is heard of it
+  -- by the text of the exceptions file the same is read of it
   further_so : (exceptions : ExceptionsHeard) (answer : Result RootConfig ConfigError) → ReadsFurther mid after between more known paths.exceptions exceptions answer
       → ReadsFurther mid after between more known paths.exceptions (exceptions_heard known paths.exceptions (text_of exceptions)) answer
   further_so exceptions (Ok root) reads =
@@ -179,7 +179,7 @@ module _ (lists : CatalogLists) (context : LogContext) (paths : PolicyPaths) (te
           (sym (ap (load_by_text lists old paths (text_of loads.exceptions)) is ∙ load_so loads.exceptions (config_of_text lists text.text) loads.reads)) loads.comes;
     }
 
-    -- behind the policy's text, which was heard
+    -- behind the policy's text, which was read
     pub reads_either : (IsUnprinted held behind result × MayReadFurther between more known paths.exceptions (config_of_text lists text.text))
         ⊎ LoadsTextBy lists context paths text mid after between more old new held behind result
         → IsCutLoad lists begun calls more old paths held behind result ⊎ LoadsBy lists context paths begun first after calls more old new held behind result

@@ -17,7 +17,7 @@ lists = record { licenses = []; exceptions = []; imprecise = [] }
 abbrev both : PolicyPaths
 both = record { policy = Some (codes "/p"); exceptions = Some (codes "/e") }
 
--- what is read behind this of the policy's file, where this is heard of the exceptions file
+-- what is read behind this of the policy's file, where this is read of the exceptions file
 abbrev Behind : PolicyPaths → Result (List ℕ) ReadFault → Result (List ℕ) ReadFault → List Call → List Call → Type 0
 Behind paths policy exceptions calls more = ReadsBehind lists [] paths 0 1 calls more exceptions (config_text_of policy)
 
@@ -49,7 +49,7 @@ module _ (calls more : List Call) (exceptions : Result (List ℕ) ReadFault) whe
   unfolding path_components path_names
   own_path reads = reads.1
 
--- by the answer of that read its bytes are heard, that nothing is there, or that it failed
+-- by the answer of that read its bytes are read, that nothing is there, or that it failed
 bytes_heard : (calls : List Call) (items : List ℕ) → Behind both (Ok []) (heard_of (Some (file items))) calls (calls ++ read_of (codes "/e") (bytes items) ∷ [])
 unfolding path_components path_names
 bytes_heard calls items = (heard_of (Some (file items)), refl, record { answer = bytes items; made = refl; hears = refl })

@@ -1,4 +1,4 @@
--- The exceptions file of a load: which file its path finds, and what is heard of it.
+-- The exceptions file of a load: which file its path finds, and what is read of it.
 use Rattle.std.proofs.Common.{◌≡◌, ◌∙◌, refl, sym, ap, subst, inl, inr, ℕ, suc, ◌+◌, true, false, cond, List, [], ◌∷◌, ◌++◌, length, Option, Some, None, Result, Ok, Err, arith}
 use Rattle.std.specs.Prelude.{is_some, OnErr}
 use Rattle.std.specs.List.{position_from}
@@ -38,13 +38,13 @@ last_alone old file path none id found =
       | false ↦ λ e. absurd (cc)
     ] (sym (id_at-last old file path none) ∙ found)
 
--- the text that is heard of it, or why there is none
+-- the text that is read of it, or why there is none
 pub text_of : ExceptionsHeard → Result (List ℕ) ReadFault
 text_of NoPath = Err Absent
 text_of (ThePolicy path) = Err Absent
 text_of (Heard path found) = found
 
--- by the answer of its read the same is heard
+-- by the answer of its read the same is read
 pub read_so : (known : List File) (path : Option (List ℕ)) (before after : ℕ) (calls more : List Call) (exceptions : ExceptionsHeard) → IsReadOf before after calls more known path exceptions
     → exceptions_heard known path (text_of exceptions) ≡ exceptions
 unfolding text_of

@@ -50,7 +50,7 @@ refused_comes context old held (config.ConfigSyntax fault) = record { answers = 
 refused_comes context old held (config.ConfigShape faults) = record { answers = refl; files = sym (append-nil old); prints = gained_nothing held [] refl }
 refused_comes context old held config.NotCarried = record { answers = refl; files = sym (append-nil old); prints = gained_nothing held [] refl }
 
--- the policy was validated, its exceptions file was heard and taken, and its settings were told
+-- the policy was validated, its exceptions file was read and taken, and its settings were reported
 pub loads_policy : (lists : CatalogLists) → IsCatalog lists → (before after : ℕ) (calls more : List Call) (file : ℕ) (is_there : Bool) (at : Option (List ℕ)) (root : RootConfig)
     (path : Option (List ℕ)) (config : Config) (hearing : ExceptionsHeard) (valid licenses : ValidConfig) (files new : List File) (found checked heard all : List Diagnostic)
     → IsConfigPlaced files file root → config ≡ licenses_in root

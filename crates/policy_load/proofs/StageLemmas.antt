@@ -62,7 +62,7 @@ quietly_refused context file old held (config.ConfigShape faults) none =
     record { answers = refl; files = sym (append-nil old); prints = gained_nothing held _ (ap (printed_findings context (old ++ [])) none) }
 quietly_refused context file old held config.NotCarried none = record { answers = refl; files = sym (append-nil old); prints = gained_nothing held [] refl }
 
--- what is wrong with a shape was printed, or a front of it
+-- what is wrong with a shape was printed, or a prefix of it
 pub shape_refused : (context : LogContext) (file : ℕ) (old : List File) (before behind : Option (List ℕ)) (faults : List ShapeFault) (refused : PrintError)
     → GainedPrefix before behind (printed_findings context old (map (shape_diagnostic file) faults))
     → Comes (refused_by file (config.ConfigShape faults)) context old old before behind (Err (error_of_print refused))
@@ -89,7 +89,7 @@ gains_all old new more (Err NotCarried) grown = grown
 gains_all old new more (Err (ConfigInvalid found)) grown = grown
 gains_all old new more (Err (WriteFault before after)) grown = grown
 
--- without an error the policy stands, and else it is refused
+-- without an error the policy is, and else it is refused
 passes : (it : PolicyFound) → list_any is_error it.findings ≡ false → unless_error it ≡ Ok it
 passes it none = ap (λ b. cond b (Err (ConfigInvalid it.findings)) (Ok it)) none
 
@@ -106,7 +106,7 @@ answered it policy (Err NotCarried) valid ends = refuses it NotCarried ends
 answered it policy (Err (ConfigInvalid found)) valid ends = refuses it (ConfigInvalid found) ends
 answered it policy (Err (WriteFault before after)) valid ends = tt
 
--- what was kept, told and printed comes of the policy
+-- what was kept, reported and printed comes of the policy
 pub root_comes : (lists : CatalogLists) (context : LogContext) (file : ℕ) (absence : List Diagnostic) (root : RootConfig) (exceptions : ExceptionsHeard)
     (old new : List File) (found : List Diagnostic) (before behind : Option (List ℕ)) (policy : LoadedPolicy) (result : Result LoadedPolicy LoadError)
     → Keeps (policy_found lists (numbers_at file old) absence (exceptions_read_of exceptions) root) exceptions (record { files = old; found = [] }) (record { files = new; found = found }) policy

@@ -63,7 +63,7 @@ AnswersLoad answer (Err Memory) = ⊤
 AnswersLoad answer (Err (WriteFault before after)) = ⊤
 AnswersLoad answer (Err error) = answer ≡ Err error
 
--- the sink gained the text, or a front of it where memory or a write was refused
+-- the sink gained the text, or a prefix of it where memory or a write was refused
 abbrev pub Prints : Option (List ℕ) → Option (List ℕ) → List ℕ → Result LoadedPolicy LoadError → Type 0
 Prints old new text (Err Memory) = GainedPrefix old new text
 Prints old new text (Err (WriteFault before after)) = GainedPrefix old new text
@@ -113,13 +113,14 @@ error_of_print print.Memory = Memory
 
 -- ---- by what a tree answered
 
--- Where the text is that of a policy, a value of its shape whose specs are carried, one call is made, the read of the exceptions file,
--- and its answer lets hear this; but none where there is no path, or where a known file has it. Where the text is refused, none is made.
+-- Where the text is that of a policy, a value of its shape whose specs are carried, one call is made, the read of the
+-- exceptions file, and its answer says this; but none where there is no path, or where a known file has it. Where the
+-- text is refused, none is made.
 abbrev pub ReadsFurther : ℕ → ℕ → List Call → List Call → List File → Option (List ℕ) → ExceptionsHeard → Result RootConfig ConfigError → Type 0
 ReadsFurther mid after calls more files path exceptions (Ok root) = IsReadOf mid after calls more files path exceptions
 ReadsFurther mid after calls more files path exceptions (Err refused) = more ≡ calls
 
--- the same behind the read of the policy, where a text was heard of it; else no further call is made
+-- the same behind the read of the policy, where a text was read of it; else no further call is made
 abbrev pub ReadsBehind : CatalogLists → List File → PolicyPaths → ℕ → ℕ → List Call → List Call → Result (List ℕ) ReadFault → Result ConfigText ConfigError → Type 0
 ReadsBehind lists old paths mid after calls more exceptions (Err refused) = more ≡ calls
 ReadsBehind lists old paths mid after calls more exceptions (Ok text) =
@@ -131,9 +132,9 @@ abbrev pub MayReadFurther : List Call → List Call → List File → Option (Li
 MayReadFurther calls more files path (Ok root) = MayReadOf calls more files path
 MayReadFurther calls more files path (Err refused) = more ≡ calls
 
--- The load of a policy: its file was read, then the exceptions file where that was due, and no other call was made; what the answers
--- let hear, and what came of that. The policy's read is told from the run's start on, the exceptions file's from its own. Behind the
--- policy's read the tree's count of faults is the one behind that call.
+-- The load of a policy: its file was read, then the exceptions file where that was due, and no other call was made;
+-- what the answers say, and what came of that. The policy's read is reported from the run's start on, the exceptions
+-- file's from its own. Behind the policy's read the tree's count of faults is the one behind that call.
 pub record LoadsBy (lists : CatalogLists) (context : LogContext) (paths : PolicyPaths) (begun first after : ℕ) (calls more : List Call)
     (old new : List File) (before behind : Option (List ℕ)) (result : Result LoadedPolicy LoadError) : Type 0 where
   pub heard : LoadHeard
@@ -144,15 +145,15 @@ pub record LoadsBy (lists : CatalogLists) (context : LogContext) (paths : Policy
   pub reads : ReadsBehind lists old paths mid after between more heard.exceptions (config_text_of heard.policy)
   pub comes : Comes (load_of lists old paths heard) context old new before behind result
 
--- the same where the policy's text was heard
+-- the same where the policy's text was read
 pub record LoadsTextBy (lists : CatalogLists) (context : LogContext) (paths : PolicyPaths) (text : ConfigText)
     (mid after : ℕ) (calls more : List Call) (old new : List File) (before behind : Option (List ℕ)) (result : Result LoadedPolicy LoadError) : Type 0 where
   pub exceptions : ExceptionsHeard
   pub reads : ReadsFurther mid after calls more (with_policy old paths text) paths.exceptions exceptions (config_of_text lists text.text)
   pub comes : Comes (load_by_config lists old paths exceptions text (config_of_text lists text.text)) context old new before behind result
 
--- The policy of this root in the file of this number was loaded, with its exceptions file, by the answer of that file's read,
--- between two counts of the tree's faults; what is told points into its file, and what is kept lies there.
+-- The policy of this root in the file of this number was loaded, with its exceptions file, by the answer of that file's
+-- read, between two counts of the tree's faults; what is reported points into its file, and what is kept lies there.
 pub record LoadsPolicyBy (lists : CatalogLists) (before after : ℕ) (calls more : List Call) (file : ℕ) (absence : List Diagnostic) (root : RootConfig)
     (path : Option (List ℕ)) (old new : Surroundings) (loaded : LoadedPolicy) : Type 0 where
   pub hearing : ExceptionsHeard
@@ -168,7 +169,8 @@ pub record LoadsRootBy (lists : CatalogLists) (context : LogContext) (file : ℕ
   pub reads : IsReadOf mid after calls more old path exceptions
   pub comes : Comes (rooted_by exceptions (policy_found lists (numbers_at file old) absence (exceptions_read_of exceptions) root)) context old new before behind result
 
--- memory was wanting behind the policy's text, which was heard: the exceptions file may have been read where that was due
+-- memory was wanting behind the policy's text, which was read: the exceptions file may have been read where that was
+-- due
 pub record MayReadBoth (lists : CatalogLists) (begun : ℕ) (calls more : List Call) (old : List File) (paths : PolicyPaths) : Type 0 where
   pub heard : Result (List ℕ) ReadFault
   pub mid : ℕ
@@ -178,7 +180,7 @@ pub record MayReadBoth (lists : CatalogLists) (begun : ℕ) (calls more : List C
   pub is : config_text_of heard ≡ Ok text
   pub further : MayReadFurther between more (with_policy old paths text) paths.exceptions (config_of_text lists text.text)
 
--- memory was wanting, nothing was printed, and the calls are a front of those of a load
+-- memory was wanting, nothing was printed, and the calls are a prefix of those of a load
 pub record IsCutLoad (lists : CatalogLists) (begun : ℕ) (calls more : List Call) (old : List File) (paths : PolicyPaths)
     (before behind : Option (List ℕ)) (result : Result LoadedPolicy LoadError) : Type 0 where
   pub unprinted : IsUnprinted before behind result

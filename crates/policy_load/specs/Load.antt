@@ -1,4 +1,4 @@
--- The load of a policy: what comes of what is heard of its files.
+-- The load of a policy: what comes of what is read of its files.
 use Rattle.std.specs.Prelude.{ℕ, Bool, true, List, [], ◌∷◌, ◌++◌, length, map, codes, Option, Some, None, Result, Ok, Err, if◌then◌else◌}
 use Rattle.std.specs.List.{list_any}
 use Rattle.spdx_terms.specs.catalog.Catalog.{CatalogLists}
@@ -56,17 +56,17 @@ policy_file path text = record { name = policy_name path; source = text; has_pat
 abbrev pub unless_error : PolicyFound → Result PolicyFound LoadError
 unless_error found = if list_any is_error found.findings then Err (ConfigInvalid found.findings) else Ok found
 
--- the policy whose file was added last, and what is told of it
+-- the policy whose file was added last, and what is reported of it
 abbrev pub found_by : CatalogLists → List File → ℕ → PolicyPaths → Bool → ExceptionsHeard → RootConfig → PolicyFound
 found_by lists files number paths is_there exceptions root =
     policy_found lists (numbers_at number files) (absence_findings is_there paths.policy) (exceptions_read_of exceptions) root
 
--- the policy's file and the exceptions file, where one was heard as a text, are added
+-- the policy's file and the exceptions file, where one was read as a text, are added
 abbrev pub loaded_by : File → ExceptionsHeard → PolicyFound → LoadResult
 loaded_by file exceptions found =
     record { files = file ∷ heard_file_of exceptions; findings = found.findings; answer = unless_error found }
 
--- by the policy as it is written, or its refusal, and what is heard of the exceptions file
+-- by the policy as it is written, or its refusal, and what is read of the exceptions file
 abbrev pub load_by_config : CatalogLists → List File → PolicyPaths → ExceptionsHeard → ConfigText → Result RootConfig ConfigError → LoadResult
 load_by_config lists old paths exceptions text (Err error) = record {
   files = policy_file paths.policy text.text ∷ [];
@@ -87,7 +87,7 @@ load_by_text lists old paths exceptions (Err error) = record { files = []; findi
 load_by_text lists old paths exceptions (Ok text) =
     load_by_config lists old paths (exceptions_heard (with_policy old paths text) paths.exceptions exceptions) text (config_of_text lists text.text)
 
--- What comes of what is heard, where these files are known: of the policy's text, its value, its shape, its specs of crates
--- to be left out, and then of all findings, the first refusal; else the policy.
+-- What comes of what is read, where these files are known: of the policy's text, its value, its shape, its specs of
+-- crates to be left out, and then of all findings, the first refusal; else the policy.
 abbrev pub load_of : CatalogLists → List File → PolicyPaths → LoadHeard → LoadResult
 load_of lists old paths heard = load_by_text lists old paths heard.exceptions (config_text_of heard.policy)

@@ -44,7 +44,7 @@ pub struct PolicyPaths {
     pub exceptions: Option<PathBuf>,
 }
 
-/// What is heard of the policy's file; where there is no path it is absent.
+/// What is read of the policy's file; where there is no path it is absent.
 fn hear<T: Tree>(
     alloc: Global,
     tree: &mut T,
@@ -158,7 +158,7 @@ fn refuse<S: Sink>(
     }
 }
 
-/// Prints what was told of a policy, which is refused where one of the findings is an error.
+/// Prints what was reported of a policy, which is refused where one of the findings is an error.
 fn finish<S: Sink>(
     alloc: Global,
     policy: LoadedPolicy,
@@ -183,8 +183,8 @@ fn finish<S: Sink>(
     Ok(policy)
 }
 
-/// What is heard of the exceptions file at a path. A known file that has the path is the policy, which is not read
-/// for a second time.
+/// What is read of the exceptions file at a path. A known file that has the path is the policy, which is not
+/// read for a second time.
 fn hear_at<T: Tree>(
     alloc: Global,
     tree: &mut T,
@@ -205,7 +205,7 @@ fn hear_at<T: Tree>(
     Ok(ExceptionsHeard::Heard(path, text))
 }
 
-/// What is heard of the exceptions file, if there is a path.
+/// What is read of the exceptions file, if there is a path.
 fn hear_exceptions<T: Tree>(
     alloc: Global,
     tree: &mut T,
@@ -224,11 +224,11 @@ fn hear_exceptions<T: Tree>(
     }
 }
 
-/// The policy that a file's text was read as, with the exceptions of its exceptions file, which is heard once the
-/// policy is validated; all that is told of the two goes behind the findings so far.
+/// The policy that a file's text was read as, with the exceptions of its exceptions file, which is read once
+/// the policy is validated; all that is reported of the two goes behind the findings so far.
 ///
-/// The path of the policy's file, and no other one, may be equal to that of the exceptions file, part by part.
-/// It is refused for want of memory alone.
+/// The path of the policy's file, and no other one, may be equal to that of the exceptions file, part by
+/// part. It is refused for want of memory alone.
 fn load_policy<T: Tree, C: Catalog>(
     alloc: Global,
     source: &PolicySource<'_>,
@@ -268,7 +268,7 @@ fn load_policy<T: Tree, C: Catalog>(
 }
 
 /// A policy that has its shape, whose file is known: it is validated, its exceptions file is read, and what
-/// is told of the two is printed.
+/// is reported of the two is printed.
 fn load_root<T: Tree, S: Sink, C: Catalog>(
     alloc: Global,
     paths: PolicyPaths,
@@ -321,7 +321,7 @@ fn read_text<C: Catalog>(alloc: Global, text: &str, catalog: &C) -> Result<RootC
     read_config(alloc, text, catalog)
 }
 
-/// The policy of a text that was heard.
+/// The policy of a text that was read.
 fn load_text<T: Tree, S: Sink, C: Catalog>(
     alloc: Global,
     paths: PolicyPaths,
@@ -361,9 +361,9 @@ fn load_text<T: Tree, S: Sink, C: Catalog>(
 }
 
 /// Loads a policy: its file is read, parsed and validated, its exceptions file is read, the texts are added
-/// to `files`, and what is told of them is printed at the context's format and level. A policy that is absent
-/// is empty, under its own path, or as `deny.default.toml` where there is no path. `begun` is the tree's
-/// count of faults when the run began.
+/// to `files`, and what is reported of them is printed at the context's format and level. A policy that is
+/// absent is empty, under its own path, or as `deny.default.toml` where there is no path. `begun` is the
+/// tree's count of faults when the run began.
 ///
 /// No file that is known may have the path of one of the two. Files that are known keep their texts, whatever
 /// it answers; after want of memory nothing is said of those that were added.
@@ -384,7 +384,7 @@ pub fn load<T: Tree, S: Sink, C: Catalog>(
     // Each place that the policy keeps lies in its file.
     ensures places { IfOk result (λ loaded. PolicyStands files.new loaded.licenses) }
 
-    // Its files were read, each where it was due, and no other call was made; what the answers let hear is
+    // Its files were read, each where it was due, and no other call was made; what the answers say is
     // answered, added and printed, and nothing else.
     ensures reads { IsCutLoad (C.lists catalog.now) begun (T.trace tree.old) (T.trace tree.new) files.old
         paths (S.written sink.old) (S.written sink.new) result

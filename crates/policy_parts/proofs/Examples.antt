@@ -1,4 +1,4 @@
--- Parts of a policy, worked out by hand from the table of keys. A key stands at 1..2, a value at the place of its row.
+-- Parts of a policy, worked out by hand from the table of keys. A key is at 1..2, a value at the place of its row.
 use Rattle.std.proofs.Common.{◌≡◌, ℕ, ◌^◌, true, false, List, [], ◌∷◌, Some, None, Ok, Err, codes, pos, negsuc, refl}
 use Rattle.deny_text.specs.declared.span.Span.{Span}
 use Rattle.toml_subset.specs.Data.{TomlContent, Entries, Toml, string, integer, boolean, table, array, no_item, item, no_entry, entry}
@@ -101,7 +101,7 @@ no_graph = refl
 
 -- ---- targets
 
--- a target that misses its triple tells that alone; what is wrong with its features is told with other keys behind
+-- a target that misses its triple tells that alone; what is wrong with its features is reported with other keys behind
 targets : (target_of (value (text (codes "t"))) ≡ Ok (record { filter = record { value = codes "t"; span = at 3 9 }; features = [] }))
     × (target_of (rows (row (codes "features") (at 10 11) (integer (pos 1)) no_entry)) ≡ Err (fault_alone (missing (codes "triple")) (at 3 9)))
     × (target_of (rows (row (codes "z") (at 10 11) (integer (pos 1)) (row (codes "features") (at 12 13) (integer (pos 1))

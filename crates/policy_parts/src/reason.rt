@@ -11,7 +11,7 @@ use std::alloc::Global;
 use toml_subset::shapes::{ValueKind, refuse};
 use toml_value::refuse_kind;
 
-/// Why an entry of a policy stands there.
+/// Why an entry of a policy is there.
 #[derive(Drop)]
 pub struct Reason(pub Spanned<Text>);
 

@@ -1,4 +1,4 @@
--- A table that is read key by key: what is left of it, where it stands, and what was wrong so far.
+-- A table that is read key by key: what is left of it, where it is there, and what was wrong so far.
 use Rattle.std.specs.Prelude.{ℕ, Bool, ◌⊎◌, if◌then◌else◌, List, [], ◌∷◌, ◌++◌, Option, Some, None, Ok, Err, option_map}
 use Rattle.std.proofs.Common.{inl, inr}
 use denote.MutBor.{MutBor}
@@ -84,7 +84,7 @@ unexpected_faults (name ∷ names) span = fault_alone (unexpected_keys (name ∷
 abbrev pub faults_at_end : Bool → HelperState → List ShapeFault
 faults_at_end goes_back state = if goes_back then state.faults else state.faults ++ unexpected_faults (names_in state.left) state.span
 
--- what stands behind a reference that may be there, at the end of a call
+-- what is behind a reference that may be there, at the end of a call
 abbrev pub target_at_exit : Unit {0} ⊎ ((MutBor Value × Unit {0}) ⊎ ⊥) → Option Toml
 target_at_exit (inl none) = None
 target_at_exit (inr (inl some)) = Some (value_view some.0.now)

@@ -172,7 +172,7 @@ pub(crate) fn read_value<T: Deserialize<X>, X>(
     T::deserialize(alloc, &mut value, context)
 }
 
-/// All faulty items of a list are told, in the order of their places.
+/// All faulty items of a list are reported, in the order of their places.
 impl<X, T: Deserialize<X> + Drop> Deserialize<X> for ListOf<T> {
     ghost reads = { λ context. list_of (T.reads context) };
 

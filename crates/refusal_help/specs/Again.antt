@@ -1,4 +1,4 @@
--- What is heard of the policy once more, behind a run that refused it.
+-- What is read of the policy once more, behind a run that refused it.
 use Rattle.std.specs.Prelude.{◌≡◌, ℕ, Bool, true, false, List, [], ◌∷◌, ◌++◌, Option, Some, None, Result, Ok}
 use Rattle.std.specs.Option.{ForSome}
 use Rattle.tree_core.specs.Call as call
@@ -13,11 +13,11 @@ use Rattle.run_found.specs.declared.error.Error.TheVariants.{ConfigRead, ConfigS
 use Rattle.run_request.specs.declared.context.KrateContext.{KrateContext}
 use Rattle.refusal_help.specs.declared.again.Again.{Again}
 
--- a call that was told that a regular file stands at a path
+-- a call that was reported that a regular file is at a path
 abbrev pub file_there : List ℕ → Call
 file_there path = record { asked = call.is_file; path = path; answer = call.told true }
 
--- A text is heard only of a regular file: it was asked whether one stands at the path, and then that was read.
+-- A text is read only of a regular file: it was asked whether one is at the path, and then that was read.
 pub record IsReadAgain (old new : List Call) (path text : List ℕ) : Type 0 where
   pub begun : ℕ
   pub after : ℕ
@@ -29,7 +29,7 @@ pub record IsHeardAgain (context : KrateContext) (old new : List Call) (path : L
   pub path_is : IsConfigPath context old looked (Some path)
   pub text_is : ForSome text (IsReadAgain looked new path)
 
--- what is known again is what was heard
+-- what is known again is what was read
 abbrev pub IsAgain : KrateContext → List Call → List Call → Again → Type 0
 IsAgain context old new again = ForSome again.policy (λ path. IsHeardAgain context old new path again.text)
 
@@ -40,7 +40,7 @@ pub data SearchesAgain (context : KrateContext) (old new : List Call) (found : O
   searched : IsConfigPath context old new found → SearchesAgain context old new found
   given_up : (error : SearchError) → ConfigPathUntil context old new error → found ≡ None → SearchesAgain context old new found
 
--- it was asked whether a regular file stands at a path; and where one does it may have been read
+-- it was asked whether a regular file is at a path; and where one does it may have been read
 pub data AsksForText (path : List ℕ) (old new : List Call) : Type 0 where
   looked : (answer : Result Bool TreeError) → new ≡ old ++ file_call path answer ∷ [] → AsksForText path old new
   read : (answer : CallAnswer) → new ≡ (old ++ file_there path ∷ []) ++ read_of path answer ∷ [] → AsksForText path old new

@@ -1,4 +1,4 @@
--- What is told behind the line of a refusal: where it comes from, and what to do.
+-- What is printed behind the line of a refusal: where it comes from, and what to do.
 use Rattle.std.specs.Prelude.{ℕ, ◌+◌, Bool, true, false, ◌&&◌, List, [], ◌∷◌, ◌++◌, Option, Some, None, Result, Ok, Err, codes, decimal}
 use Rattle.std.specs.Str.{bytes_eq}
 use Rattle.deny_text.specs.Path.{join_of}
@@ -126,8 +126,8 @@ twice_help name first second =
 
 -- ---- the whole
 
--- By the request and by what was heard of the policy behind the run. A policy whose shape is wrong, or that is not valid, was told
--- of before the line, with its places; a refused write and want of memory have no help.
+-- By the request and by what was read of the policy behind the run. A policy whose shape is wrong, or that is not
+-- valid, was reported of before the line, with its places; a refused write and want of memory have no help.
 unfoldable pub help_of : Request → Again → Error → List ℕ
 help_of request again Memory = []
 help_of request again (NotCarried what) = advice (what_words what)

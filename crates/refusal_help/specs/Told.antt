@@ -1,4 +1,4 @@
--- What is told behind a refusal, and what is asked for it.
+-- What is printed behind a refusal, and what is asked for it.
 use Rattle.std.specs.Prelude.{◌≡◌, ◌⊎◌, ℕ, List, Option}
 use Rattle.tree_core.specs.Call.{Call}
 use Rattle.tree_core.specs.Script.{LineWritten}
@@ -8,11 +8,11 @@ use Rattle.refusal_help.specs.declared.again.Again.{Again}
 use Rattle.refusal_help.specs.Again.{IsAgain, IsAskedWhereDue}
 use Rattle.refusal_help.specs.Help.{help_of}
 
--- the lines were written, or a front of them where the sink refused it; where memory was wanting, none of them
+-- the lines were written, or a prefix of them where the sink refused it; where memory was wanting, none of them
 abbrev pub LinesWritten : Option (List ℕ) → Option (List ℕ) → ℕ → ℕ → List ℕ → Type 0
 LinesWritten old new before after lines = LineWritten old new before after lines ⊎ ((new ≡ old) × (after ≡ before))
 
--- the calls that a tree told at two moments, and what a sink told, with its counts of faults
+-- the calls that a tree reported at two moments, and what a sink reported, with its counts of faults
 pub record ToldBetween : Type 0 where
   pub calls_old : List Call
   pub calls_new : List Call
@@ -31,7 +31,7 @@ pub record IsStill (told : ToldBetween) : Type 0 where
   pub text : told.new ≡ told.old
   pub count : told.after ≡ told.before
 
--- the help of a refusal was written, by what was heard of the policy once more
+-- the help of a refusal was written, by what was read of the policy once more
 pub record TellsHelp (request : Request) (error : Error) (told : ToldBetween) : Type 0 where
   pub again : Again
   pub due : IsAskedWhereDue request.krate_ctx error told.calls_old told.calls_new

@@ -1,4 +1,4 @@
-//! What is heard of the policy once more, behind a run that refused it.
+//! What is read of the policy once more, behind a run that refused it.
 ghost use Rattle.std.specs.Prelude.{◌≡◌, Some, None};
 ghost use Rattle.std.specs.Option.{ForSome};
 ghost use Rattle.refusal_help.specs.Again.{AsksAgain, AsksForText, AsksWhere, IsAgain, IsAskedWhereDue, IsReadAgain};
@@ -12,7 +12,7 @@ use std::alloc::Global;
 use tree_core::Tree;
 use tree_core::texts::read_file_text;
 
-/// Where the policy is, and its text, as they were heard behind a run.
+/// Where the policy is, and its text, as they were read behind a run.
 #[derive(Drop)]
 pub struct Again {
     pub policy: Option<PathBuf>,
@@ -21,7 +21,7 @@ pub struct Again {
 }
 
 impl Again {
-    /// Nothing was heard.
+    /// Nothing was read.
     pub(crate) fn nothing() -> Again
         ensures { result.policy ≡ None }
     {
@@ -86,8 +86,8 @@ fn policy_again<T: Tree>(
     }
 }
 
-/// What is heard of the policy behind a run that ended with a refusal: nothing, where the refusal is not one of
-/// the policy's file.
+/// What is read of the policy behind a run that ended with a refusal: nothing, where the refusal is not one
+/// of the policy's file.
 pub(crate) fn heard_again<T: Tree>(
     alloc: Global,
     tree: &mut T,

@@ -357,7 +357,7 @@ fn push_help(
     }
 }
 
-/// The lines behind the line of a refusal, by the request and by what was heard of the policy behind the run.
+/// The lines behind the line of a refusal, by the request and by what was read of the policy behind the run.
 pub(crate) fn help_of(
     alloc: Global,
     request: &Request,

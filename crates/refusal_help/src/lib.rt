@@ -1,4 +1,4 @@
-//! What is told behind the line of a refusal: where it comes from, and what to do.
+//! What is printed behind the line of a refusal: where it comes from, and what to do.
 #![tactic(auto)]
 
 pub mod again;

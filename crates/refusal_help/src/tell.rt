@@ -1,4 +1,4 @@
-//! What is told behind a refusal.
+//! What is printed behind a refusal.
 ghost use Rattle.std.specs.Prelude.{◌≤◌};
 ghost use Rattle.refusal_help.specs.Help.{help_of};
 ghost use Rattle.refusal_help.specs.Told.{LinesWritten, TellsHelp, told_between};
@@ -11,8 +11,8 @@ use run_request::Request;
 use std::alloc::Global;
 use tree_core::{Sink, Tree, write_all};
 
-/// Writes the lines of help. A sink that refuses them has a front of them, and where memory is wanting nothing is
-/// written.
+/// Writes the lines of help. A sink that refuses them has a prefix of them, and where memory is wanting
+/// nothing is written.
 fn write_help<E: Sink>(alloc: Global, err: &mut E, request: &Request, again: &Again, error: &Error)
     ensures later { E.fault_count err.old ≤ E.fault_count err.new }
     ensures written { LinesWritten (E.written err.old) (E.written err.new)

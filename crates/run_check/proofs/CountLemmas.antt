@@ -1,4 +1,4 @@
--- A verdict against a crate is told by a finding that is an error.
+-- A verdict against a crate is reported by a finding that is an error.
 use Rattle.std.proofs.Common.{◌≡◌, ◌∙◌, refl, sym, ℕ, zero, suc, ◌+◌, Bool, true, false, cond, nat_lt, count_by, List, [], ◌∷◌, ◌++◌, map, Option, Some, arith}
 use Rattle.std.specs.Prelude.{◌^◌, ◌-◌, min}
 use Rattle.std.specs.List.{AllByRecursion as ByRecursion, sum_by}

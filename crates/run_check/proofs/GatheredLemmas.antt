@@ -1,4 +1,4 @@
--- The licences that were gathered, as what was read of crates and as what is told of them.
+-- The licences that were gathered, as what was read of crates and as what is reported of them.
 use Rattle.std.proofs.Common.{◌≡◌, ◌∙◌, refl, sym, ap, subst, ℕ, List, [], ◌∷◌, map, Option, Some, None}
 use Rattle.std.specs.Prelude.{All, option_map, unwrap_or}
 use Rattle.std.specs.List.{AllZip}
@@ -42,7 +42,7 @@ verdicts_reported policy [] (verdict ∷ verdicts) are = absurd are
 verdicts_reported policy (license ∷ licenses) [] are = absurd are
 verdicts_reported policy (license ∷ licenses) (verdict ∷ verdicts) are = ap (λ rest. verdict ∷ rest) (verdicts_reported policy licenses verdicts are.1)
 
--- ---- what is told of a licence
+-- ---- what is reported of a licence
 
 told_expression : (info : LicenseInfo) (notes : List (List ℕ)) → expression_of info ≡ expression_in (answer_view info notes)
 told_expression Unlicensed notes = refl

@@ -32,7 +32,7 @@ use Rattle.gather_core.specs.Taken.{turn_with}
 use Rattle.gather_core.specs.Turns.{asks_manifest, field_text, in_order, not_asked, records_in}
 use Rattle.run_found.specs.Hearing.{TellsContent}
 
--- ---- what a content lets hear
+-- ---- what a content says
 
 file_there : (before after : ℕ) (node : Option TreeNode) → unwrap_or (file_answered before after (read_answer node)) absent ≡ file_heard node
 unfolding file_heard
@@ -51,7 +51,7 @@ listed_there : (before after : ℕ) (content : Content) (place : Place)
 unfolding listing_heard
 listed_there before after content place = listing_there before after content place (finite.get content place)
 
--- what stands where a read of a crate in this folder looks
+-- what is where a read of a crate in this folder looks
 abbrev pub there_of : Content → List ℕ → ReadKind → List ℕ → ReadResult
 there_of content base kind path = there_heard kind content (read_place kind (resolve base) (components_of path))
 
@@ -101,7 +101,7 @@ module _ (content : Content) (base : List ℕ) where
   abbrev there : ReadRecord → ReadResult
   there read = there_of content base read.kind read.path
 
-  -- each read lets hear what the content has there
+  -- each read says what the content has there
   abbrev pub HearThere : List AnsweredRead → Type 0
   HearThere [] = Unit {0}
   HearThere (read ∷ reads) = (read_heard read ≡ there read.recorded) × HearThere reads
@@ -113,7 +113,7 @@ module _ (content : Content) (base : List ℕ) where
       let counts = counts_carried read.recorded.answer in
       (ap (λ answer. unwrap_or (kind_answered kind counts.0 counts.1 answer) absent) tells.0 ∙ kind_there content base kind read.recorded.path counts.0 counts.1, hear_there reads tells.1)
 
-  -- of the records that are asked for, this stands there
+  -- of the records that are asked for, this is there
   abbrev AllTell : (ReadRecord → Bool) → ReadResult → List ReadRecord → Type 0
   AllTell test heard [] = Unit {0}
   AllTell test heard (read ∷ reads) = (test read ≡ true → there read ≡ heard) × AllTell test heard reads
@@ -159,7 +159,7 @@ module _ (content : Content) (base : List ℕ) where
   license_there path Listing at e = cc
   license_there path LicenseFile at e = ap (λ parts. file_heard (finite.get content (read_place LicenseFile (resolve base) parts))) (sym (parts_of_same path at e))
 
--- ---- ears that agree on what is looked up
+-- ---- known reads that agree on what is looked up
 
 module _ (one other : FolderReads) where
   abbrev Agree : List ℕ → Type 0
@@ -184,7 +184,7 @@ module _ (one other : FolderReads) where
     agree_each paths (λ next any. each next (or_right (same_path next path) (list_any (same_path next) paths) any)),
   )
 
-  -- another spelling of a path is heard alike
+  -- another spelling of a path is read alike
   refilled : (path : List ℕ) (paths : List (List ℕ)) → Agree path → AllAgree (without_path path paths) → AllAgree paths
   refilled path [] own all = tt
   refilled path (next ∷ paths) own all =
@@ -275,7 +275,7 @@ module _ (content : Content) (scanner : Scanner) (all : List ClarificationView) 
   abbrev id : Option ℕ
   id = file_id_at files krate.manifest_path
 
-  -- the records of a turn by what is heard of the files and of the manifest
+  -- the records of a turn by what is read of the files and of the manifest
   abbrev pub records_heard : FolderReads → ReadResult → List ReadRecord
   records_heard known_reads manifest = in_order (is_nothing all) (manifest_asked (asks_manifest all krate known_reads) id krate.manifest_path manifest) (records_of scanner all krate known_reads)
 
@@ -283,7 +283,7 @@ module _ (content : Content) (scanner : Scanner) (all : List ClarificationView) 
   records_are policy known_reads manifest =
       ap (λ read. in_order (is_nothing all) read (records_of scanner all krate known_reads)) (manifest_located (asks_manifest all krate known_reads) id krate.manifest_path (field_text krate) files manifest)
 
-  -- the records of two ears are the same, and whether a clarification holds by them
+  -- the records of two known reads are the same, and whether a clarification holds by them
   pub record AsksAlike (one other : FolderReads) : Type 0 where
     pub records : records_of scanner all krate one ≡ records_of scanner all krate other
     pub holds : is_none (holding_clarification one all) ≡ is_none (holding_clarification other all)

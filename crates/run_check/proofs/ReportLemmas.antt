@@ -37,7 +37,7 @@ file_at : (threshold : Option ℤ) (policy : ValidConfig) → (at_threshold thre
 file_at None policy = refl
 file_at (Some threshold) policy = refl
 
--- ---- by what was heard
+-- ---- by what was read
 
 module _ (given : CommandArguments) (hearing : RequestHearing) (policy : ValidConfig) (licenses : List KrateLicense) (last : List File) (settled : IsSettled given hearing policy licenses last) where
   file_is : policy.file_id ≡ 0

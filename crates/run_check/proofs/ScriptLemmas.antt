@@ -17,7 +17,7 @@ use Rattle.run_check.specs.Script.{FrontsFindings, WritesBehind, WritesCheck, fi
 
 module _ (given : CommandArguments) (tree : TreeSeen) (old middle : Option (List ℕ)) (before first : ℕ) (report : Report)
     (hears : HearsSo given tree (sink_seen old middle before first) (λ hearing. IsReport given hearing report)) where
-  -- a text behind what is told of the load
+  -- a text behind what is printed of the load
   pub writes_behind : (text : List ℕ) (new : Option (List ℕ)) (after : ℕ) → Gained middle new text → WritesBehind given tree (sink_seen old new before after) report text
   writes_behind text new after gained = record {
     hearing = hears.hearing;

@@ -19,8 +19,8 @@ use Rattle.run_check.specs.Script.{WritesCheck}
 pub record IsCheckRun (given : CommandArguments) (tree : TreeSeen) (err : SinkSeen) (result : Result Report Error) : Type 0 where
   -- Where a part of the request is not carried, that is the refusal; no call is made, and nothing is written.
   pub unsupported : (what : UnsupportedPart) → given.options.unsupported ≡ Some what → (result ≡ Err (NotCarried what)) × IsUntouched tree × IsSilent err
-  -- Else what was heard asks for is answered, whatever the tree tells of its content, and nothing else was read; each refusal is the
-  -- first one, by its cause; and what is told of that was written.
+  -- Else what was read asks for is answered, whatever the tree tells of its content, and nothing else was read; each
+  -- refusal is the first one, by its cause; and what is reported of that was written.
   pub written : given.options.unsupported ≡ None → WritesCheck given tree err result
   -- Calls were made on the tree, and nothing else came of it.
   pub made : HasMade tree
@@ -40,9 +40,9 @@ pub record IsCheckRun (given : CommandArguments) (tree : TreeSeen) (err : SinkSe
   pub rises : IfOk result (FailedReadsRise tree)
   -- The policy that is reported is that of the bytes, its lists in order.
   pub reported_policy : IfOk result (ReportsPolicy given tree)
-  -- What was found is told, with labels that cut out what they say.
+  -- What was found is reported, with labels that cut out what they say.
   pub reported_findings : IfOk result (ReportsFindings given tree)
-  -- The entries of the policy that no crate needs are those that are told.
+  -- The entries of the policy that no crate needs are those that are reported.
   pub hits : IfOk result (ReportsUnneeded given tree)
   -- Each verdict has what shows it.
   pub certificates : IfOk result (ReportsCertificates given tree)

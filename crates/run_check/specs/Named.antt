@@ -40,13 +40,13 @@ pub record ReportsPolicy (given : CommandArguments) (tree : TreeSeen) (report : 
   pub ordered : PutsInOrder given policy report.policy
   pub file : report.policy.file_id ≡ 0
 
--- what was found is told, with labels that cut out what they say
+-- what was found is reported, with labels that cut out what they say
 pub record ReportsFindings (given : CommandArguments) (tree : TreeSeen) (report : Report) : Type 0 where
   pub hearing : RequestHearing
   pub heard : IsHeard given tree hearing
   pub tells : TellsFindings given.options.levels (files_loaded given.request hearing) (turns_in given hearing report.policy) report
 
--- the entries of the policy that no crate needs are those that are told
+-- the entries of the policy that no crate needs are those that are reported
 pub record ReportsUnneeded (given : CommandArguments) (tree : TreeSeen) (report : Report) : Type 0 where
   pub hearing : RequestHearing
   pub heard : IsHeard given tree hearing

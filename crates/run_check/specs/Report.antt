@@ -36,9 +36,9 @@ use Rattle.run_check.specs.Found.{all_gathered}
 abbrev pub source_in : Option LicenseAnswer → Option ExpressionSource
 source_in answer = option_map (λ own. own.source) answer
 
--- The report on a crate, by a valid policy: it lists the crate's reads; it tells the expression that has priority, by what their
--- answers let hear, where that comes from and what is noted of it, of which there is nothing where there is no expression; and the
--- verdict on that, with what shows it. Where a field stands in its manifest is left out here.
+-- The report on a crate, by a valid policy: it lists the crate's reads; it tells the expression that has priority, by
+-- what their answers say, where that comes from and what is noted of it, of which there is nothing where there is no
+-- expression; and the verdict on that, with what shows it. Where a field is in its manifest is left out here.
 pub record IsReportOf (given : CommandArguments) (policy : ValidConfig) (one : ReadsOfCrate) (report : CrateReport) : Type 0 where
   pub id : report.id ≡ one.krate.id
   pub reads : report.reads ≡ records_of_reads one.reads
@@ -76,24 +76,25 @@ pub record TellsFindings (levels : LintLevels) (loaded : List File) (turns : Lis
 
 -- ---- what is answered
 
--- What was heard asks for a check, and the report gives its verdicts: the licences of the crates that are asked for were settled by
--- the policy that is reported, which is the one that was found, its lists in order; and each crate's own files were read, once, and no
--- other file for it.
+-- What was read asks for a check, and the report gives its verdicts: the licences of the crates that are asked for were
+-- settled by the policy that is reported, which is the one that was found, its lists in order; and each crate's own
+-- files were read, once, and no other file for it.
 pub record TellsVerdicts (given : CommandArguments) (hearing : RequestHearing) (report : Report) : Type 0 where
   pub licenses : List KrateLicense
   pub settled : IsSettled given hearing report.policy licenses report.files
   pub files : All (ReadsItsFiles (scanner_of_given given report.policy) report.policy) hearing.crates
   pub gives : GivesVerdicts given hearing report
 
--- The report is what is asked for by what was heard: it gives the verdicts; the crates' reads are those that their turns ask for,
--- with the manifests that the file table lacks; and it tells the sources of the expressions, and what was found.
+-- The report is what is asked for by what was read: it gives the verdicts; the crates' reads are those that their turns
+-- ask for, with the manifests that the file table lacks; and it tells the sources of the expressions, and what was
+-- found.
 pub record IsReport (given : CommandArguments) (hearing : RequestHearing) (report : Report) : Type 0 where
   pub verdicts : TellsVerdicts given hearing report
   pub own : All HasOwnReads (turns_in given hearing report.policy)
   pub sources : AllZip TellsSource (turns_in given hearing report.policy) report.crates
   pub tells : TellsFindings given.options.levels (files_loaded given.request hearing) (turns_in given hearing report.policy) report
 
--- a report is the one that is asked for by what was heard, or the check was refused before
+-- a report is the one that is asked for by what was read, or the check was refused before
 abbrev pub Reports : CommandArguments → TreeSeen → SinkSeen → Result Report Error → Type 0
 Reports given tree err result = AnswersSo given tree err (λ report hearing. IsReport given hearing report) result
 

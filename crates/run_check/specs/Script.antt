@@ -13,18 +13,19 @@ use Rattle.run_command.specs.Stops.{Stops}
 use Rattle.run_check.specs.declared.report.Report.{Report}
 use Rattle.run_check.specs.Report.{IsReport}
 
--- what is told of a report's findings, in the format and at the level that are asked for
+-- what is reported of a report's findings, in the format and at the level that are asked for
 abbrev pub findings_text : CommandArguments → Report → List ℕ
 findings_text given report = printed_packs given.request.log report.files report.findings
 
--- The report is the one that is asked for by what was heard; all that is told of the load was written, and behind it this text.
+-- The report is the one that is asked for by what was read; all that is printed of the load was written, and behind it
+-- this text.
 pub record WritesBehind (given : CommandArguments) (tree : TreeSeen) (err : SinkSeen) (report : Report) (text : List ℕ) : Type 0 where
   pub hearing : RequestHearing
   pub heard : IsHeard given tree hearing
   pub is : IsReport given hearing report
   pub written : Gained err.old err.new (load_heard given hearing ++ text)
 
--- a report was had, of which nothing else is told, and a prefix of its findings was written
+-- a report was found, of which nothing else is reported, and a prefix of its findings was written
 pub record FrontsFindings (given : CommandArguments) (tree : TreeSeen) (err : SinkSeen) : Type 0 where
   pub report : Report
   pub front : List ℕ
@@ -38,8 +39,8 @@ CutsFindings given tree err no_memory = FrontsFindings given tree err
 CutsFindings given tree err (refused_write first last) = (first ≡ err.before) × (last ≡ err.after) × Rose err.before err.after × FrontsFindings given tree err
 CutsFindings given tree err _ = ⊥
 
--- What a check on a tree wrote, all of whose request is carried: what is told of the load, and then the findings of the report that is
--- answered; else it was refused before, or among the findings.
+-- What a check on a tree wrote, all of whose request is carried: what is printed of the load, and then the findings of
+-- the report that is answered; else it was refused before, or among the findings.
 abbrev pub WritesCheck : CommandArguments → TreeSeen → SinkSeen → Result Report Error → Type 0
 WritesCheck given tree err (Ok report) = WritesBehind given tree err report (findings_text given report)
 WritesCheck given tree err (Err error) = Stops given tree err error ⊎ CutsFindings given tree err (cause_of error)

@@ -48,8 +48,8 @@ fn report_of(log_ctx: LogContext, checked: CheckedCrates, files: Files) -> Repor
     }
 }
 
-/// The report that a request asks for, all of which is carried, its findings at these levels. What is told of the
-/// policy's load is written to the sink; what was found is not.
+/// The report that a request asks for, all of which is carried, its findings at these levels. What is
+/// reported of the policy's load is written to the sink; what was found is not.
 pub fn report_since<T: Tree, S: Sink, C: Catalog, I: Identifier>(
     alloc: Global,
     tree: &mut T,
@@ -92,8 +92,8 @@ pub fn report_since<T: Tree, S: Sink, C: Catalog, I: Identifier>(
     Ok(report_of(log_ctx, checked, files))
 }
 
-/// The report that a request asks for, all of which is carried, with what is told of the policy's load, and then
-/// what was found, written to the sink.
+/// The report that a request asks for, all of which is carried, with what is printed of the policy's load,
+/// and then what was found, written to the sink.
 pub fn check_since<T: Tree, S: Sink, C: Catalog, I: Identifier>(
     alloc: Global,
     tree: &mut T,
@@ -135,7 +135,8 @@ pub fn check_since<T: Tree, S: Sink, C: Catalog, I: Identifier>(
 }
 
 /// The command `check` of a request: each crate that the request, its policy and its metadata select gets its
-/// verdict. What is told of the policy's load, and then what was found, is written to the sink; no summary is.
+/// verdict. What is printed of the policy's load, and then what was found, is written to the sink; no summary
+/// is.
 pub fn cmd<T: Tree, S: Sink, C: Catalog, I: Identifier>(
     alloc: Global,
     tree: &mut T,

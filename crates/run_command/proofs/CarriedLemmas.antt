@@ -35,7 +35,7 @@ pub carried_behind : (context : KrateContext) (exclude : List (List ℕ)) → un
 carried_behind context exclude carried specs =
     let parts = carried_parts context carried in carried_with context exclude parts.0 parts.1 specs
 
--- a request of which no part is left uncarried by a command
+-- a request of which no part is left unsupported by a command
 pub carried_of_parts : (context : KrateContext) → is_none context.metadata_path ≡ false → list_any is_unsupported context.exclude ≡ false → unsupported_part context [] ≡ None
 carried_of_parts context named own = carried_with context [] named own refl
 

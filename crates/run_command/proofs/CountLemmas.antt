@@ -13,7 +13,7 @@ use Rattle.run_overrides.specs.declared.error.OverrideError.TheVariants as overr
 use Rattle.run_found.specs.Error.{cause_of, error_of_krates, error_of_override}
 use Rattle.run_command.specs.Found.{at_threshold}
 
--- a code or a level that stands twice is not read
+-- a code or a level that is there twice is not read
 pub override_counts : (begun before after : ℕ) (refused : OverrideError) → ReadCounts begun before after (cause_of (error_of_override refused))
 override_counts begun before after overrides.Memory = tt
 override_counts begun before after (overrides.OverrideTwice name first second) = tt
@@ -30,7 +30,7 @@ krates_counts begun before after krates.MetadataSyntax counts = counts
 krates_counts begun before after (krates.MetadataShape fault) counts = counts
 krates_counts begun before after (krates.NoRoots base excluded unpublished) counts = counts
 
--- a policy stands where it stood, whatever the least score of a text
+-- a policy is where it stood, whatever the least score of a text
 pub stands_at : (files : List File) (threshold : Option ℤ) (policy : ValidConfig) → PolicyStands files policy → PolicyStands files (at_threshold threshold policy)
 stands_at files None policy stands = stands
 stands_at files (Some threshold) policy stands = record {

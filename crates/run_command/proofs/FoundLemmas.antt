@@ -37,7 +37,7 @@ module _ (given : CommandArguments) (hearing : RequestHearing) where
     asked-by : (twice : Option Twice) → first_twice given.options.levels ≡ twice → policy_asked given hearing ≡ (unless_twice twice >>= λ once. Ok policy)
     asked-by twice is = bind-Ok (policy_found given.request hearing) _ policy _ found (ap (λ own. unless_twice own >>= λ once. Ok policy) is)
 
-    -- a code or a level stands twice
+    -- a code or a level is there twice
     pub asked-twice : (twice : Twice) → first_twice given.options.levels ≡ Some twice → policy_asked given hearing ≡ Err (OverrideTwice twice.name twice.first twice.second)
     asked-twice twice is = asked-by (Some twice) is
 

@@ -14,7 +14,7 @@ use Rattle.run_found.proofs.HeardAlike as request_alike
 use Rattle.run_command.specs.Found.{HearsAllDue, calls_of, input_of, metadata_by, unless_twice}
 use Rattle.run_command.specs.Given.{CommandArguments}
 
--- ---- what is found, by what was heard
+-- ---- what is found, by what was read
 
 abbrev asked_by : CommandArguments → Result PolicyFound Error → Result PolicyFound Error
 asked_by given found = do

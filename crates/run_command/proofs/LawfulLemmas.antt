@@ -91,7 +91,7 @@ module _ (given : CommandArguments) (hearing own : RequestHearing) (asked : Poli
 
 -- ---- on a tree
 
--- no refusal of a command that was heard on it comes of lawful input
+-- no refusal of a command that was read on it comes of lawful input
 abbrev pub NoRefusal : CommandArguments → TreeSeen → Type 0
 NoRefusal given tree = (own : RequestHearing) (error : Error) → IsHeard given tree own → IsRefusal given own error → ⊥
 

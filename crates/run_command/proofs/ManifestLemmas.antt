@@ -37,7 +37,7 @@ found_unnamed path unnamed begun after answer = ap (λ b. found_if b path (found
 
 -- ---- a manifest that is there
 
--- the path has the name, and the look was told that a file stands there
+-- the path has the name, and the look was reported that a file is there
 pub record IsThere (path : List ℕ) (answer : Option CallAnswer) : Type 0 where
   pub named : is_manifest path ≡ true
   pub told : answer ≡ Some (call.told true)
@@ -70,7 +70,7 @@ abbrev pub IsNoManifest : List ℕ → Error → Type 0
 IsNoManifest path error = (error ≡ ManifestPath path) ⊎ (error ≡ Memory)
 
 module _ (path : List ℕ) (tree : TreeSeen) where
-  -- no manifest by what was heard, or want of memory
+  -- no manifest by what was read, or want of memory
   refused_by : (answer : Option CallAnswer) → MadeOn tree (manifest_calls (manifest_due None path) answer) → IsLookedWhereDue (manifest_due None path) answer
       → manifest_found tree.count_before tree.count_after path answer ≡ Err (ManifestPath path) → (error : Error) → IsNoManifest path error → LooksAtManifest path tree (Err error)
   refused_by answer made looked found error (inl is) =
@@ -130,7 +130,7 @@ unlooked_refused path told count calls unnamed error is =
 
 -- ---- by what the look answered
 
--- it is told that the manifest is there, and the count is as before
+-- it is reported that the manifest is there, and the count is as before
 pub looked_is : (path : List ℕ) (tree : TreeSeen) (looked : LooksAtManifest path tree (Ok tt)) → IsThere path looked.answer
 looked_is path tree looked = by_answer looked.answers
   where

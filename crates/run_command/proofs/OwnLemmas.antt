@@ -1,4 +1,5 @@
--- An organisation's own names and texts: where they are had no call failed, and what is heard of them follows from the calls.
+-- An organisation's own names and texts: where they are found no call failed, and what is read of them follows from the
+-- calls.
 use Rattle.std.proofs.Common.{◌≡◌, ◌∙◌, refl, sym, ap, subst, ℕ, Bool, List, [], ◌∷◌, ◌++◌, append_assoc, Option, Some, None, Result, Ok, Err}
 use Rattle.std.specs.Prelude.{option_map}
 use Rattle.tree_core.specs.Call as call
@@ -39,9 +40,9 @@ no_lists_calls given asked count =
     ap (λ calls. calls ++ store_calls (store_due given asked (nothing_of_lists count)) None []) (no_read_calls asked.catalog)
     ∙ no_store_calls (store_due given asked (nothing_of_lists count))
 
--- ---- a text that is had
+-- ---- a text that is found
 
--- what is heard of it does not hang on the counts, and its read did not fail
+-- what is read of it does not depend on the counts, and its read did not fail
 text_had : (begun after other later : ℕ) (answer : CallAnswer) (body : List ℕ) → text_answered begun after answer ≡ Some (Ok body) → text_answered other later answer ≡ Some (Ok body)
 text_had begun after other later (call.bytes items) body is = is
 text_had begun after other later (call.entries items) body is = absurd (cc)
@@ -60,7 +61,7 @@ text_quiet begun after count call.wrong_kind body is = refl
 text_quiet begun after count call.failed body is = absurd (cc)
 text_quiet begun after count call.no_memory body is = refl
 
--- texts are had where the first one is, and those behind it
+-- texts are found where the first one is, and those behind it
 record HadFirst (text : TextFile) (heard : Option (Result (List ℕ) ReadFault)) (rest : Option StoreHeard) (all : List StoreText) : Type 0 where
   body : List ℕ
   is : heard ≡ Some (Ok body)
@@ -103,7 +104,7 @@ catalog_quiet given lists (Some path) begun after count (Some call.wrong_kind) i
 catalog_quiet given lists (Some path) begun after count (Some call.failed) is = absurd (cc)
 catalog_quiet given lists (Some path) begun after count (Some call.no_memory) is = refl
 
--- the texts of a folder, where they are had: it was listed, and each of its texts read
+-- the texts of a folder, where they are found: it was listed, and each of its texts read
 record HadTexts (begun after : ℕ) (answer : CallAnswer) (reads : List CallAnswer) (found : List ℕ → Match) : Type 0 where
   entries : List (List ℕ × Bool)
   answer_is : answer ≡ call.entries entries
@@ -144,7 +145,7 @@ store_quiet given found (Some path) begun after count (Some answer) reads is =
 
 -- ---- both
 
--- both are had
+-- both are found
 pub record HadBoth (given : ListsGiven) (asked : ListsAsked) (hearing : ListsHearing) (own : ListsGiven) : Type 0 where
   pub lists : CatalogLists
   pub lists_is : lists_heard given asked hearing ≡ Some (Ok lists)
@@ -166,7 +167,7 @@ had_both given asked hearing own is = by_lists (lists_heard given asked hearing)
     by_lists (Some (Ok lists)) (Some (Err error)) one two both = absurd (cc)
     by_lists (Some (Ok lists)) (Some (Ok found)) one two both = record { lists = lists; lists_is = one; found = found; found_is = two; own_is = sym (same both) }
 
--- where they are had no call failed
+-- where they are found no call failed
 pub lists_quiet : (given : ListsGiven) (asked : ListsAsked) (hearing : ListsHearing) (own : ListsGiven) (count : ℕ) → given_heard given asked hearing ≡ Some (Ok own)
     → faults_after count (lists_calls given asked hearing) ≡ count
 lists_quiet given asked hearing own count is =
@@ -183,8 +184,8 @@ found_count given asked tree own finds = finds.made.counts ∙ lists_quiet given
 
 -- ---- by the calls
 
--- Calls that are answered alike, as far as the same is asked and memory is not wanting: then what is heard by the first ones is heard by
--- the others.
+-- Calls that are answered alike, as far as the same is asked and memory is not wanting: then what is read by the first
+-- ones is read by the others.
 module _ (Same : List Call → List Call → Type 0)
     (head : (one other : Call) (more rest : List Call) → Same (one ∷ more) (other ∷ rest) → one.asked ≡ other.asked → one.path ≡ other.path → (other.answer ≡ call.no_memory → ⊥)
     → (one.answer ≡ other.answer) × Same more rest) where
@@ -229,7 +230,7 @@ module _ (Same : List Call → List Call → Type 0)
       let behind = reads_same other after later path (texts_of texts.entries) reads others more rest texts.all had_other own_heard rest_same in
       (ap (λ one. texts_told (store_answered other later one others)) own_is ∙ ap texts_told behind.0 ∙ ap (λ (one : List ℕ → Match). Some (Ok one)) (sym texts.found_is), behind.1)
     where
-      -- it does not hang on the counts
+      -- it does not depend on the counts
       reads_had : (begun after other later : ℕ) (files : List TextFile) (answers : List CallAnswer) (all : List StoreText) → reads_answered begun after files answers ≡ Some (Ok all)
           → reads_answered other later files answers ≡ Some (Ok all)
       reads_had begun after other later [] [] all is = is
@@ -261,7 +262,7 @@ module _ (Same : List Call → List Call → Type 0)
       answered call.failed is = absurd (cc)
       answered call.no_memory is = absurd (cc)
 
-  -- what is heard by the first ones, where they are had, is heard by the others
+  -- what is read by the first ones, where they are found, is read by the others
   pub lists_same : (given : ListsGiven) (asked : ListsAsked) (hearing other : ListsHearing) (own : ListsGiven) (more rest : List Call) → given_heard given asked hearing ≡ Some (Ok own)
       → (given_heard given asked other ≡ None → ⊥) → Same (lists_calls given asked hearing ++ more) (lists_calls given asked other ++ rest)
       → (given_heard given asked other ≡ Some (Ok own)) × Same more rest

@@ -52,7 +52,7 @@ looked_there : (path : List ℕ) (tree : TreeSeen) (answer : Option CallAnswer) 
 looked_there path tree answer (inl lost) = absurd (ok_apart lost)
 looked_there path tree answer (inr (looked, found)) = is_there path tree.count_before tree.count_after answer looked found
 
--- what came before a command that was come to: the look, and what is heard of names and texts
+-- what came before a command that was come to: the look, and what is read of names and texts
 pub record CameBy (given : CommandRequest) (tree : TreeSeen) (lists : ListsGiven) : Type 0 where
   pub carried : given.command.options.unsupported ≡ None
   pub named : is_manifest given.command.request.context.manifest_path ≡ true
@@ -110,7 +110,7 @@ runs_unsupported {X} given IsDone tree err out answer what is (stopped error com
 runs_unsupported {X} given IsDone tree err out answer what is (came told count calls lists comes is_done) =
     absurd (none_apart (sym is ∙ comes_carried given (up_to tree told count calls) lists comes))
 
--- what was heard on a tree that came to its command, and then by the command
+-- what was read on a tree that came to its command, and then by the command
 pub run_heard : (given : CommandRequest) (tree : TreeSeen) (told : Option Content) (count : ℕ) (calls : List Call) (lists : ListsGiven) (comes : ComesTo given (up_to tree told count calls) (Ok lists)) (own : RequestHearing)
     → IsHeard (command_by given.command lists) (from_there tree told count calls) own
     → IsRunHeard given tree (record { lists = (comes_by given (up_to tree told count calls) lists comes).hearing; found = own }) lists
@@ -141,14 +141,14 @@ module _ (Same : List Call → List Call → Type 0) (alike : IsAlike Same) (giv
       let first = alike (there_call given) (manifest_call path answer) own_lists rest same refl refl (λ e. looked (ap look_by e)) in
       (ap Some (sym first.0), first.1)
 
-  -- the look was due, and told something
+  -- the look was due, and reported something
   looked_same : (answer : Option CallAnswer) (rest : List Call) → IsLookedWhereDue (manifest_due None path) answer → Same (there_call given ∷ own_lists) (manifest_calls (manifest_due None path) answer ++ rest)
       → (answer ≡ Some (call.told true)) × Same own_lists rest
   looked_same answer rest looked same =
       let due = due_named path named in
       look_same answer rest (subst (λ one. IsLookedWhereDue one answer) due looked) (subst (λ one. Same (there_call given ∷ own_lists) (manifest_calls one answer ++ rest)) due same)
 
-  -- no manifest is not told
+  -- no manifest is not reported
   found_apart : (begun after : ℕ) (answer : Option CallAnswer) (error : Error) → answer ≡ Some (call.told true) → manifest_found begun after path answer ≡ Err error → ⊥
   found_apart begun after answer error there found = ok_apart (sym (found_named path named begun after (Some (call.told true))) ∙ ap (manifest_found begun after path) (sym there) ∙ found)
 
@@ -162,7 +162,7 @@ module _ (Same : List Call → List Call → Type 0) (alike : IsAlike Same) (giv
       by_answer (inl lost) = memory_of lost
       by_answer (inr (own, found)) = absurd (found_apart tree.count_before tree.count_after looked.answer error (looked_same looked.answer [] own same).0 found)
 
-  -- behind a look that told of the manifest, the calls for names and texts are alike
+  -- behind a look that reported of the manifest, the calls for names and texts are alike
   behind_look : (tree : TreeSeen) (looked : LooksAtManifest path tree (Ok tt)) (rest : List Call) → Same (there_call given ∷ own_lists) (manifest_calls (manifest_due None path) looked.answer ++ rest) → Same own_lists rest
   behind_look tree looked rest same = by_answer looked.answers
     where

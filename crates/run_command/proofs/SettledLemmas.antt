@@ -1,4 +1,4 @@
--- Behind the crates of a policy, their licences: what was heard, and what is so by that.
+-- Behind the crates of a policy, their licences: what was read, and what is so by that.
 use Rattle.std.proofs.Common.{◌≡◌, ◌∙◌, refl, sym, ap, subst, ℕ, ℤ, List, [], ◌++◌, map, append-nil, append_assoc, Option, Some, None, Ok}
 use Rattle.tree_core.specs.Call.{Call}
 use Rattle.tree_core.specs.Content.{Content}

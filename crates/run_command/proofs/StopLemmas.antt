@@ -1,4 +1,5 @@
--- A command that is refused before it does its own: no policy is found, a code or a level stands twice, or there are no crates.
+-- A command that is refused before it does its own: no policy is found, a code or a level is there twice, or there are
+-- no crates.
 use Rattle.std.proofs.Common.{◌≡◌, ◌∙◌, refl, sym, ap, subst, ℕ, ℤ, true, List, [], ◌++◌, append-nil, Option, Some, None, Result, Ok, Err}
 use Rattle.tree_core.specs.Call.{CallAnswer, Call}
 use Rattle.tree_core.specs.Content.{Content}
@@ -88,7 +89,7 @@ stops_made given tree err error stops = some_by (cause_of error) stops.refused
     some_by (failed_read before after) refused = some_made refused.0.made
     some_by (refused_write before after) up = some_made up.made
 
--- the calls of what was heard up to some place were made, and no other
+-- the calls of what was read up to some place were made, and no other
 pub up_without : (given : CommandArguments) (tree : TreeSeen) (hearing : RequestHearing) → hearing.begun ≡ tree.count_before → MadeOn tree (calls_of given hearing) → StopsAt given hearing [] → IsGivenUp given tree hearing
 up_without given tree hearing begun made stops = record {
   begun = begun;
@@ -149,7 +150,7 @@ module _ (given : CommandArguments) (tree : TreeSeen) (err : SinkSeen) where
   pub policy_ends : (files : List File) (refused : PolicyRefusal) → FindsPolicy given.request tree err.old err.new err.before err.after files (Err refused) → Stops given tree err (error_of_policy refused)
   policy_ends files refused finds = by_cause refused (cause_of (error_of_policy refused)) refl finds
 
-  -- ---- a code or a level stands twice
+  -- ---- a code or a level is there twice
 
   module _ (files : List File) (policy : LoadedPolicy) (finds : FindsLoaded given.request tree err.old err.new files policy) where
     pub twice_ends : (refused : OverrideError) → IsFirstTold (first_twice given.options.levels) refused → Stops given tree err (error_of_override refused)
@@ -168,7 +169,7 @@ module _ (given : CommandArguments) (tree : TreeSeen) (err : SinkSeen) where
 
 -- ---- behind the policy
 
--- what is heard up to the policy is heard behind it too
+-- what is read up to the policy is read behind it too
 due_behind : (given : CommandArguments) (begun : ℕ) (heard : PolicyHeard) (metadata : Option CallAnswer) (crates : List ReadsOfCrate) → HearsPolicy given.request (hearing_of begun heard None [])
     → HearsPolicy given.request (hearing_of begun heard metadata crates)
 due_behind given begun heard metadata crates due =

@@ -33,7 +33,7 @@ module _ (clarifications : List ClarificationView) (krate : CrateRecord) (known_
   read_where false is = tt
   read_where true is = read_by is (file_id_at files krate.manifest_path)
 
--- what is told of a licence is its expression
+-- what is reported of a licence is its expression
 told_expression : (info : LicenseInfo) (notes : List (List ℕ)) → expression_of info ≡ expression_in (answer_view info notes)
 told_expression Unlicensed notes = refl
 told_expression (SpdxExpression expression nfo) notes = refl
@@ -69,7 +69,7 @@ module _ (scanner : Scanner) (policy : ValidConfig) where
       → All (ReadsItsFiles scanner policy) crates
   own_files files crates licenses last each = All-from_recursion (ReadsItsFiles scanner policy) crates (files_by files crates licenses last each)
 
-  -- each licence is the one that was heard
+  -- each licence is the one that was read
   pub licenses_heard : (files : List File) (crates : List ReadsOfCrate) (licenses : List KrateLicense) (last : List File)
       → AllZip (IsTurnBy last) (turns_at files crates) licenses → AllZip (IsLicenseHeard scanner policy) crates licenses
   licenses_heard files [] [] last each = tt

@@ -17,7 +17,7 @@ pub record AreQuiet (err out : SinkSeen) : Type 0 where
 
 -- ---- by what was read
 
--- the calls of this hearing were made, and then these; nothing refuses what was heard by the first ones
+-- the calls of this hearing were made, and then these; nothing refuses what was read by the first ones
 pub record IsLawfulRead (given : CommandArguments) (tree : TreeSeen) (hearing : RequestHearing) (behind : List Call) (asked : PolicyAndCrates) : Type 0 where
   pub begun : hearing.begun ≡ tree.count_before
   pub made : MadeOn tree (calls_of given hearing ++ behind)
@@ -26,7 +26,7 @@ pub record IsLawfulRead (given : CommandArguments) (tree : TreeSeen) (hearing : 
 
 -- ---- by a content, where the tree tells it
 
--- what is heard of the content, from a count of faults on, where no call fails and no memory is wanting
+-- what is read of the content, from a count of faults on, where no call fails and no memory is wanting
 pub record IsHeardOf (given : CommandArguments) (content : Content) (count : ℕ) (hearing : RequestHearing) : Type 0 where
   pub begun : hearing.begun ≡ count
   pub due : HearsAllDue given hearing

@@ -23,12 +23,13 @@ use Rattle.run_command.specs.Stops.{Stops}
 abbrev pub options_of : PolicyUse → CommandOptions
 options_of use_of = record { unsupported = None; levels = use_of.levels.now; with_flags = use_of.with_flags; threshold = use_of.threshold }
 
--- what is heard up to the crates
+-- what is read up to the crates
 abbrev pub hearing_up_to : TreeSeen → PolicyHeard → CallAnswer → RequestHearing
 hearing_up_to tree heard answer = hearing_of tree.count_before heard (Some answer) []
 
--- The calls of what was heard were made, each that was due, and no other; a policy was found, and its lists are in order; the metadata tells
--- of a graph with a root, from which the crates are chosen; the files are those of the load; and all that is told of that was written.
+-- The calls of what was read were made, each that was due, and no other; a policy was found, and its lists are in
+-- order; the metadata tells of a graph with a root, from which the crates are chosen; the files are those of the load;
+-- and all that is reported of that was written.
 pub record HasCrates (given : CommandArguments) (tree : TreeSeen) (err : SinkSeen) (files : List File) (found : CratesFound) : Type 0 where
   pub heard : PolicyHeard
   pub answer : CallAnswer

@@ -50,12 +50,12 @@ AreSelected given policy graph crates = IsListOf graph (Selected graph (choice_i
 
 -- ---- step by step
 
--- nothing, where no code and no level stands twice
+-- nothing, where no code and no level is there twice
 abbrev pub unless_twice : Option Twice → Result (Unit {0}) Error
 unless_twice None = Ok tt
 unless_twice (Some twice) = Err (OverrideTwice twice.name twice.first twice.second)
 
--- The policy, or the first refusal: of the looks, of the policy, of a code or a level that stands twice.
+-- The policy, or the first refusal: of the looks, of the policy, of a code or a level that is there twice.
 abbrev pub policy_asked : CommandArguments → RequestHearing → Result PolicyFound Error
 policy_asked given hearing = do
   policy ← policy_found given.request hearing
@@ -83,7 +83,7 @@ metadata_due given hearing = metadata_by given (policy_asked given hearing)
 abbrev pub calls_of : CommandArguments → RequestHearing → List Call
 calls_of given hearing = calls_with given.request hearing (metadata_due given hearing)
 
--- each look and each read that was due was made, and something is heard by it
+-- each look and each read that was due was made, and something is read by it
 pub record HearsAllDue (given : CommandArguments) (hearing : RequestHearing) : Type 0 where
   pub policy : HearsPolicy given.request hearing
   pub metadata : IsReadWhereDue (metadata_due given hearing) hearing.metadata
@@ -93,7 +93,7 @@ pub record IsHeard (given : CommandArguments) (tree : TreeSeen) (hearing : Reque
   pub begun : hearing.begun ≡ tree.count_before
   pub made : MadeOn tree (calls_of given hearing)
 
--- what is told of the load by what was heard
+-- what is printed of the load by what was read
 abbrev pub load_heard : CommandArguments → RequestHearing → List ℕ
 load_heard given hearing = load_told given.request hearing
 

@@ -1,4 +1,4 @@
--- What was heard in a run that came to its command, and what is lawful: what nothing refuses.
+-- What was read in a run that came to its command, and what is lawful: what nothing refuses.
 use Rattle.std.specs.Prelude.{◌≡◌, ℕ, true, List, ◌∷◌, ◌++◌, All, Some, Ok}
 use Rattle.tree_core.specs.Call as call
 use Rattle.tree_core.specs.Call.{Call}
@@ -11,7 +11,7 @@ use Rattle.run_command.specs.Given.{CommandRequest, command_by, handed_in}
 use Rattle.run_command.specs.Manifest.{is_manifest, manifest_call}
 use Rattle.run_command.specs.Stops.{Asks, PolicyAndCrates}
 
--- what is heard of an organisation's own names and texts, and what behind them; before both the manifest was there
+-- what is read of an organisation's own names and texts, and what behind them; before both the manifest was there
 pub record CommandHearing : Type 0 where
   pub lists : ListsHearing
   pub found : RequestHearing
@@ -21,12 +21,12 @@ pub record HasBegun (hearing : CommandHearing) (count : ℕ) : Type 0 where
   pub lists : hearing.lists.begun ≡ count
   pub found : hearing.found.begun ≡ count
 
--- the run came to its command: the path is that of a manifest, and these names and texts are had
+-- the run came to its command: the path is that of a manifest, and these names and texts are found
 pub record ComesBy (given : CommandRequest) (hearing : CommandHearing) (had : ListsGiven) : Type 0 where
   pub named : is_manifest given.command.request.context.manifest_path ≡ true
   pub heard : given_heard (handed_in given.command) given.own hearing.lists ≡ Some (Ok had)
 
--- the look, which is told that the manifest is there
+-- the look, which is reported that the manifest is there
 abbrev pub there_call : CommandRequest → Call
 there_call given = manifest_call given.command.request.context.manifest_path (call.told true)
 
@@ -43,7 +43,7 @@ pub record IsRunHeard (given : CommandRequest) (tree : TreeSeen) (hearing : Comm
 
 -- ---- what is lawful
 
--- the run comes to its command, each call that is due there is heard, and it asks for these crates
+-- the run comes to its command, each call that is due there is read, and it asks for these crates
 pub record IsLawful (given : CommandRequest) (hearing : CommandHearing) (had : ListsGiven) (asked : PolicyAndCrates) : Type 0 where
   pub comes : ComesBy given hearing had
   pub due : HearsAllDue (command_by given.command had) hearing.found

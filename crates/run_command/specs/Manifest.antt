@@ -14,7 +14,7 @@ use Rattle.run_found.specs.Hearing.{MadeOn, TreeSeen}
 abbrev pub is_manifest : List ℕ → Bool
 is_manifest path = option_map_or (λ name. bytes_eq name (codes "Cargo.toml")) (file_name_of path) false
 
--- the path that is looked at: one with that name, where no part of the request is left uncarried
+-- the path that is looked at: one with that name, where no part of the request is left unsupported
 abbrev pub manifest_due : Option UnsupportedPart → List ℕ → Option (List ℕ)
 manifest_due None path = if is_manifest path then Some path else None
 manifest_due (Some what) path = None
@@ -23,7 +23,7 @@ manifest_due (Some what) path = None
 pub data ManifestLook : Type 0 where
   -- it failed
   manifest_failed : ManifestLook
-  -- no file stands there
+  -- no file is there
   no_manifest : ManifestLook
   manifest_there : ManifestLook
   -- memory was wanting, or it was not made
@@ -63,14 +63,14 @@ found_by begun after path unlooked = Ok tt
 abbrev pub manifest_found : ℕ → ℕ → List ℕ → Option CallAnswer → Result (Unit {0}) Error
 manifest_found begun after path answer = if is_manifest path then found_by begun after path (look_in answer) else Err (ManifestPath path)
 
--- it was made where it was due, and something was heard by it
+-- it was made where it was due, and something was read by it
 abbrev pub IsLookedWhereDue : Option (List ℕ) → Option CallAnswer → Type 0
 IsLookedWhereDue None answer = answer ≡ None
 IsLookedWhereDue (Some path) answer = look_in answer ≢ unlooked
 
 -- ---- the step
 
--- it is answered by what was heard, or memory was wanting before the look, in it or behind it
+-- it is answered by what was read, or memory was wanting before the look, in it or behind it
 abbrev pub AnswersLook : ℕ → ℕ → List ℕ → Option CallAnswer → Result (Unit {0}) Error → Type 0
 AnswersLook before after path answer result =
     (result ≡ Err Memory) ⊎ (IsLookedWhereDue (manifest_due None path) answer × (manifest_found before after path answer ≡ result))

@@ -16,16 +16,16 @@ use Rattle.run_command.specs.Manifest.{LooksAtManifest}
 abbrev pub IsUntouched : TreeSeen → Type 0
 IsUntouched tree = MadeOn tree []
 
--- what a tree told up to a moment, and from there on
+-- what a tree reported up to a moment, and from there on
 abbrev pub up_to : TreeSeen → Option Content → ℕ → List Call → TreeSeen
 up_to tree told count calls = tree_seen tree.told told tree.count_before count tree.calls_before calls
 
 abbrev pub from_there : TreeSeen → Option Content → ℕ → List Call → TreeSeen
 from_there tree told count calls = tree_seen told tree.tells count tree.count_after calls tree.calls_after
 
--- A part of the request is not carried, and that is the refusal, without a call; or the manifest is not there, or memory was wanting at the
--- look, and nothing else was called; or it is there, and an organisation's own names and texts are not had, and nothing was called behind
--- them; or these are had, where some are asked for.
+-- A part of the request is not carried, and that is the refusal, without a call; or the manifest is not there, or
+-- memory was wanting at the look, and nothing else was called; or it is there, and an organisation's own names and
+-- texts are not found, and nothing was called behind them; or these are found, where some are asked for.
 pub data ComesTo (given : CommandRequest) (tree : TreeSeen) (answer : Result ListsGiven Error) : Type 0 where
   unsupported : (what : UnsupportedPart) → given.command.options.unsupported ≡ Some what → answer ≡ Err (NotCarried what) → IsUntouched tree → ComesTo given tree answer
   no_manifest : given.command.options.unsupported ≡ None → (error : Error) → LooksAtManifest given.command.request.context.manifest_path tree (Err error) → answer ≡ Err error → ComesTo given tree answer
@@ -36,8 +36,8 @@ pub data ComesTo (given : CommandRequest) (tree : TreeSeen) (answer : Result Lis
       → LooksAtManifest given.command.request.context.manifest_path (up_to tree told count calls) (Ok tt)
       → (lists : ListsGiven) → FindsLists (handed_in given.command) given.own (from_there tree told count calls) (Ok lists) → answer ≡ Ok lists → ComesTo given tree answer
 
--- A command is refused before it begins, and nothing was written; or it has begun, by the names and texts that count, and this is so of its
--- answer and of what the tree told behind that.
+-- A command is refused before it begins, and nothing was written; or it has begun, by the names and texts that count,
+-- and this is so of its answer and of what the tree printed behind that.
 pub data Runs {X : Type 0} (given : CommandRequest) (IsDone : CommandArguments → TreeSeen → Result X Error → Type 0) (tree : TreeSeen) (err out : SinkSeen) (answer : Result X Error) : Type 0 where
   stopped : (error : Error) → ComesTo given tree (Err error) → answer ≡ Err error → IsSilent err → IsSilent out → Runs given IsDone tree err out answer
   came : (told : Option Content) (count : ℕ) (calls : List Call) (lists : ListsGiven) → ComesTo given (up_to tree told count calls) (Ok lists)

@@ -20,9 +20,9 @@ use Rattle.run_command.specs.Found.{HearsAllDue, IsHeard, PutsInOrder, load_hear
 use Rattle.run_command.specs.Given.{CommandArguments}
 use Rattle.run_command.specs.Stops.{Asks, PolicyAndCrates, Stops}
 
--- What was heard asks for these crates, and the licences are theirs, in the order of their ids: each look and each read that was due was
--- made; the policy is the one that was found, its lists in order; each crate had its turn, by the answers to its own reads, which left
--- this table of files.
+-- What was read asks for these crates, and the licences are theirs, in the order of their ids: each look and each read
+-- that was due was made; the policy is the one that was found, its lists in order; each crate had its turn, by the
+-- answers to its own reads, which left this table of files.
 pub record IsSettled (given : CommandArguments) (hearing : RequestHearing) (policy : ValidConfig) (licenses : List KrateLicense) (last : List File) : Type 0 where
   pub due : HearsAllDue given hearing
   pub asked : PolicyAndCrates
@@ -32,8 +32,8 @@ pub record IsSettled (given : CommandArguments) (hearing : RequestHearing) (poli
   pub records : AreReads (count_metadata given.request hearing) (reads_of_all hearing.crates)
   pub turns : AreTurnsBy (files_loaded given.request hearing) (turns_in given hearing policy) licenses last
 
--- The licence of a crate is the one that has priority by what the answers to its own reads let hear, and its reads are kept as they were
--- made. Of all crates this follows from their turns.
+-- The licence of a crate is the one that has priority by what the answers to its own reads say, and its reads are kept
+-- as they were made. Of all crates this follows from their turns.
 pub record IsLicenseHeard (scanner : Scanner) (policy : ValidConfig) (one : ReadsOfCrate) (license : KrateLicense) : Type 0 where
   pub krate : krate_of license ≡ one.krate
   pub reads : license.reads ≡ records_of_reads one.reads
@@ -41,7 +41,8 @@ pub record IsLicenseHeard (scanner : Scanner) (policy : ValidConfig) (one : Read
 
 -- ---- what is so of a tree and a sink
 
--- The calls of what was heard were made, and no other, all that is told of the load was written, and this is so of what was heard.
+-- The calls of what was read were made, and no other, all that is printed of the load was written, and this is so of
+-- what was read.
 pub record HearsSo (given : CommandArguments) (tree : TreeSeen) (err : SinkSeen) (IsSo : RequestHearing → Type 0) : Type 0 where
   pub hearing : RequestHearing
   pub heard : IsHeard given tree hearing
@@ -61,7 +62,7 @@ IsCutBy out text no_memory = GainedPrefix out.old out.new text
 IsCutBy out text (refused_write first last) = IsRefusedIn out text first last
 IsCutBy out text _ = ⊥
 
--- a value was had, and its text was written, or a prefix of that
+-- a value was found, and its text was written, or a prefix of that
 pub record WritesAll {X : Type 0} (given : CommandArguments) (tree : TreeSeen) (err out : SinkSeen) (IsSo : X → RequestHearing → Type 0) (text : X → List ℕ) (IsAnswer : X → Type 0) : Type 0 where
   pub value : X
   pub hears : HearsSo given tree err (IsSo value)

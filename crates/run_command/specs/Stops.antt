@@ -1,4 +1,5 @@
--- When a command is refused before it does its own: in which order, for which cause, and what was heard and written up to there.
+-- When a command is refused before it does its own: in which order, for which cause, and what was read and written up
+-- to there.
 use Rattle.std.specs.Prelude.{◌≡◌, ℕ, List, [], ◌++◌, None, Option, Result, Ok, Err}
 use Rattle.tree_core.specs.Call.{Call}
 use Rattle.graph_core.specs.Krate.{CrateRecord}
@@ -44,7 +45,7 @@ abbrev pub Refuses : CommandArguments → Result PolicyAndGraph Error → Error 
 Refuses given (Err first) error = first ≡ error
 Refuses given (Ok found) error = RefusesSelection given found error
 
--- The refusal is the first one, by what was heard up to there.
+-- The refusal is the first one, by what was read up to there.
 pub record IsRefusal (given : CommandArguments) (hearing : RequestHearing) (error : Error) : Type 0 where
   pub due : HearsAllDue given hearing
   pub crates : hearing.crates ≡ []
@@ -52,7 +53,7 @@ pub record IsRefusal (given : CommandArguments) (hearing : RequestHearing) (erro
 
 -- ---- where memory was wanting, or a write was refused
 
--- the first ones of the crates that are asked for by what was heard had their turns, under the policy that was found
+-- the first ones of the crates that are asked for by what was read had their turns, under the policy that was found
 pub record AreSettling (given : CommandArguments) (hearing : RequestHearing) (lost : List Call) : Type 0 where
   pub found : PolicyAndGraph
   pub is : input_of given hearing ≡ Ok found
@@ -62,14 +63,14 @@ pub record AreSettling (given : CommandArguments) (hearing : RequestHearing) (lo
   pub selected : AreSelected given found.policy found.graph chosen
   pub turns : HaveTurns (scanner_of_given given policy) policy (files_loaded given.request hearing) chosen hearing.crates lost
 
--- Where a command was given up, what was heard before is all that was due there, and nothing was read behind: on the way to the policy, at
--- the read of the metadata, or among the crates, perhaps in a call that found no memory.
+-- Where a command was given up, what was read before is all that was due there, and nothing was read behind: on the way
+-- to the policy, at the read of the metadata, or among the crates, perhaps in a call that found no memory.
 pub data StopsAt (given : CommandArguments) (hearing : RequestHearing) (lost : List Call) : Type 0 where
   at_policy : StopsBeforePolicy given.request hearing → hearing.metadata ≡ None → hearing.crates ≡ [] → lost ≡ [] → StopsAt given hearing lost
   at_metadata : HearsPolicy given.request hearing → hearing.crates ≡ [] → lost ≡ [] → StopsAt given hearing lost
   at_crates : HearsAllDue given hearing → AreSettling given hearing lost → StopsAt given hearing lost
 
--- The calls that are due by what was heard, up to some place, and perhaps one more, which found no memory.
+-- The calls that are due by what was read, up to some place, and perhaps one more, which found no memory.
 pub record IsGivenUp (given : CommandArguments) (tree : TreeSeen) (hearing : RequestHearing) : Type 0 where
   pub begun : hearing.begun ≡ tree.count_before
   pub lost : List Call
@@ -84,8 +85,8 @@ IsRefusedBy given tree hearing error _ = IsHeard given tree hearing × IsRefusal
 
 -- ---- what is so of a tree and a sink
 
--- The command was refused so by what was heard, and what is told of the load was written to the sink; a prefix of that where memory was
--- wanting or a write was refused.
+-- The command was refused so by what was read, and what is printed of the load was written to the sink; a prefix of
+-- that where memory was wanting or a write was refused.
 pub record Stops (given : CommandArguments) (tree : TreeSeen) (err : SinkSeen) (error : Error) : Type 0 where
   pub hearing : RequestHearing
   pub refused : IsRefusedBy given tree hearing error (cause_of error)

@@ -90,9 +90,9 @@ fn krates_left<T: Tree>(
     gather_krates_since(context, alloc, tree, &leaves, begun)
 }
 
-/// The policy of a command, and the crates that it looks at, of a request all of which is carried: the policy's files
-/// are looked for and loaded, what is told of the load is written, no code and no level stands twice, and the metadata
-/// is read. No file is known before.
+/// The policy of a command, and the crates that it looks at, of a request all of which is carried: the
+/// policy's files are looked for and loaded, what is printed of the load is written, no code and no level is
+/// there twice, and the metadata is read. No file is known before.
 pub fn crates_found<T: Tree, S: Sink, C: Catalog>(
     alloc: Global,
     context: &KrateContext,

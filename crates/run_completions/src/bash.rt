@@ -93,7 +93,7 @@ fn push_option_values(text: &mut String, command: &SubcommandRow) -> Result<(), 
     Ok(())
 }
 
-/// What a row adds to the words that may stand there: the option, or the words without a name.
+/// What a row adds to the words that may be there: the option, or the words without a name.
 fn push_word(text: &mut String, row: &OptionRow) -> Result<(), AllocError> {
     if is_word(row) {
         push_names(text, names_of(row.values))?;
@@ -104,7 +104,7 @@ fn push_word(text: &mut String, row: &OptionRow) -> Result<(), AllocError> {
     text.push_str(" ")
 }
 
-/// The options and words that may stand behind a command.
+/// The options and words that may be behind a command.
 fn push_words(text: &mut String, command: &SubcommandRow) -> Result<(), AllocError> {
     let name = command.name;
     let paths = if has_file(command.rows) {

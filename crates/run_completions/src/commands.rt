@@ -47,7 +47,7 @@ pub fn has_file(rows: &[OptionRow]) -> bool {
     rows.iter().any(|row| is_word(row) && matches!(row.values, OptionValues::File))
 }
 
-/// The names that a value may be, if these are told.
+/// The names that a value may be, if these are reported.
 pub fn names_of(values: OptionValues) -> &'static [&'static str] {
     match values {
         OptionValues::Names(names) => names,

@@ -99,7 +99,7 @@ fn push_rows(text: &mut String, command: &SubcommandRow) -> Result<(), AllocErro
     text.push_str(" -s h -l help -d 'Print help'\n")
 }
 
-/// A command is offered where none stands yet.
+/// A command is offered where none is yet.
 fn push_command(text: &mut String, name: &str, help: &str) -> Result<(), AllocError> {
     push_condition(text, "")?;
     write!(text, " -a {name} -d ")?;

@@ -1,4 +1,4 @@
--- Computed examples: each row holds as it stands.
+-- Computed examples: each row holds as it is there.
 use Rattle.std.proofs.Common.{◌≡◌, ℕ, List, [], ◌∷◌, codes, Bool, false, true, Option, Some, None, refl}
 use Rattle.run_request.specs.declared.context.KrateContext.{KrateContext}
 use Rattle.graph_workspace.specs.declared.error.UnsupportedPart.TheVariants.{MetadataPath, ExcludeSpec}

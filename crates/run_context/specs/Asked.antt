@@ -61,7 +61,8 @@ IsRefused context cfg_excludes result =
 abbrev pub IsUnasked : KrateContext → List (List ℕ) → List Call → List Call → Type 0
 IsUnasked context cfg_excludes old new = (what : UnsupportedPart) → unsupported_part context cfg_excludes ≡ Some what → new ≡ old
 
--- else the file at its path is read, and the crates are gathered by what its answer lets hear; memory may be wanting before the read
+-- else the file at its path is read, and the crates are gathered by what its answer says; memory may be wanting before
+-- the read
 abbrev pub IsAnswerBy : KrateContext → LeavesOut → ℕ → ℕ → List Call → List Call → Result ReachedCrates KratesError → Type 0
 IsAnswerBy context policy before after old new result =
     (path : List ℕ) → context.metadata_path ≡ Some path → unsupported_part context policy.exclude ≡ None

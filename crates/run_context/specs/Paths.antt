@@ -9,7 +9,8 @@ use Rattle.tree_core.specs.declared.texts.search.SearchError.TheVariants.{Memory
 use Rattle.tree_core.specs.declared.texts.search.SoughtFile.TheVariants.{Policy, Exceptions}
 use Rattle.tree_core.specs.texts.Search.{candidates}
 
--- at a path that is given nothing is looked at; else the looks of the search were made, up to the first at which something stands
+-- at a path that is given nothing is looked at; else the looks of the search were made, up to the first at which
+-- something is there
 abbrev pub LooksForPath : KrateContext → List Call → List Call → Option (List ℕ) → Option (List ℕ) → Type 0
 LooksForPath context old new (Some path) found = (found ≡ Some (join_of context.cwd path)) × (new ≡ old)
 LooksForPath context old new None found = FindsByLooks (candidates Policy context.manifest_path) old new found

@@ -66,12 +66,12 @@ graph_heard-Ok : (heard : Result (List ℕ) ReadFault) (graph : Graph) → graph
 graph_heard-Ok (Ok text) graph e = (text, refl, told-Ok (metadata_of text sparse_dir) graph e)
 graph_heard-Ok (Err fault) graph e = absurd (cc)
 
--- a graph that is heard is that of the bytes
+-- a graph that is read is that of the bytes
 pub bytes_of_graph : (given : RequestArguments) (hearing : RequestHearing) (graph : Graph) → graph_heard (metadata_heard given hearing) ≡ Ok graph → GraphAt given hearing graph
 bytes_of_graph given hearing graph e =
     let (text, heard, tells) = graph_heard-Ok (metadata_heard given hearing) graph e in
     record { text = text; heard = heard; tells = tells }
 
--- the graph of the bytes is heard
+-- the graph of the bytes is read
 pub graph_by_bytes : (given : RequestArguments) (hearing : RequestHearing) (graph : Graph) → GraphAt given hearing graph → graph_heard (metadata_heard given hearing) ≡ Ok graph
 graph_by_bytes given hearing graph at = ap graph_heard at.heard ∙ ap (λ one. or_krates_error (graph_or_error one)) at.tells

@@ -13,7 +13,7 @@ use Rattle.run_found.specs.Hearing.{LooksResult, look_failed, nowhere, at, IsRea
 
 -- ---- looks
 
--- what looks were told at which nothing stands
+-- what looks were reported at which nothing is there
 missed : List (List ℕ) → List CallAnswer
 missed [] = []
 missed (path ∷ paths) = call.told false ∷ missed paths
@@ -28,7 +28,7 @@ unfolding missed
 all_calls [] = refl
 all_calls (path ∷ paths) = ap (λ more. look_of path (call.told false) ∷ more) (all_calls paths)
 
--- behind those at which nothing stands, the next looks
+-- behind those at which nothing is there, the next looks
 front_missed : (before rest : List (List ℕ)) (more : List CallAnswer) → looks_by (before ++ rest) (missed before ++ more) ≡ looks_by rest more
 unfolding missed
 front_missed [] rest more = refl
@@ -58,7 +58,7 @@ abbrev pub looks_found : Option (List ℕ) → LooksResult
 looks_found None = nowhere
 looks_found (Some path) = at path
 
--- the calls up to a look that was told otherwise than that nothing stands there
+-- the calls up to a look that was reported otherwise than that nothing is there
 last_calls : (before : List (List ℕ)) (path : List ℕ) (rest paths : List (List ℕ)) (answer : CallAnswer) (old new : List Call) → paths ≡ before ++ path ∷ rest
     → look_calls (path ∷ rest) (answer ∷ []) ≡ look_of path answer ∷ [] → new ≡ old ++ absent_looks before ++ look_of path answer ∷ []
     → new ≡ old ++ look_calls paths (missed before ++ answer ∷ [])
@@ -106,7 +106,7 @@ pub no_read : (due : Option (List ℕ)) → read_calls due None ≡ []
 no_read None = refl
 no_read (Some path) = refl
 
--- what an answer lets hear, whatever the counts are, if it is heard between some
+-- what an answer says, whatever the counts are, if it is read between some
 pub heard_where : (answer : CallAnswer) (begun after : ℕ) (heard : Result (List ℕ) ReadFault) → text_answered begun after answer ≡ Some heard → is_heard (Some answer) ≡ true
 heard_where (call.bytes items) begun after heard is = refl
 heard_where (call.entries items) begun after heard is = absurd (cc)

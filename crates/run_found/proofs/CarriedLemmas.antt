@@ -1,4 +1,4 @@
--- A request of which all is carried, and one of which nothing was heard.
+-- A request of which all is carried, and one of which nothing was read.
 use Rattle.std.proofs.Common.{◌≡◌, ◌∙◌, refl, ap, ℕ, Bool, true, false, cond, List, [], ◌∷◌, Option, Some, None, Ok}
 use Rattle.std.specs.Prelude.{find, is_none, option_map}
 use Rattle.std.specs.List.{list_any}
@@ -40,7 +40,7 @@ specs_carried given hearing found policy is valid =
     let at = bytes_of_found given hearing found is in
     ap (λ (graph : GraphConfig). list_any is_unsupported graph.exclude) (valid.graph ∙ ap (λ (one : PolicyFound). one.graph) at.is.is) ∙ at.is.carried
 
--- nothing was heard
+-- nothing was read
 abbrev pub nothing_heard : ℕ → RequestHearing
 nothing_heard count = record { begun = count; sought = []; looks = []; policy = None; exceptions = None; metadata = None; crates = [] }
 

@@ -55,7 +55,7 @@ module _ (given : RequestArguments) (tree : TreeSeen) (paths : PolicyPaths) (hea
   abbrev came : LoadResult
   came = load_of given.lists [] paths heard
 
-  -- what is told of the load
+  -- what is printed of the load
   text_same : load_told given own ≡ load_text given.log (Ok came)
   text_same = told-due given own ended.due ∙ ap (load_text given.log) (loaded-is given own paths ended.paths_are ∙ ap Ok ended.loads)
 

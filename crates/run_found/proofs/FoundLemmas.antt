@@ -110,7 +110,7 @@ module _ (given : RequestArguments) (hearing : RequestHearing) where
       ∙ counts_due (policy_due given hearing) hearing.policy (count_looked given hearing) due.policy)
       ∙ counts_due (exceptions_due given hearing) hearing.exceptions (count_policy given hearing) due.exceptions
 
--- ---- what is told of a load, where all of it was heard
+-- ---- what is printed of a load, where all of it was read
 
 ended_true : (came : LooksResult) → (came ≡ unended → ⊥) → is_ended came ≡ true
 ended_true look_failed bound = refl

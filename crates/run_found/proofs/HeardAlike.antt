@@ -18,7 +18,7 @@ use Rattle.run_found.specs.Given.{RequestArguments}
 use Rattle.run_found.specs.Hearing.{LooksResult, unended, IsReadWhereDue, RequestHearing, count_behind, is_heard, look_by, look_calls, looks_behind, looks_by, read_calls, text_by}
 use Rattle.run_found.specs.Steps.{◌>>=◌, unless_refused}
 
--- ---- what is found, by what was heard
+-- ---- what is found, by what was read
 
 abbrev paths_by : Result (Option (List ℕ)) Error → Result (Option (List ℕ)) Error → Result PolicyPaths Error
 paths_by config exceptions = do
@@ -34,7 +34,7 @@ policy_by request paths heard = do
 abbrev files_by : RequestArguments → Result PolicyPaths Error → LoadHeard → List File
 files_by request paths heard = files_of_load (paths >>= λ own. Ok (load_of request.lists [] own heard))
 
--- what is found and heard is the same, and so are the file tables; and so much holds of the calls behind it
+-- what is found and read is the same, and so are the file tables; and so much holds of the calls behind it
 pub record FindsAlike (request : RequestArguments) (D : List Call → List Call → Type 0) (one other : RequestHearing) : Type 0 where
   pub policy : policy_found request one ≡ policy_found request other
   pub metadata : metadata_heard request one ≡ metadata_heard request other

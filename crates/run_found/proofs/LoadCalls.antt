@@ -22,7 +22,7 @@ use Rattle.run_found.specs.Found.{due_at, due_behind, due_by_text, unless_known}
 use Rattle.run_found.specs.Hearing.{IsReadWhereDue, count_behind, read_calls, text_by}
 use Rattle.run_found.proofs.CallLemmas.{heard_where, text_heard_by}
 
--- a read that is due at a path, where this was heard: what it was answered
+-- a read that is due at a path, where this was read: what it was answered
 pub record ReadsDue (due : Option (List ℕ)) (mid : ℕ) (between more : List Call) (Same : Result (List ℕ) ReadFault → Type 0) : Type 0 where
   pub answer : Option CallAnswer
   pub due_read : IsReadWhereDue due answer
@@ -41,7 +41,7 @@ none_due : (mid : ℕ) (between more : List Call) (Same : Result (List ℕ) Read
 none_due mid between more Same made same = record { answer = None; due_read = refl; made = made ∙ sym (append-nil between); same = same }
 
 module _ (mid after : ℕ) (between more : List Call) (counts : CountsFurther mid after between more) (files : List File) (text : Result (List ℕ) ReadFault) where
-  -- the same is heard of the exceptions file
+  -- the same is read of the exceptions file
   abbrev Alike : Option (List ℕ) → Result (List ℕ) ReadFault → Type 0
   Alike path own = exceptions_heard files path own ≡ exceptions_heard files path text
 
@@ -115,7 +115,7 @@ pub may_further : (files : List File) (path : Option (List ℕ)) (config : Resul
 may_further files path (Ok root) between more is = may_of files path between more is
 may_further files path (Err refused) between more is = may_none None between more is
 
--- a policy's text is told whatever the counts are
+-- a policy's text is reported whatever the counts are
 pub text_anyhow : (answer : CallAnswer) (begun after other : ℕ) (told : Result (List ℕ) ReadFault) (text : ConfigText) → text_answered begun after answer ≡ Some told → config_text_of told ≡ Ok text
     → text_by begun other (Some answer) ≡ told
 text_anyhow (call.bytes items) begun after other told text is by = cc

@@ -1,4 +1,4 @@
--- What is heard behind the two searches: of the policy's file, and of the exceptions file.
+-- What is read behind the two searches: of the policy's file, and of the exceptions file.
 use Rattle.std.proofs.Common.{◌≡◌, ◌∙◌, ◌⊎◌, inl, inr, refl, sym, ap, subst, ℕ, List, [], ◌∷◌, ◌++◌, append-nil, append_assoc, Option, Some, None, Result, Ok}
 use Rattle.tree_core.specs.Call.{CallAnswer, Call}
 use Rattle.tree_core.specs.Content.{Content}
@@ -27,7 +27,7 @@ use Rattle.run_found.proofs.SearchLemmas.{Searched, found-apart, path_found}
 
 -- ---- the policy's read
 
--- it was made where it was due, and this was heard by it
+-- it was made where it was due, and this was read by it
 pub record PolicyRead (begun first mid : ℕ) (between inner : List Call) (path : Option (List ℕ)) (told : Result (List ℕ) ReadFault) : Type 0 where
   pub answer : Option CallAnswer
   pub due_read : IsReadWhereDue path answer
@@ -48,7 +48,7 @@ policy_read begun first mid between inner (Some path) told read counts = record 
   count = counts (read_of path read.answer ∷ []) read.made;
 }
 
--- it was made where it was due, and a text was heard by it, whatever the counts are
+-- it was made where it was due, and a text was read by it, whatever the counts are
 record PolicyReadAnyhow (begun : ℕ) (between inner : List Call) (path : Option (List ℕ)) (told : Result (List ℕ) ReadFault) : Type 0 where
   pub answer : Option CallAnswer
   pub due_read : IsReadWhereDue path answer
@@ -86,7 +86,7 @@ module _ (given : RequestArguments) (paths : PolicyPaths) (old between : List Ca
   abbrev pub search_calls : List Call
   search_calls = look_calls (paths_sought given) found.sought ++ look_calls (candidates Exceptions given.context.manifest_path) found.looks
 
-  -- what is heard, with these answers behind them
+  -- what is read, with these answers behind them
   abbrev pub heard_with : Option CallAnswer → Option CallAnswer → PolicyHeard
   heard_with policy exceptions = record { sought = found.sought; looks = found.looks; policy = policy; exceptions = exceptions }
 
@@ -129,7 +129,7 @@ module _ (given : RequestArguments) (paths : PolicyPaths) (old between : List Ca
 
 -- ---- a load that came to its end
 
--- A load came to its end over a tree: this is heard of the policy's files, and it loads to the same.
+-- A load came to its end over a tree: this is read of the policy's files, and it loads to the same.
 pub record LoadEnded (given : RequestArguments) (tree : TreeSeen) (paths : PolicyPaths) (heard : LoadHeard) : Type 0 where
   pub hears : PolicyHeard
   pub paths_are : paths_found given (policy_hearing tree hears) ≡ Ok paths
@@ -174,7 +174,7 @@ module _ (given : RequestArguments) (paths : PolicyPaths) (old between more : Li
       reads.made ∙ ap (λ those. those ++ read_calls due_further reads.answer) policy.made
       ∙ append_assoc between (read_calls paths.policy policy.answer) (read_calls due_further reads.answer)
 
-  -- what is heard up to the policy
+  -- what is read up to the policy
   abbrev load_hears : PolicyHeard
   load_hears = heard_with given paths old between found policy.answer reads.answer
 

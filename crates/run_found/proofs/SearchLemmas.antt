@@ -176,7 +176,7 @@ module _ (given : RequestArguments) (told tells : Option Content) (count after :
     written = nothing_of held (load_told given (policy_hearing tree (looked_alone looks.looks [])));
   }
 
-  -- what is heard where the paths were refused
+  -- what is read where the paths were refused
   refused_due : (hearing : RequestHearing) (error : Error) → paths_found given hearing ≡ Err error → hearing.policy ≡ None → hearing.exceptions ≡ None
       → (looks_by (paths_sought given) hearing.sought ≡ unended → ⊥) → (looks_by (paths_looked given hearing) hearing.looks ≡ unended → ⊥) → HearsPolicy given hearing
   refused_due hearing error refused none_policy none_exceptions sought looks = record {

@@ -48,7 +48,8 @@ error_text (WriteFault before after) = codes "writing failed"
 abbrev pub fault_line : Error → List ℕ
 fault_line error = codes "error: " ++ error_text error ++ codes "\n"
 
--- A failed read of a verdict file is told by what is heard of the file: its counts are not those since the run began.
+-- A failed read of a verdict file is reported by what is read of the file: its counts are not those since the run
+-- began.
 abbrev pub cause_of : Error → Cause
 cause_of Memory = no_memory
 cause_of (ManifestRead before after) = failed_read before after

@@ -15,14 +15,15 @@ use Rattle.run_found.specs.Given.{RequestArguments}
 use Rattle.run_found.specs.Hearing.{RequestHearing, IsReadWhereDue, MadeOn, TreeSeen}
 use Rattle.run_found.specs.Written.{TextWritten}
 
--- what is heard up to the policy
+-- what is read up to the policy
 pub record PolicyHeard : Type 0 where
   pub sought : List CallAnswer
   pub looks : List CallAnswer
   pub policy : Option CallAnswer
   pub exceptions : Option CallAnswer
 
--- the same with what is heard behind it. What is found of a policy does not hang on that, so each fact below holds of each.
+-- the same with what is read behind it. What is found of a policy does not depend on that, so each fact below holds of
+-- each.
 abbrev pub hearing_of : ℕ → PolicyHeard → Option CallAnswer → List ReadsOfCrate → RequestHearing
 hearing_of begun heard metadata crates = record {
   begun = begun;
@@ -43,8 +44,8 @@ pub record HearsPolicy (given : RequestArguments) (hearing : RequestHearing) : T
   pub policy : IsReadWhereDue (policy_due given hearing) hearing.policy
   pub exceptions : IsReadWhereDue (exceptions_due given hearing) hearing.exceptions
 
--- The calls of what was heard were made, each that was due, and no other; a policy was found, and is the one that is answered, its
--- lists in order; the files are those of its load; and what is told of the load was written.
+-- The calls of what was read were made, each that was due, and no other; a policy was found, and is the one that is
+-- answered, its lists in order; the files are those of its load; and what is printed of the load was written.
 pub record FindsLoaded (given : RequestArguments) (tree : TreeSeen) (old new : Option (List ℕ)) (files : List File) (loaded : LoadedPolicy) : Type 0 where
   pub heard : PolicyHeard
   pub made : MadeOn tree (policy_calls given (policy_hearing tree heard))
@@ -55,7 +56,7 @@ pub record FindsLoaded (given : RequestArguments) (tree : TreeSeen) (old new : O
   pub files_are : files ≡ files_loaded given (policy_hearing tree heard)
   pub written : Gained old new (load_told given (policy_hearing tree heard))
 
--- The calls of what was heard were made, and no other; the refusal is the one that it comes to.
+-- The calls of what was read were made, and no other; the refusal is the one that it comes to.
 pub record FindsRefusal (given : RequestArguments) (tree : TreeSeen) (old new : Option (List ℕ)) (before after : ℕ) (refusal : PolicyRefusal) : Type 0 where
   pub heard : PolicyHeard
   pub made : MadeOn tree (policy_calls given (policy_hearing tree heard))
@@ -70,8 +71,8 @@ pub data StopsBeforePolicy (given : RequestArguments) (hearing : RequestHearing)
   at_policy : LooksEnd given hearing → hearing.exceptions ≡ None → StopsBeforePolicy given hearing
   at_exceptions : LooksEnd given hearing → IsReadWhereDue (policy_due given hearing) hearing.policy → StopsBeforePolicy given hearing
 
--- Memory was wanting or a write was refused: the calls are those that were due up to some place, and a prefix of what is told by them was
--- written.
+-- Memory was wanting or a write was refused: the calls are those that were due up to some place, and a prefix of what
+-- is reported by them was written.
 pub record FindsInPart (given : RequestArguments) (tree : TreeSeen) (old new : Option (List ℕ)) (before after : ℕ) (cause : Cause) : Type 0 where
   pub heard : PolicyHeard
   pub made : MadeOn tree (policy_calls given (policy_hearing tree heard))

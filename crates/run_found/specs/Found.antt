@@ -87,7 +87,7 @@ paths_found given hearing = do
   exceptions ← exceptions_in given hearing
   Ok (record { policy = config; exceptions = exceptions })
 
--- ---- what is heard
+-- ---- what is read
 
 abbrev pub count_policy : RequestArguments → RequestHearing → ℕ
 count_policy given hearing = count_behind (count_looked given hearing) hearing.policy
@@ -192,19 +192,21 @@ files_of_load (Err error) = []
 abbrev pub files_loaded : RequestArguments → RequestHearing → List File
 files_loaded given hearing = files_of_load (loaded_of given hearing)
 
--- what is told of a load at a format and level: all of its findings, or what is wrong with the policy's shape; nothing where there was none
+-- what is printed of a load at a format and level: all of its findings, or what is wrong with the policy's shape;
+-- nothing where there was none
 abbrev pub load_text : LogContext → Result LoadResult Error → List ℕ
 load_text log (Ok loaded) = printed_findings log loaded.files loaded.findings
 load_text log (Err error) = []
 
--- each look and each read that a load takes was made where it was due, and something is heard by it
+-- each look and each read that a load takes was made where it was due, and something is read by it
 abbrev pub is_load_heard : RequestArguments → RequestHearing → Bool
 is_load_heard given hearing =
     is_ended (looks_by (paths_sought given) hearing.sought)
     && (is_ended (looks_by (paths_looked given hearing) hearing.looks)
     && (is_read_where_due (policy_due given hearing) hearing.policy && is_read_where_due (exceptions_due given hearing) hearing.exceptions))
 
--- What is told of a load by what was heard. Nothing is told of a policy or an exceptions file that was not read where it was due.
+-- What is printed of a load by what was read. Nothing is reported of a policy or an exceptions file that was not read
+-- where it was due.
 abbrev pub load_told : RequestArguments → RequestHearing → List ℕ
 load_told given hearing = if is_load_heard given hearing then load_text given.log (loaded_of given hearing) else []
 
@@ -220,7 +222,7 @@ pub record PolicyAndGraph : Type 0 where
   pub policy : PolicyFound
   pub graph : Graph
 
--- no call was heard of
+-- no call is known of
 pub record HearsNothing (hearing : RequestHearing) : Type 0 where
   pub sought : hearing.sought ≡ []
   pub looks : hearing.looks ≡ []

@@ -1,4 +1,4 @@
--- What is heard on the way to the licences of crates, by what each call was answered.
+-- What is read on the way to the licences of crates, by what each call was answered.
 use Rattle.std.specs.Prelude.{◌≡◌, ℕ, Bool, true, false, List, [], ◌∷◌, map, is_some, Option, Some, None, unwrap_or, Result, Err}
 use Rattle.tree_core.specs.Call as call
 use Rattle.tree_core.specs.Call.{CallAnswer, Call}
@@ -24,7 +24,7 @@ pub record RequestHearing : Type 0 where
   pub metadata : Option CallAnswer
   pub crates : List ReadsOfCrate
 
--- what a tree told before a run and behind it: its content, its count of faults, and its calls
+-- what a tree reported before a run and behind it: its content, its count of faults, and its calls
 pub record TreeSeen : Type 0 where
   pub told : Option Content
   pub tells : Option Content
@@ -58,9 +58,9 @@ crates_heard hearing = map (λ (one : ReadsOfCrate). one.krate) hearing.crates
 pub data LooksResult : Type 0 where
   -- one of them failed
   look_failed : LooksResult
-  -- at no path stands anything
+  -- at no path is anything
   nowhere : LooksResult
-  -- something stands at this one
+  -- something is at this one
   at : List ℕ → LooksResult
   -- memory was wanting, or not all were made that were due
   unended : LooksResult
@@ -76,7 +76,7 @@ look_by call.wrong_kind path rest = unended
 look_by call.failed path rest = look_failed
 look_by call.no_memory path rest = unended
 
--- looks at these paths in order, up to the first that is not told that nothing stands there
+-- looks at these paths in order, up to the first that is not reported that nothing is there
 abbrev pub looks_by : List (List ℕ) → List CallAnswer → LooksResult
 looks_by [] answers = nowhere
 looks_by (path ∷ paths) [] = unended
@@ -119,17 +119,17 @@ abbrev pub count_behind : ℕ → Option CallAnswer → ℕ
 count_behind count None = count
 count_behind count (Some answer) = fault_behind count answer
 
--- What its answer lets hear, between two counts. Where none was made, and where memory was wanting, nothing is there.
+-- What its answer says, between two counts. Where none was made, and where memory was wanting, nothing is there.
 abbrev pub text_by : ℕ → ℕ → Option CallAnswer → Result (List ℕ) ReadFault
 text_by begun after None = Err Absent
 text_by begun after (Some answer) = unwrap_or (text_answered begun after answer) (Err Absent)
 
--- something is heard by it
+-- something is read by it
 abbrev pub is_heard : Option CallAnswer → Bool
 is_heard None = false
 is_heard (Some answer) = is_some (text_answered 0 0 answer)
 
--- a read that is due was made, and something is heard by its answer; one that is not due was not made
+-- a read that is due was made, and something is read by its answer; one that is not due was not made
 abbrev pub IsReadWhereDue : Option (List ℕ) → Option CallAnswer → Type 0
 IsReadWhereDue None answer = answer ≡ None
 IsReadWhereDue (Some path) answer = is_heard answer ≡ true

@@ -33,8 +33,8 @@ scanner_of_policy lists match_of policy = record { lists = lists; match_of = mat
 
 -- ---- one crate
 
--- What has priority of a crate, by what the answers to its own reads let hear: a clarification of the policy whose files have their
--- hashes, else the crate's field, else what its licence files are identified as, else nothing.
+-- What has priority of a crate, by what the answers to its own reads say: a clarification of the policy whose files
+-- have their hashes, else the crate's field, else what its licence files are identified as, else nothing.
 abbrev pub priority_heard : Scanner → ValidConfig → ReadsOfCrate → Option LicenseAnswer
 priority_heard scanner policy one =
     priority_of scanner (clarifications_of one.krate (entries_of policy)) one.krate (known_reads_by one.reads)
@@ -49,8 +49,8 @@ pub record IsManifestRead (clarifications : List ClarificationView) (krate : Cra
   pub kind : read.kind ≡ Manifest
   pub path : read.path ≡ krate.manifest_path
 
--- The records of a crate's reads are those that its licence asks for by what their answers let hear, each file once, and perhaps
--- the one of its manifest.
+-- The records of a crate's reads are those that its licence asks for by what their answers say, each file once, and
+-- perhaps the one of its manifest.
 pub record ReadsItsFiles (scanner : Scanner) (policy : ValidConfig) (one : ReadsOfCrate) : Type 0 where
   pub manifest : Option ReadRecord
   pub of_manifest : IfSome manifest (IsManifestRead (clarifications_of one.krate (entries_of policy)) one.krate (known_reads_by one.reads))

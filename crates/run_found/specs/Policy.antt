@@ -46,9 +46,9 @@ abbrev pub ExceptionsAt : CatalogLists → List File → Option (List ℕ) → R
 ExceptionsAt lists files None heard read = read ≡ no_file
 ExceptionsAt lists files (Some path) heard read = ExceptionsFileAt lists files path heard read
 
--- What is heard of the two files is a policy: the policy's text has a value, the value has the shape of a policy, which
--- leaves out no crate by a spec that is not carried; an exceptions file that is there is one; and nothing that is told of the
--- two is an error.
+-- What is read of the two files is a policy: the policy's text has a value, the value has the shape of a policy, which
+-- leaves out no crate by a spec that is not carried; an exceptions file that is there is one; and nothing that is
+-- reported of the two is an error.
 pub record IsPolicyAt (lists : CatalogLists) (paths : PolicyPaths) (heard : LoadHeard) (found : PolicyFound) : Type 0 where
   pub text : ConfigText
   pub text_of : IsTextOf heard.policy text
@@ -64,7 +64,7 @@ pub record IsPolicyAt (lists : CatalogLists) (paths : PolicyPaths) (heard : Load
 
 -- ---- over a hearing
 
--- The policy's bytes: the looks say where its two files are, and what is heard at the two paths is this policy.
+-- The policy's bytes: the looks say where its two files are, and what is read at the two paths is this policy.
 pub record PolicyAt (given : RequestArguments) (hearing : RequestHearing) (policy : PolicyFound) : Type 0 where
   pub config : Option (List ℕ)
   pub config_found : config_in given hearing ≡ Ok config

@@ -45,7 +45,7 @@ pub enum Error {
     ConfigShape(ShapeErrors),
     /// Of these findings of the load one is an error at least.
     ConfigInvalid(Diagnostics),
-    /// A code or a level stands twice among the levels that are asked for.
+    /// A code or a level is there twice among the levels that are asked for.
     OverrideTwice {
         name: Text,
         first: Severity,

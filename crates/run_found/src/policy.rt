@@ -79,8 +79,8 @@ fn policy_paths<T: Tree>(
     Ok(PolicyPaths { policy, exceptions })
 }
 
-/// The policy of a request: its two files are looked for and loaded, and what is told of the load is printed.
-/// No file is known before it.
+/// The policy of a request: its two files are looked for and loaded, and what is printed of the load is
+/// printed. No file is known before it.
 pub fn policy_found<T: Tree, S: Sink, C: Catalog>(
     alloc: Global,
     context: &KrateContext,
@@ -91,8 +91,8 @@ pub fn policy_found<T: Tree, S: Sink, C: Catalog>(
     catalog: &C,
 ) -> Result<LoadedPolicy, PolicyRefusal>
     requires { files.old ≡ [] }
-    // By what was heard: the calls that were due were made, and no other; the policy or its refusal is what they
-    // come to; and what is told of the load was written.
+    // By what was read: the calls that were due were made, and no other; the policy or its refusal is what
+    // they come to; and what is printed of the load was written.
     ensures found { FindsPolicy
         (request_arguments_of (C.lists catalog.now) log_ctx context.now)
         (seen_between T.content T.fault_count T.trace tree.old tree.new)

@@ -1,4 +1,4 @@
--- The licences that were heard, as what is listed of crates and as their reads.
+-- The licences that were read, as what is listed of crates and as their reads.
 use Rattle.std.proofs.Common.{◌≡◌, ◌∙◌, refl, ap, ap₂, List, [], ◌∷◌, map}
 use Rattle.std.specs.List.{AllZip}
 use Rattle.gather_core.specs.Calls.{ReadsOfCrate}
@@ -26,7 +26,7 @@ module _ (scanner : Scanner) (policy : ValidConfig) where
       (ap crate_name heard.krate)
       (told_licenses license.lic_info ∙ ap licenses_in heard.expression)
 
-  -- each crate is listed as its reads let hear
+  -- each crate is listed as its reads say
   pub all_are_listed : (crates : List ReadsOfCrate) (licenses : List KrateLicense) → AllZip (IsLicenseHeard scanner policy) crates licenses → map listed_of licenses ≡ all_listed scanner policy crates
   all_are_listed [] [] heard = refl
   all_are_listed [] (license ∷ licenses) heard = absurd heard

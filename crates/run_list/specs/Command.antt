@@ -30,8 +30,8 @@ FailedReadsRise tree crates = RiseInOrder tree.count_before (reads_in crates) tr
 pub record IsListRun (given : ListArguments) (tree : TreeSeen) (err out : SinkSeen) (result : Result (List CrateRead) Error) : Type 0 where
   -- Where a part of the request is not carried, that is the refusal; no call is made, and nothing is written.
   pub unsupported : (what : UnsupportedPart) → given.command.options.unsupported ≡ Some what → (result ≡ Err (NotCarried what)) × IsUntouched tree × IsSilent err × IsSilent out
-  -- Else the listing that is asked for by what was heard is written, whatever the tree tells of its content, and nothing else was read;
-  -- each refusal is the first one, by its cause.
+  -- Else the listing that is asked for by what was read is written, whatever the tree tells of its content, and nothing
+  -- else was read; each refusal is the first one, by its cause.
   pub lists : given.command.options.unsupported ≡ None → Lists given tree err out result
   -- A failed read has a cause, and failed reads that are answered rise.
   pub counts : IfErr result (λ error. ReadCounts tree.count_before tree.count_before tree.count_after (cause_of error))

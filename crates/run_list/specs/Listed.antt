@@ -1,4 +1,4 @@
--- What a listing tells of crates, by what the answers to their reads let hear.
+-- What a listing tells of crates, by what the answers to their reads say.
 use Rattle.std.specs.Prelude.{◌≡◌, ℕ, List, [], map, Option, Some, None}
 use Rattle.spdx_core.specs.Reading.{ExpressionView}
 use Rattle.tree_core.specs.file_reads.Read.{records_of_reads}
@@ -17,7 +17,7 @@ abbrev pub licenses_in : Option ExpressionView → List (List ℕ)
 licenses_in (Some expression) = distinct_texts (printed_terms expression.terms)
 licenses_in None = []
 
--- a crate as a listing has it, by what the answers to its own reads let hear
+-- a crate as a listing has it, by what the answers to its own reads say
 abbrev pub listed_by : Scanner → ValidConfig → ReadsOfCrate → ListedCrate
 listed_by scanner policy one = record {
   name = crate_name one.krate;

@@ -15,9 +15,9 @@ use Rattle.run_list.specs.declared.crates.CrateListing.{CrateListing}
 use Rattle.run_list.specs.Given.{ListArguments}
 use Rattle.run_list.specs.Listed.{IsReadOf, all_listed, listing_text}
 
--- What was heard asks for this listing: each crate that is asked for is listed, in order, whatever the policy allows, with the licences of
--- what has priority by what the answers to its own reads let hear; each crate's own files were read, once, and no other file for it; and its
--- reads are answered as they were made.
+-- What was read asks for this listing: each crate that is asked for is listed, in order, whatever the policy allows,
+-- with the licences of what has priority by what the answers to its own reads say; each crate's own files were read,
+-- once, and no other file for it; and its reads are answered as they were made.
 pub record IsListing (given : ListArguments) (listing : CrateListing) (hearing : RequestHearing) : Type 0 where
   pub policy : ValidConfig
   pub licenses : List KrateLicense

@@ -25,9 +25,9 @@ use spdx_core::{Catalog, Identifier};
 use std::alloc::Global;
 use tree_core::{Sink, Tree};
 
-/// What a request and the files have listed: each crate that the request, its policy and its metadata select, whatever
-/// the policy allows. The flags of the policy's graph leave none out. What is told of the policy's load is written to
-/// `err`.
+/// What a request and the files have listed: each crate that the request, its policy and its metadata select,
+/// whatever the policy allows. The flags of the policy's graph leave none out. What is printed of the
+/// policy's load is written to `err`.
 fn listing_found<T: Tree, S: Sink, C: Catalog, I: Identifier>(
     alloc: Global,
     tree: &mut T,
@@ -94,10 +94,10 @@ fn write_crates<O: Sink>(
     }
 }
 
-/// The command `list` of a request, all of which is carried: each crate that the request, its policy and its metadata
-/// select is listed with its licences, whatever the policy allows. What is told of the policy's load is written to
-/// `err`, and the listing to `out`. Nothing is checked, so nothing else is told. The answer has the reads of each
-/// crate.
+/// The command `list` of a request, all of which is carried: each crate that the request, its policy and its
+/// metadata select is listed with its licences, whatever the policy allows. What is printed of the policy's
+/// load is written to `err`, and the listing to `out`. Nothing is checked, so nothing else is reported. The
+/// answer has the reads of each crate.
 pub fn list_since<T: Tree, O: Sink, S: Sink, C: Catalog, I: Identifier>(
     alloc: Global,
     tree: &mut T,
@@ -128,7 +128,8 @@ pub fn list_since<T: Tree, O: Sink, S: Sink, C: Catalog, I: Identifier>(
     Ok(reads)
 }
 
-/// The command `list` of a request: `list_since`, once a look at the words has told that all of the request is carried.
+/// The command `list` of a request: `list_since`, once a look at the words has reported that all of the
+/// request is carried.
 pub fn cmd<T: Tree, O: Sink, S: Sink, C: Catalog, I: Identifier>(
     alloc: Global,
     tree: &mut T,

@@ -15,7 +15,7 @@ module _ {A : Type 0} (xs : List A) (i : ℕ) (x : A) (within : i < length xs) (
   pub one_more : take (i + 1) xs ≡ take i xs ++ x ∷ []
   one_more = take_more xs i x within ∙ ap (λ y. take i xs ++ y ∷ []) (sym at)
 
-  -- the item, and what stands behind it
+  -- the item, and what is behind it
   pub item_first : drop i xs ≡ x ∷ drop (i + 1) xs
   item_first = drop_more xs i x within ∙ ap (λ y. y ∷ drop (i + 1) xs) (sym at)
 
@@ -33,7 +33,7 @@ module _ {A : Type 0} (xs : List A) (i : ℕ) (x : A) (within : i < length xs) (
       ∙ flat_map-append f (take i xs) (drop i xs)
       ∙ ap (λ rest. flat_map f (take i xs) ++ flat_map f rest) item_first
 
-  -- what one item more adds, behind what stood there
+  -- what one item more adds, behind what was there there
   pub text_step : (f : A → List ℕ) (start before after : List ℕ) → before ≡ start ++ flat_map f (take i xs) → after ≡ before ++ f x → after ≡ start ++ flat_map f (take (i + 1) xs)
   text_step f start before after was adds =
       adds

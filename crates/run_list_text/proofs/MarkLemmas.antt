@@ -19,7 +19,7 @@ use Rattle.run_list_text.specs.Listing.{mark_if, marks}
 use Rattle.run_list_text.specs.Marks.{HasColumns, is_next, rest_if, column_marks}
 use Rattle.run_list_text.proofs.ListLemmas.{item_first}
 
--- what stands in front stays there
+-- what is in front stays there
 pub front_then : {A : Type 0} (first second third : List A) → StandsInFront first second → StandsInFront second third → StandsInFront first third
 front_then first second third (more, is) (others, grown) = (more ++ others, grown ∙ ap (λ items. items ++ others) is ∙ append_assoc first more others)
 
@@ -83,7 +83,7 @@ marks_skip [] license licenses less = refl
 marks_skip (column ∷ columns) license licenses less =
     ap₂ (λ hit rest. mark_if (hit || has_text licenses column) ++ rest) (other_text license column less.0) (marks_skip columns license licenses less.1)
 
--- licences that stand behind a column lack it
+-- licences that are behind a column lack it
 lacks : (licenses : List (List ℕ)) (column : List ℕ) → AllByRecursion (λ license. slice_cmp nat_cmp column license ≡ Less) licenses → has_text licenses column ≡ false
 lacks [] column behind = refl
 lacks (license ∷ licenses) column behind = neither _ _ (greater_text column license behind.0) (lacks licenses column behind.1)
@@ -95,7 +95,7 @@ among_rest [] column columns behind among = tt
 among_rest (license ∷ licenses) column columns behind among =
     (other_one _ _ (other_text column license behind.0) among.0, among_rest licenses column columns behind.1 among.1)
 
--- what stands behind a text stands behind what is less
+-- what is behind a text is behind what is less
 all_behind : (x y : List ℕ) (texts : List (List ℕ)) → slice_cmp nat_cmp x y ≡ Less → AllByRecursion (λ z. slice_cmp nat_cmp y z ≡ Less) texts → AllByRecursion (λ z. slice_cmp nat_cmp x z ≡ Less) texts
 all_behind x y [] less behind = tt
 all_behind x y (z ∷ texts) less behind = (less_than_both x y z less behind.0, all_behind x y texts less behind.1)

@@ -46,7 +46,7 @@ module _ (old mid new : Option (List ℕ)) (pending text : List ℕ) (before : L
       (sym (append_assoc before.front pending more) ∙ ap (λ front. front ++ more) before.parts)
       (Gained-then old mid new before.front (pending ++ more) before.gained gained)
 
-  -- a front of what was pending and of a text behind it is a front of the whole
+  -- a prefix of what was pending and of a text behind it is a prefix of the whole
   pub pending_cut : (more rest whole : List ℕ) → whole ≡ text ++ (more ++ rest) → GainedPrefix mid new (pending ++ more) → GainedPrefix old new whole
   pending_cut more rest whole is cut = record {
     front = before.front ++ cut.front;
@@ -60,7 +60,7 @@ module _ (old mid new : Option (List ℕ)) (pending text : List ℕ) (before : L
     gained = Gained-then old mid new before.front cut.front before.gained cut.gained;
   }
 
-  -- the same where nothing stands behind that text
+  -- the same where nothing is behind that text
   pub last_cut : (more : List ℕ) → GainedPrefix mid new (pending ++ more) → GainedPrefix old new (text ++ more)
   last_cut more cut = pending_cut more [] (text ++ more) (ap (λ behind. text ++ behind) (sym (append-nil more))) cut
 
@@ -72,14 +72,14 @@ module _ {A : Type 0} (f : A → List ℕ) (xs : List A) (i : ℕ) (x : A) (with
       (append_assoc start (flat_map f (take i xs)) (f x) ∙ ap (λ text. start ++ text) (sym (text_more xs i x within at f)))
       (pending_more old mid new pending (start ++ flat_map f (take i xs)) before left (f x) next)
 
-  -- a front of them is a front of the whole
+  -- a prefix of them is a prefix of the whole
   pub one_pending_cut : GainedPrefix mid new (pending ++ f x) → GainedPrefix old new (start ++ flat_map f xs)
   one_pending_cut cut =
       pending_cut old mid new pending (start ++ flat_map f (take i xs)) before (f x) (flat_map f (drop (i + 1) xs)) (start ++ flat_map f xs)
       (ap (λ text. start ++ text) (text_cut xs i x within at f) ∙ sym (append_assoc start (flat_map f (take i xs)) (f x ++ flat_map f (drop (i + 1) xs))))
       cut
 
--- what is a front of a text is a front of that text with another behind it
+-- what is a prefix of a text is a prefix of that text with another behind it
 pub front_of_more : (old new : Option (List ℕ)) (text more : List ℕ) → GainedPrefix old new text → GainedPrefix old new (text ++ more)
 front_of_more old new text more cut = record {
   front = cut.front;

@@ -21,7 +21,7 @@ plain_byte byte = if byte == 9 then 32 else (if byte == 10 then 32 else byte)
 abbrev pub plain_text : List ℕ → List ℕ
 plain_text text = map plain_byte text
 
--- texts, each behind a text that stands between
+-- texts, each behind a text that is between
 abbrev pub texts_behind : List ℕ → List (List ℕ) → List ℕ
 texts_behind between texts = flat_map (λ text. between ++ plain_text text) texts
 
@@ -36,7 +36,7 @@ joined_texts between (text ∷ texts) = plain_text text ++ texts_behind between 
 abbrev pub title_of : List ℕ → ℕ → List ℕ
 title_of title count = plain_text title ++ (codes " (" ++ (decimal count ++ codes "): "))
 
--- what stands under a title, with commas between
+-- what is under a title, with commas between
 abbrev pub group_line : List ℕ → List (List ℕ) → List ℕ
 group_line title texts = title_of title (length texts) ++ (joined_texts (codes ", ") texts ++ codes "\n")
 

@@ -11,7 +11,7 @@ use crate::plain::{push_joined, push_plain, push_text};
 use deny_text::Text;
 use std::alloc::{AllocError, Global};
 
-/// Appends a title, and how many stand under it.
+/// Appends a title, and how many are under it.
 fn push_title(out: &mut Vec<u8>, alloc: Global, title: &str, count: usize) -> Result<(), AllocError>
     ensures ok { OnOk result (out.new.items ≡ out.old.items ++ title_of title.now count) }
     ensures front { StandsInFront out.old.items out.new.items }
@@ -21,7 +21,7 @@ fn push_title(out: &mut Vec<u8>, alloc: Global, title: &str, count: usize) -> Re
     push_text(out, counted.as_str())
 }
 
-/// Appends what stands under a title.
+/// Appends what is under a title.
 fn push_group(
     out: &mut Vec<u8>,
     alloc: Global,

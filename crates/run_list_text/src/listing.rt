@@ -108,8 +108,8 @@ fn write_json<S: Sink>(
     write_text(&mut text, sink, begun)
 }
 
-/// Writes a listing of crates, of each of which the licences stand in byte order, each once. `begun` is the sink's
-/// count of faults when the command began.
+/// Writes a listing of crates, of each of which the licences are in byte order, each once. `begun` is the
+/// sink's count of faults when the command began.
 pub fn write_listing<S: Sink>(
     alloc: Global,
     crates: &[ListedCrate],

@@ -37,7 +37,7 @@ pub(crate) fn push_plain(out: &mut Vec<u8>, text: &str) -> Result<(), AllocError
     Ok(())
 }
 
-/// Appends a text behind one that stands between.
+/// Appends a text behind one that is between.
 fn push_behind(out: &mut Vec<u8>, between: &str, text: &str) -> Result<(), AllocError>
     ensures ok { OnOk result (out.new.items ≡ out.old.items ++ (between.now ++ plain_text text.now)) }
     ensures front { StandsInFront out.old.items out.new.items }
@@ -46,7 +46,7 @@ fn push_behind(out: &mut Vec<u8>, between: &str, text: &str) -> Result<(), Alloc
     push_plain(out, text)
 }
 
-/// Appends texts, each behind one that stands between.
+/// Appends texts, each behind one that is between.
 pub(crate) fn push_further(
     out: &mut Vec<u8>,
     between: &str,

@@ -51,7 +51,7 @@ fn rest_if(is_used: bool, licenses: &[Text]) -> &[Text]
     }
 }
 
-/// Appends the columns of a crate. Its licences stand in the order of the columns, so both are walked once.
+/// Appends the columns of a crate. Its licences are in the order of the columns, so both are walked once.
 fn push_marks(out: &mut Vec<u8>, columns: &[Text], licenses: &[Text]) -> Result<(), AllocError>
     requires { HasColumns columns.now licenses.now }
     ensures ok { OnOk result (out.new.items ≡ out.old.items ++ marks columns.now licenses.now) }

@@ -1,4 +1,4 @@
--- Levels that words ask for, and what stands twice, worked out by hand.
+-- Levels that words ask for, and what is there twice, worked out by hand.
 use Rattle.std.proofs.Common.{◌≡◌, List, [], ◌∷◌, codes, Some, None, refl}
 use Rattle.diag_core.specs.declared.code.DiagnosticCode.TheVariants.{License}
 use Rattle.diag_core.specs.declared.licenses.Code.TheVariants as license
@@ -41,7 +41,7 @@ back_again = refl
 another_code : level_asked (words (rejected ∷ []) [] (Level Allowed ∷ [])) (codes "license-not-encountered") Warning ≡ Warning
 another_code = refl
 
--- ---- what stands twice
+-- ---- what is there twice
 
 -- -W rejected -A rejected: what is allowed comes first
 twice_code : first_twice (words (rejected ∷ []) (rejected ∷ []) []) ≡ Some (record { name = codes "rejected"; first = Note; second = Warning })

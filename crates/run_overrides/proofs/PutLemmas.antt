@@ -70,7 +70,7 @@ asked_before items overrides set (Level level) = sym (set.levels (severity_of_le
 
 -- ---- in a loop
 
--- the first items are set, and what stands twice is behind them
+-- the first items are set, and what is there twice is behind them
 pub record IsSoFar (items : List LevelItem) (place : ℕ) (overrides : DiagnosticOverrides) : Type 0 where
   pub set : AreSet (take place items) overrides
   pub twice : twice_behind (take place items) (drop place items) ≡ twice_behind [] items
@@ -114,7 +114,7 @@ next_set items place item overrides new within at so none is =
 abbrev told_twice : List ℕ → Severity → Severity → Twice
 told_twice name first second = record { name = name; first = first; second = second }
 
--- the next one stands twice
+-- the next one is there twice
 next_twice : (items : List LevelItem) (place : ℕ) (item : LevelItem) (overrides : DiagnosticOverrides) → place < length items → item ≡ get_or items place item → IsSoFar items place overrides
     → (error : OverrideError) → IsTold (set_before overrides item.subject) (name_of item.subject) item.severity error → IsFirstTold (twice_behind [] items) error
 next_twice items place item overrides within at so Memory told = tt

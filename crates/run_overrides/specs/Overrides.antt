@@ -21,12 +21,12 @@ AreAsked levels overrides = (code : List ℕ) (severity : Severity) → level_of
 abbrev pub HaveOtherInputs : LevelPair → LevelPair → Type 0
 HaveOtherInputs one other = is_same_severity one.input other.input ≡ false
 
--- Each code and each input level stands at most once: the codes' names rise, and no two pairs have the same input.
+-- Each code and each input level is at most once: the codes' names rise, and no two pairs have the same input.
 pub record StandOnce (overrides : DiagnosticOverrides) : Type 0 where
   pub codes : T (is_sorted (slice_cmp nat_cmp) (entries overrides.code_overrides))
   pub levels : AllPairs HaveOtherInputs overrides.level_overrides
 
--- a refusal tells the first that stands twice, or it comes for want of memory
+-- a refusal tells the first that is there twice, or it comes for want of memory
 abbrev pub IsFirstTold : Option Twice → OverrideError → Type 0
 IsFirstTold twice Memory = ⊤
 IsFirstTold twice (OverrideTwice name first second) = twice ≡ Some (record { name = name; first = first; second = second })

@@ -1,4 +1,4 @@
--- What stands twice in what words say of codes and levels.
+-- What is there twice in what words say of codes and levels.
 use Rattle.std.specs.Prelude.{ℕ, List, [], ◌∷◌, ◌++◌, codes, Option, None, option_map}
 use Rattle.std.specs.Option.{option_or}
 use Rattle.diag_core.specs.Code.{code_name}
@@ -22,7 +22,7 @@ abbrev pub name_of : CodeOrLevel → List ℕ
 name_of (subject.Code code) = code_name code
 name_of (subject.Level level) = level_name level
 
--- what stands twice, by its name, and what it is set to first and then
+-- what is there twice, by its name, and what it is set to first and then
 pub record Twice : Type 0 where
   pub name : List ℕ
   pub first : Severity
@@ -38,6 +38,6 @@ twice_behind earlier [] = None
 twice_behind earlier (item ∷ items) =
     option_or (option_map (twice_of item) (asked_of (is_same item.subject) earlier)) (twice_behind (earlier ++ item ∷ []) items)
 
--- the first code or level that stands twice
+-- the first code or level that is there twice
 abbrev pub first_twice : LintLevels → Option Twice
 first_twice levels = twice_behind [] (items_of levels)

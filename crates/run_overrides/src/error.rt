@@ -10,13 +10,13 @@ use std::alloc::AllocError;
 #[derive(Drop)]
 pub enum OverrideError {
     Memory,
-    /// A code or a level stands twice.
+    /// A code or a level is there twice.
     OverrideTwice {
         /// The name of the code, or `allowed`, `warnings` or `denied`.
         name: Text,
-        /// What it is set to where it stands first.
+        /// What it is set to where it is first.
         first: Severity,
-        /// What it is set to where it stands again.
+        /// What it is set to where it is again.
         second: Severity,
     },
 }

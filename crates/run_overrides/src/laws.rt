@@ -6,8 +6,8 @@ ghost use Rattle.run_overrides.specs.Twice.{name_of};
 
 use run_request::{CodeOrLevel, LintLevels};
 
-/// A code or a level that is read from its own name is that code or that level: so the name in a refusal tells
-/// which of them stands twice.
+/// A code or a level that is read from its own name is that code or that level: so the name in a refusal
+/// tells which of them is there twice.
 pub fn name_reads_back(subject: CodeOrLevel)
     ensures { code_or_level_named (name_of subject) ≡ Some subject }
 {

@@ -26,7 +26,7 @@ fn level_name(level: Level) -> &'static str
     }
 }
 
-/// The refusal of what stands twice.
+/// The refusal of what is there twice.
 fn said_twice(alloc: Global, name: &str, first: Severity, second: Severity) -> OverrideError
     ensures { IsAgain first name.now second result }
 {
@@ -115,7 +115,7 @@ fn put(
     }
 }
 
-/// The overrides that some codes and levels are set to, of which none may stand twice.
+/// The overrides that some codes and levels are set to, of which none may be twice.
 fn overrides_by(alloc: Global, items: &[LevelItem]) -> Result<DiagnosticOverrides, OverrideError>
     ensures ok { IfOk result (AreSet items.now) }
     ensures once { OnOk result (twice_behind [] items.now ≡ None) }
@@ -131,10 +131,11 @@ fn overrides_by(alloc: Global, items: &[LevelItem]) -> Result<DiagnosticOverride
     Ok(overrides)
 }
 
-/// The overrides that words ask for. A finding with a code comes out at what its code is set to, or else at its
-/// own level, and then, once, at what that level is set to.
+/// The overrides that words ask for. A finding with a code comes out at what its code is set to, or else at
+/// its own level, and then, once, at what that level is set to.
 ///
-/// It is refused where a code or a level stands twice, also where both set it to the same, and for want of memory.
+/// It is refused where a code or a level is there twice, also where both set it to the same, and for want of
+/// memory.
 pub fn overrides_of(
     alloc: Global,
     levels: &LintLevels,
@@ -142,7 +143,7 @@ pub fn overrides_of(
     ensures level { IfOk result (AreAsked levels.now) }
     ensures packs { IfOk result (PutAtLevels levels.now) }
     ensures once { IfOk result StandOnce }
-    // The refusal comes exactly where a code or a level stands twice, and tells the first that does.
+    // The refusal comes exactly where a code or a level is there twice, and tells the first that does.
     ensures taken { OnOk result (first_twice levels.now ≡ None) }
     ensures twice { IfErr result (IsFirstTold (first_twice levels.now)) }
 {

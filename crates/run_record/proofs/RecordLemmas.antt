@@ -126,7 +126,7 @@ module _ (given : CommandArguments) (tree : TreeSeen) (err : SinkSeen) where
     written = all_of err.old err.new (load_heard given hearing) written;
   }
 
-  -- a report was had
+  -- a report was found
   module _ (out : SinkSeen) (report : Report) (hears : HearsSo given tree err (λ hearing. IsReport given hearing report)) where
     recorded : IsRecord (items_in report) → HearsSo given tree err (λ hearing. IsRecorded given report hearing)
     recorded is = record { hearing = hears.hearing; heard = hears.heard; written = hears.written; is_so = (hears.is_so, is) }

@@ -32,7 +32,7 @@ module _ (policy : ValidConfig) (licenses : List KrateLicense) (path : List ℕ)
   abbrev own : TreeSeen
   own = tree_seen first tells before after old new
 
-  -- something was heard of it
+  -- something was read of it
   pub heard_read : (begun : ℕ) (heard : Result (List ℕ) ReadFault) → begun ≡ before → IsTextRead begun after old new path heard → (result : Result VerifiedCrates Error)
       → TellsHeard policy licenses heard result → IsRead policy licenses path own result
   heard_read begun heard same read result tells_so = record {

@@ -39,12 +39,12 @@ file_in report = spelled_of (items_in report)
 
 -- ---- what is answered and written
 
--- what was heard asks for this report of a check, and the verdicts that it gives are a record
+-- what was read asks for this report of a check, and the verdicts that it gives are a record
 abbrev pub IsRecorded : CommandArguments → Report → RequestHearing → Type 0
 IsRecorded given report hearing = IsReport given hearing report × IsRecord (items_in report)
 
--- Such a report was had, and its file was written; the reads are those that it lists. Or the command was refused before it did its own, and
--- nothing is on `out`; or a write of the file was refused.
+-- Such a report was found, and its file was written; the reads are those that it lists. Or the command was refused
+-- before it did its own, and nothing is on `out`; or a write of the file was refused.
 abbrev pub Records : CommandArguments → TreeSeen → SinkSeen → SinkSeen → Result (List CrateRead) Error → Type 0
 Records given tree err out result = WritesOut given tree err out (IsRecorded given) file_in reads_in result
 

@@ -11,7 +11,7 @@ use Rattle.run_found.specs.Hearing.{MadeOn, TreeSeen}
 use Rattle.run_record.specs.declared.verdicts.VerifiedCrates.{VerifiedCrates}
 use Rattle.run_record.specs.Verified.{Tells}
 
--- it is told so, whatever answer lets this be heard of the file
+-- it is reported so, whatever answer lets this be read of the file
 abbrev pub TellsHeard : ValidConfig → List KrateLicense → Result (List ℕ) ReadFault → Result VerifiedCrates Error → Type 0
 TellsHeard policy licenses heard result =
     (count : ℕ) (answer : CallAnswer) → text_answered count (fault_behind count answer) answer ≡ Some heard → Tells result policy licenses count answer

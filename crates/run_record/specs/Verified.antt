@@ -43,7 +43,7 @@ abbrev pub answer_text : VerifyAnswer → List ℕ
 answer_text Yes = codes "verified\n"
 answer_text (No reason) = codes "not verified: " ++ reason_words reason ++ codes "\n"
 
--- ---- what is told of a file, by the policy, the licences and the answer to its read, from a count of faults on
+-- ---- what is reported of a file, by the policy, the licences and the answer to its read, from a count of faults on
 
 -- it is the spelling of a record, and the answer tells whether that is right
 pub record TellsVerified (crates : VerifiedCrates) (policy : ValidConfig) (licenses : List KrateLicense) (count : ℕ) (answer : CallAnswer) : Type 0 where
@@ -65,7 +65,7 @@ pub record TellsUnread (fault : ReadFault) (reads : List CrateRead) (policy : Va
   pub hears : text_answered count (fault_behind count answer) answer ≡ Some (Err fault)
   pub reads_are : reads ≡ reads_gathered licenses
 
--- so of an answer and of each refusal; nothing is told where memory was wanting
+-- so of an answer and of each refusal; nothing is reported where memory was wanting
 abbrev pub Tells : Result VerifiedCrates Error → ValidConfig → List KrateLicense → ℕ → CallAnswer → Type 0
 Tells (Ok crates) = TellsVerified crates
 Tells (Err Memory) = λ policy licenses count answer. Unit {0}
@@ -75,8 +75,9 @@ Tells (Err _) = λ policy licenses count answer. ⊥
 
 -- ---- the command
 
--- The licences of the crates were settled, and then the file at a path was read; the calls of that were made, and no other; all that is
--- told of the load was written; and this is so of the policy, the licences, the count of faults before the read and its answer.
+-- The licences of the crates were settled, and then the file at a path was read; the calls of that were made, and no
+-- other; all that is printed of the load was written; and this is so of the policy, the licences, the count of faults
+-- before the read and its answer.
 pub record SettlesBy (given : CommandArguments) (path : List ℕ) (tree : TreeSeen) (err : SinkSeen) (IsSo : ValidConfig → List KrateLicense → ℕ → CallAnswer → Type 0) : Type 0 where
   pub hearing : RequestHearing
   pub policy : ValidConfig
@@ -89,12 +90,13 @@ pub record SettlesBy (given : CommandArguments) (path : List ℕ) (tree : TreeSe
   pub written : Gained err.old err.new (load_heard given hearing)
   pub is_so : IsSo policy licenses (faults_after tree.count_before (calls_of given hearing)) answer
 
--- Before the answer is written: it is told of what was heard. So is a refusal, or the command was refused before it did its own.
+-- Before the answer is written: it is reported of what was read. So is a refusal, or the command was refused before it
+-- did its own.
 abbrev pub VerifiesFirst : CommandArguments → List ℕ → TreeSeen → SinkSeen → Result VerifiedCrates Error → Type 0
 VerifiesFirst given path tree err (Ok crates) = SettlesBy given path tree err (Tells (Ok crates))
 VerifiesFirst given path tree err (Err error) = Stops given tree err error ⊎ SettlesBy given path tree err (Tells (Err error))
 
--- the answer was told, and a prefix of it written, behind which a write was refused
+-- the answer was reported, and a prefix of it written, behind which a write was refused
 pub record CutsAnswer (given : CommandArguments) (path : List ℕ) (tree : TreeSeen) (err out : SinkSeen) (error : Error) : Type 0 where
   pub crates : VerifiedCrates
   pub settles : SettlesBy given path tree err (Tells (Ok crates))

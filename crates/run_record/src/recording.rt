@@ -85,9 +85,10 @@ fn record_report<O: Sink>(alloc: Global, out: &mut O, report: Report) -> Result<
     Ok(reads)
 }
 
-/// The command `record` of a request, all of which is carried: the verdict of each crate that `check` would tell, with
-/// what shows it, is written to `out` as a verdict file, once nothing can be refused any more but that write. What is
-/// told of the policy's load is written to `err`; no finding of the check is. It answers the reads of each crate.
+/// The command `record` of a request, all of which is carried: the verdict of each crate that `check` would
+/// tell, with what shows it, is written to `out` as a verdict file, once nothing can be refused any more but
+/// that write. What is printed of the policy's load is written to `err`; no finding of the check is. It
+/// answers the reads of each crate.
 pub fn record_since<T: Tree, O: Sink, S: Sink, C: Catalog, I: Identifier>(
     alloc: Global,
     tree: &mut T,
@@ -99,8 +100,8 @@ pub fn record_since<T: Tree, O: Sink, S: Sink, C: Catalog, I: Identifier>(
     context: &KrateContext,
 ) -> Result<CrateReads, Error>
     requires { unsupported_of log_ctx context.now ≡ None }
-    // The file is that of the report that a check of this request, without options, has by what was heard; each
-    // refusal is that check's, by its cause, or that of the write.
+    // The file is that of the report that a check of this request, without options, has by what was read;
+    // each refusal is that check's, by its cause, or that of the write.
     ensures records { Records
         (command_arguments_of (C.lists catalog.now) (I.match_of identifier.now) log_ctx context.now
         (plain_options log_ctx context.now))

@@ -87,8 +87,8 @@ fn verify_file<T: Tree>(
     }
 }
 
-/// Whether the record at a path is right about the crates of a request, all of which is carried. What is told of the
-/// policy's load is written to the sink.
+/// Whether the record at a path is right about the crates of a request, all of which is carried. What is
+/// reported of the policy's load is written to the sink.
 fn verified_crates<T: Tree, S: Sink, C: Catalog, I: Identifier>(
     alloc: Global,
     tree: &mut T,
@@ -148,10 +148,11 @@ fn answer_words(answer: &VerifyAnswer) -> &'static str
     }
 }
 
-/// The command `verify` of a request, all of which is carried: whether the verdict file at a path is right about each
-/// crate that `check` would look at, under the policy and over the files as they are. It rests on what the file
-/// records and on the crates' licences, and makes no verdict anew. What is told of the policy's load is written to
-/// `err`, and the answer to `out`. The file is read once all licences are settled.
+/// The command `verify` of a request, all of which is carried: whether the verdict file at a path is right
+/// about each crate that `check` would look at, under the policy and over the files as they are. It rests on
+/// what the file records and on the crates' licences, and makes no verdict anew. What is printed of the
+/// policy's load is written to `err`, and the answer to `out`. The file is read once all licences are
+/// settled.
 pub fn verify_since<T: Tree, O: Sink, S: Sink, C: Catalog, I: Identifier>(
     alloc: Global,
     tree: &mut T,
@@ -164,8 +165,8 @@ pub fn verify_since<T: Tree, O: Sink, S: Sink, C: Catalog, I: Identifier>(
     path: &str,
 ) -> Result<VerifiedCrates, Error>
     requires { unsupported_of log_ctx context.now ≡ None }
-    // The answer is told of the file, the policy and the licences that were heard; a refusal comes before the command
-    // does its own, or it is that of the file, or of the write.
+    // The answer is reported of the file, the policy and the licences that were read; a refusal comes before
+    // the command does its own, or it is that of the file, or of the write.
     ensures verifies { Verifies
         (command_arguments_of (C.lists catalog.now) (I.match_of identifier.now) log_ctx context.now
         (plain_options log_ctx context.now))

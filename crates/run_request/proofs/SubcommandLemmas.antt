@@ -8,7 +8,7 @@ use Rattle.run_request.specs.OptionRow.{app_with_rules}
 abbrev with_all_rules : App → List Rule → App
 with_all_rules app rules = record app { top = record app.top { rules = rules } }
 
--- rules that are added in turn stand behind those that are there
+-- rules that are added in turn are behind those that are there
 grown_adds : (rules : List Rule) (app : App) → app_with_rules rules app ≡ with_all_rules app (app.top.rules ++ rules)
 grown_adds [] app = ap (with_all_rules app) (sym (append-nil app.top.rules))
 grown_adds (rule ∷ rules) app = grown_adds rules (with_rule app rule) ∙ ap (with_all_rules app) (append_assoc app.top.rules (rule ∷ []) rules)

@@ -23,7 +23,7 @@ lint_levels_of rows =
     (all_read code_or_level_named (codes "allow") rows))
     (all_read code_or_level_named (codes "warn") rows)
 
--- the request, where a depth does not stand beside graphs that are hidden
+-- the request, where a depth is not beside graphs that are hidden
 abbrev pub check_args_with : List Row → LintLevels → Option ℕ → List WhichCheck → Result CheckArgs ArgsError
 check_args_with rows levels depth which =
     if is_some depth && is_set (codes "hide-inclusion-graph") rows then Err DepthWithHide

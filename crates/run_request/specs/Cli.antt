@@ -32,7 +32,7 @@ word_rule name = record (new_rule name) { action = Some Set; value_names = 1; re
 abbrev pub with_letter : ℕ → Rule → Rule
 with_letter letter rule = record rule { short = Some letter }
 
--- the options that stand before the subcommand; the letters are L, f, c and t
+-- the options that are before the subcommand; the letters are L, f, c and t
 abbrev pub main_rules : List Rule
 main_rules =
     with_letter 76 (default_rule (codes "log-level") (codes "warn"))

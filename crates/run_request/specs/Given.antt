@@ -41,9 +41,9 @@ may_show kinds = list_any is_display kinds
 abbrev pub may_refuse : Kinds → Bool
 may_refuse kinds = list_any (λ kind. not (is_display kind)) kinds
 
--- The answer is one that the words allow, which are read as they are: a request where they are taken and ask for it; a text to
--- show where they may be taken for a call for help or the version; a refusal where they may be taken for a mistake, or are taken
--- and ask for nothing, since a value is outside its table or a depth stands beside hidden graphs.
+-- The answer is one that the words allow, which are read as they are: a request where they are taken and ask for it; a
+-- text to show where they may be taken for a call for help or the version; a refusal where they may be taken for a
+-- mistake, or are taken and ask for nothing, since a value is outside its table or a depth is beside hidden graphs.
 abbrev pub IsGivenFor : List Text → Text → CliAnswer → Type 0
 IsGivenFor words cwd (Asked request) = Takes words × (request_in words cwd ≡ Some request)
 IsGivenFor words cwd (Shown text) = may_show (word_faults words) ≡ true

@@ -8,8 +8,8 @@ use Rattle.run_request.specs.declared.read.CliAnswer.{CliAnswer}
 use Rattle.run_request.specs.Request.{request_of, without_deny}
 use Rattle.run_request.specs.Given.{IsGiven}
 
--- A second word `deny` changes nothing: the words with it and without it have the same answers, where no further `deny` stands
--- behind it.
+-- A second word `deny` changes nothing: the words with it and without it have the same answers, where no further `deny`
+-- is behind it.
 abbrev pub SecondDenyChangesNothing : Type 0
 SecondDenyChangesNothing = (program : Text) (words : List Text) (cwd : Text) (given : CliAnswer) → without_deny words ≡ words
     → IsGiven (program ∷ codes "deny" ∷ words) cwd given ↔ IsGiven (program ∷ words) cwd given
@@ -26,7 +26,7 @@ command_hidden Record = Record
 command_hidden (Verify path) = Verify []
 command_hidden (Sample size) = Sample size
 
--- the request without the paths that stand behind the working folder
+-- the request without the paths that are behind the working folder
 abbrev pub without_folder : Request → Request
 without_folder request = record request {
   manifest_path = hidden_path request.manifest_path;

@@ -52,7 +52,7 @@ output_names = (codes "human", output.Human) ∷ (codes "json", output.Json) ∷
 abbrev pub layout_names : NameTable Layout
 layout_names = (codes "crate", layout.Crate) ∷ (codes "license", layout.License) ∷ []
 
--- the level of that name, or else the code of that name; a code's name stands alone, without the letter of its check
+-- the level of that name, or else the code of that name; a code's name is alone, without the letter of its check
 abbrev pub code_or_level_named : List ℕ → Option CodeOrLevel
 code_or_level_named word =
     option_or (option_map either.Level (named_in level_names word)) (option_map either.Code (code_named word))

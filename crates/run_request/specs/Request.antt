@@ -40,7 +40,7 @@ log_context_of rows =
 abbrev pub path_at : Text → Text → List Row → Option Text
 path_at cwd option rows = option_map (join_of cwd) (first_of option rows)
 
--- which crates of the project are looked at. Paths stand behind the working folder, but for that of the policy.
+-- which crates of the project are looked at. Paths are behind the working folder, but for that of the policy.
 abbrev pub krate_context_of : List Row → Text → KrateContext
 krate_context_of rows cwd = record {
   manifest_path = unwrap_or (path_at cwd (codes "manifest-path") rows) (join_of cwd (codes "Cargo.toml"));

@@ -35,7 +35,7 @@ impl CheckArgs {
         command_of_row(alloc, check_row())
     }
 
-    /// What the matches of `check` ask for. The first refusal is told, in the order of the options, and a
+    /// What the matches of `check` ask for. The first refusal is reported, in the order of the options, and a
     /// depth beside hidden graphs behind all values.
     pub fn parse(alloc: Global, matches: &ArgMatches<'_>) -> Result<CheckArgs, ArgsError>
         ensures { AnswersArgs (check_args_of (rows_of (found_of matches.now))) result }

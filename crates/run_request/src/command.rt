@@ -10,7 +10,7 @@ use std::alloc::{AllocError, Global};
 
 static VERSION: &str = "0.20.2";
 
-/// What stands below the options in the program's help.
+/// What is below the options in the program's help.
 static AFTER_HELP: &str = "\
 A first run, in the folder of the project:
   cargo metadata --format-version 1 > metadata.json
@@ -32,7 +32,7 @@ A request for another command than `sample` is not carried
 
 The commands `init` and `fetch` are no part of this program.";
 
-/// The whole command line. Behind the program's name it takes what stands behind the `deny` of `cargo deny`.
+/// The whole command line. Behind the program's name it takes what is behind the `deny` of `cargo deny`.
 pub fn command<'a>(alloc: Global) -> Result<Command<'a>, AllocError>
     ensures { IfOk result (λ command. app_of command ≡ cli) }
 {

@@ -10,7 +10,7 @@ use std::alloc::{AllocError, Global};
 pub enum ArgsError {
     /// A value is outside its table. The option is its long name, or what help calls the words.
     BadValue { option: Text, value: Text },
-    /// A depth for graphs stands beside hidden graphs.
+    /// A depth for graphs is beside hidden graphs.
     DepthWithHide,
     /// Memory was refused.
     Memory,

@@ -31,7 +31,7 @@ impl ListArgs {
         command_of_row(alloc, list_row())
     }
 
-    /// What the matches of `list` ask for. The first refusal is told, in the order of the options.
+    /// What the matches of `list` ask for. The first refusal is reported, in the order of the options.
     pub fn parse(alloc: Global, matches: &ArgMatches<'_>) -> Result<ListArgs, ArgsError>
         ensures { AnswersArgs (list_args_of (rows_of (found_of matches.now))) result }
     {

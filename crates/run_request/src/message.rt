@@ -21,7 +21,7 @@ pub(crate) fn bad_value(
     Ok(text)
 }
 
-/// That a depth for graphs stands beside hidden graphs.
+/// That a depth for graphs is beside hidden graphs.
 pub(crate) fn depth_with_hide(alloc: Global) -> Result<String, AllocError> {
     String::from_str(
         alloc,

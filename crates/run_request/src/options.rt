@@ -392,7 +392,7 @@ static SUBCOMMANDS: [SubcommandRow; 5] = [
     },
 ];
 
-/// The options that stand before the subcommand.
+/// The options that are before the subcommand.
 pub fn main_rows() -> &'static [OptionRow]
     ensures { map rule_of_row result.now ≡ main_rules }
 {

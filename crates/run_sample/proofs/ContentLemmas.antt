@@ -65,6 +65,6 @@ module _ (old new : Content) (place : Place) (bytes : List ℕ) (puts : Puts old
     ]
   ]
 
-  -- the file, and the folders that it stands in
+  -- the file, and the folders that it is in
   pub puts_file : new ≡ with_file old place bytes
   puts_file = same_map place_cmp_total place_cmp-IsAntisymmetric new (with_file old place bytes) same_at

@@ -20,7 +20,7 @@ use Rattle.run_sample.proofs.SampleData.{sample_manifest}
 use Rattle.run_sample.proofs.TextLemmas.{read_sample}
 use Rattle.run_sample.proofs.RowLemmas.{package_record, packages_known, rows_told, sample_rows}
 
--- ---- what stands among items
+-- ---- what is among items
 
 abbrev Among : {A : Type 0} → List A → A → Type 0
 Among [] x = ⊥

@@ -1,4 +1,4 @@
--- What is heard of the sample's files, and that it asks for a check.
+-- What is read of the sample's files, and that it asks for a check.
 use Rattle.std.proofs.Common.{◌≡◌, ◌∙◌, refl, sym, ap, subst, ℕ, ◌+◌, ◌≤◌, ◌^◌, true, false, cond, List, [], ◌∷◌, ◌++◌, map, codes, Some, None, is_some, Result, Ok, Err, arith}
 use Rattle.std.proofs.lemmas.List.Elements.{All-from_recursion}
 use Rattle.std.proofs.lemmas.Str.{is_utf8-from_IsUtf8}
@@ -92,7 +92,7 @@ policy_valid : list_any is_error sample_found.findings ≡ false
 unfolding single_names families gnu_families
 policy_valid = refl
 
--- ---- what is heard
+-- ---- what is read
 
 heard_text : (bytes : List ℕ) → is_utf8 bytes ≡ true → heard_of (Some (file bytes)) ≡ Ok bytes
 unfolding heard_of
@@ -290,6 +290,6 @@ module _ (match_of : List ℕ → Match) (n : ℕ) (small : n ≤ 2 ^ 32) (some 
       let P = TellsContent content in
       all_append P _ _ (all_append P _ _ (all_append P _ _ (all_append P _ _ tells_sought tells_policy) tells_exceptions) tells_metadata) tt
 
-  -- it is heard of the sample's files
+  -- it is read of the sample's files
   pub sample_heard : IsHeardOf given content 0 hearing
   sample_heard = record { begun = refl; due = all_due; tells = All-from_recursion (TellsContent content) (calls_of given hearing) tells_calls }

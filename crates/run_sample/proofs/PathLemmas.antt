@@ -67,7 +67,7 @@ parts_of_manifest i small =
 pub resolve_manifest : (i : ℕ) → i < 2 ^ 64 → resolve (manifest_path i) ≡ codes "s" ∷ (99 ∷ decimal i) ∷ codes "Cargo.toml" ∷ []
 resolve_manifest i small = ap (fold step []) (parts_of_manifest i small)
 
--- a manifest stands in a folder
+-- a manifest is in a folder
 pub folder_of_manifest : (i : ℕ) → i < 2 ^ 64 → (folder : List ℕ) × (parent_of (manifest_path i) ≡ Some folder)
 folder_of_manifest i small = by (parent_of (manifest_path i)) refl
   where

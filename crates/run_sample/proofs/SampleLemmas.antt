@@ -42,7 +42,7 @@ never_rose (inr last) = omega arith
 
 -- ---- no read failed
 
--- what follows a count stands no lower
+-- what follows a count is no lower
 rises_to : (low : ℕ) (reads : List ReadRecord) (high : ℕ) → RiseInOrder low reads high → low ≤ high
 rises_to low [] high rises = rises
 rises_to low (read ∷ reads) high rises = from read.answer rises (λ start. rises_to start reads high)

@@ -49,7 +49,7 @@ module _ (old new : Content) (place : Place) (bytes : List ℕ) (shallow : IsSha
     | inr most ↦ absurd (differs (sym is ∙ take_all (length q) place most))
   ]
 
-  -- what stands at a place: what was put, a folder above, or what stood there
+  -- what is at a place: what was put, a folder above, or what was there there
   looked : (q : Place) → (q ≡ place) ⊎ ((IsPlaceFront q place × (length q < length place)) ⊎ (finmap.get new q ≡ finmap.get old q))
   looked q = elim (cases_place q place) [
     | inl same ↦ inl same

@@ -1,4 +1,4 @@
--- What stands at the paths that a check of the sample asks for.
+-- What is at the paths that a check of the sample asks for.
 use Rattle.std.proofs.Common.{◌≡◌, ◌∙◌, refl, ap, ℕ, zero, suc, ◌+◌, ◌-◌, ◌≤◌, ◌^◌, List, [], ◌∷◌, get_or, length, take, codes, decimal, Some, None, arith}
 use Rattle.std.specs.FinMap as finmap
 use Rattle.std.specs.List.{fold, range_with_len}
@@ -16,7 +16,7 @@ use Rattle.run_sample.proofs.ShallowLemmas.{nothing_else}
 abbrev pub mark : Place → ℕ
 mark place = get_or (get_or place (length place - 1) []) 0 0
 
--- no mark of a manifest and of the folders that it stands in
+-- no mark of a manifest and of the folders that it is in
 abbrev pub IsApart : ℕ → Type 0
 IsApart m = (m ≡ 0 → ⊥) × (m ≡ 115 → ⊥) × (m ≡ 99 → ⊥) × (m ≡ 67 → ⊥)
 

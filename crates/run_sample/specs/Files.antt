@@ -11,7 +11,7 @@ abbrev pub with_folders : Content → Place → ℕ → Content
 with_folders content place zero = content
 with_folders content place (suc count) = finmap.insert (with_folders content place count) (take count place) folder
 
--- a file at a place, and the folders that it stands in
+-- a file at a place, and the folders that it is in
 abbrev pub with_file : Content → Place → List ℕ → Content
 with_file content place bytes = finmap.insert (with_folders content place (length place)) place (file bytes)
 

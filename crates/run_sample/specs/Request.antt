@@ -44,7 +44,7 @@ sample_context = record {
   cwd = codes "/s";
 }
 
--- nothing is told of what is found
+-- nothing is reported of what is found
 abbrev pub sample_log : LogContext
 sample_log = record { format = Human; color = Auto; log_level = Off }
 

@@ -55,13 +55,13 @@ IsSampled n lists match_of report = IsSampleReport n (sample_request lists match
 
 -- ---- what is written
 
--- a front of the four lines of a sample
+-- a prefix of the four lines of a sample
 pub record FrontsLines (n : ℕ) (lists : CatalogLists) (match_of : List ℕ → Match) (old new : Option (List ℕ)) : Type 0 where
   pub report : Report
   pub is : IsSampled n lists match_of report
   pub front : GainedPrefix old new (sample_lines report.crates)
 
--- a refused write has the sink's counts, and a front of the lines was written; before any other refusal nothing was
+-- a refused write has the sink's counts, and a prefix of the lines was written; before any other refusal nothing was
 abbrev pub RefusalWritten : ℕ → CatalogLists → (List ℕ → Match) → Option (List ℕ) → Option (List ℕ) → ℕ → ℕ → Cause → Type 0
 RefusalWritten n lists match_of old new before after (refused_write first last) =
     (first ≡ before) × (last ≡ after) × Rose before after × FrontsLines n lists match_of old new
@@ -72,7 +72,7 @@ abbrev pub WritesLines : ℕ → CatalogLists → (List ℕ → Match) → Optio
 WritesLines n lists match_of old new before after (Ok report) = Gained old new (sample_lines report.crates)
 WritesLines n lists match_of old new before after (Err error) = RefusalWritten n lists match_of old new before after (cause_of error)
 
--- what was written of the lines of these crates before a refusal: nothing for want of memory, else a front of them
+-- what was written of the lines of these crates before a refusal: nothing for want of memory, else a prefix of them
 abbrev pub LinesCut : List CrateReport → Option (List ℕ) → Option (List ℕ) → ℕ → ℕ → Cause → Type 0
 LinesCut crates old new before after no_memory = new ≡ old
 LinesCut crates old new before after (refused_write first last) =
@@ -101,7 +101,7 @@ abbrev pub EndsSampled : Result Report Error → Type 0
 EndsSampled (Ok report) = ⊤
 EndsSampled (Err error) = MayEndSample (cause_of error)
 
--- where what is heard of the sample's files asks for a check, there is no other refusal
+-- where what is read of the sample's files asks for a check, there is no other refusal
 abbrev pub IsSampleComplete : ℕ → CatalogLists → (List ℕ → Match) → Result Report Error → Type 0
 IsSampleComplete n lists match_of answer =
     (hearing : RequestHearing) (asked : PolicyAndCrates) → IsHeardOf (sample_request lists match_of) (sample_content n) 0 hearing → Asks (sample_request lists match_of) hearing asked

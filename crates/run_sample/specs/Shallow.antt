@@ -1,4 +1,4 @@
--- Where files and folders of the sample may stand: for private clauses.
+-- Where files and folders of the sample may be: for private clauses.
 use Rattle.std.specs.Prelude.{◌≡◌, ◌≢◌, ◌≤◌, ◌⊎◌, ℕ, List, [], ◌∷◌, length, take, Some, codes}
 use Rattle.std.specs.FinMap as finmap
 use Rattle.tree_core.specs.Content.{Content, Place, file, folder}

@@ -8,7 +8,7 @@ use diag_print::{Color, Format, LogContext};
 use run_request::{CodeOrLevels, KrateContext, LintLevels, WhichCheck, WhichChecks, check};
 use std::alloc::{AllocError, Global};
 
-/// Nothing is told of what is found.
+/// Nothing is reported of what is found.
 pub(crate) fn sample_log() -> LogContext
     ensures { result ≡ sample_log }
 {

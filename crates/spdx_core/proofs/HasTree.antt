@@ -44,12 +44,12 @@ record Left (allowed : AllowedForms) (rule : Rule) : Type 0 where
   to : ℕ
   reads : CanRead allowed rule items
 
--- what stands before a part, since the last open parenthesis
+-- what is before a part, since the last open parenthesis
 record Pending (allowed : AllowedForms) : Type 0 where
   sum : Option (Left allowed expression)
   product : Option (Left allowed conjunction)
 
--- a conjunction was read, and perhaps what stands before its OR
+-- a conjunction was read, and perhaps what is before its OR
 record Done (allowed : AllowedForms) : Type 0 where
   sum : Option (Left allowed expression)
   items : List Item
@@ -172,7 +172,7 @@ no_close (o ∷ os) wants_exception span x e h = no h
 no_close (o ∷ os) AfterTerm span x e h = absurd (true≢false e)
 no_close (o ∷ os) AfterPart span x e h = absurd (true≢false e)
 
--- what is to be shown of what stands behind an item, from each state
+-- what is to be shown of what is behind an item, from each state
 record Later (mode : ParseMode) (len : ℕ) (items : List Item) : Type 0 where
   go_term : (fs : List (Frame (allowed_in mode))) (pending : Pending (allowed_in mode)) → fault_from mode len wants_term (opened fs) items ≡ None → Whole (allowed_in mode) fs (shown pending items)
   go_after : (fs : List (Frame (allowed_in mode))) (pending : Pending (allowed_in mode)) (named : Simple) (s e : ℕ) (ok : IsTrue (takes (allowed_in mode) named.marks))

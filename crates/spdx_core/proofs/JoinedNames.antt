@@ -28,7 +28,7 @@ no_plus : (names : List (List ℕ)) → plus_behind (next_names names) 0 ≡ fal
 no_plus [] = refl
 no_plus (name ∷ names) = refl
 
--- the term of a name that stands from a place on
+-- the term of a name that is from a place on
 named_at : List ℕ → LicenseEntry → ℕ → Simple
 named_at name entry place = record {
   item = Spdx name entry.family entry.rank entry.later false;

@@ -77,7 +77,7 @@ word_first mode lists wanted place b bs rest is all ends =
     ap (λ t. token_item mode lists wanted place (b ∷ bs ++ rest) (1 + rest_len t (bs ++ rest)) t) token
     ∙ ap (λ n. word_item mode lists wanted place (b ∷ bs ++ rest) n) long
 
--- a word is read, and so is what stands behind its item
+-- a word is read, and so is what is behind its item
 pub word_step : (mode : ParseMode) (lists : CatalogLists) (wanted : WantedItem) (place : ℕ) (word rest : List ℕ) (it : Item) (len : ℕ) → is_run word ≡ true → ends_word rest ≡ true
     → word_item mode lists wanted place (word ++ rest) (length word) ≡ it → it.span.end ≡ place + len → 0 < len → len ≤ length (word ++ rest)
     → items_from mode lists wanted place place (word ++ rest) ≡ it ∷ items_from mode lists (wanted_after wanted it.what) (place + len) (place + len) (drop len (word ++ rest))
@@ -108,7 +108,7 @@ no_reference word h =
     let document : after_prefix (codes "DocumentRef-") word ≡ None = ap (λ t. cond t (Some (drop 12 word)) None) parts.1 in
     ap (λ found. or_else (own_license None found) (in_document (after_prefix (codes "DocumentRef-") word))) own ∙ ap in_document document
 
--- what the catalogue says stands beside a name
+-- what the catalogue says is beside a name
 pub record IsNamed (name : List ℕ) : Type 0 where
   pub run : is_run name ≡ true
   pub no_operator : is_operator name ≡ false
@@ -150,7 +150,7 @@ named_item mode lists place name rest entry off own known =
     ∙ ap (λ found. unwrap_or (option_map (λ entry. license_of name entry (plus_behind text len) place len) found) (item_at (operator_of name) place len)) known in
     ap (λ t. unwrap_or (imprecise_if t lists place text len) (plain_item lists place text len)) off ∙ plain
 
--- what stands behind a name
+-- what is behind a name
 behind_name : (name rest : List ℕ) → plus_behind (name ++ rest) (length name) ≡ plus_behind rest 0
 behind_name [] rest = refl
 behind_name (b ∷ name) rest = behind_name name rest

@@ -44,7 +44,7 @@ word_bytes : (word : List ℕ) → is_word word ≡ true → list_all is_word_by
 word_bytes [] h = refl
 word_bytes (b ∷ bs) h = h
 
--- what stands before the first colon, and behind it
+-- what is before the first colon, and behind it
 before_colon : (doc rest : List ℕ) → is_word doc ≡ true → before_first is_colon (doc ++ 58 ∷ rest) ≡ doc
 before_colon doc rest h =
     ap (λ n. take n (doc ++ 58 ∷ rest)) (run_all (λ b. not (is_colon b)) doc (58 ∷ rest) (no_colons doc (word_bytes doc h)) refl) ∙ take-append_seam doc (58 ∷ rest)
@@ -70,7 +70,7 @@ reference_run (Some doc) id own ok =
 
 -- ---- items
 
--- a printed item, and what stands behind it
+-- a printed item, and what is behind it
 record Printed (lists : CatalogLists) (it : LicenseItem) (rest : List ℕ) : Type 0 where
   named : Simple
   is : named.item ≡ it

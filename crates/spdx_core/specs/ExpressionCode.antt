@@ -1,4 +1,4 @@
--- An expression is told apart by its text, its terms and its nodes: nodes in postfix form give their tree back.
+-- An expression is distinguished by its text, its terms and its nodes: nodes in postfix form give their tree back.
 use Rattle.std.specs.Coded.{Coded, code_by, coded×, coded_ℕ, coded_list}
 use Rattle.std.proofs.Common.{◌≡◌, ◌∙◌, refl, sym, ap, ℕ, List, [], ◌∷◌, ◌++◌, append_assoc, append-nil}
 use Rattle.spdx_terms.specs.contracts.term.ExpressionReq as req

@@ -23,7 +23,7 @@ two_terms = (
   }),
 )
 
--- with them its operator is used up, and the second name stands where an operator is wanted
+-- with them its operator is used up, and the second name is where an operator is wanted
 abbrev pub operator_is_used_up : ParseMode × Option ParseError
 operator_is_used_up = (
   record {

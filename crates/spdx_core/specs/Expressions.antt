@@ -29,7 +29,7 @@ pub record IsExpressionRead (mode : ParseMode) (lists : CatalogLists) (text : Li
   pub spelled : Spells mode lists text read.tree read.terms
   pub fine : first_fault mode lists text ≡ None
 
--- a text is read, or told by its first fault; want of memory is free
+-- a text is read, or reported by its first fault; want of memory is free
 abbrev pub ExpressionAnswers : ParseMode → CatalogLists → List ℕ → Result ExpressionView ExprError → Type 0
 ExpressionAnswers mode lists text (Ok read) = IsExpressionRead mode lists text read
 ExpressionAnswers mode lists text (Err (Parse fault)) = first_fault mode lists text ≡ Some fault

@@ -34,7 +34,7 @@ allowed_in mode = record { deprecated = mode.allow_deprecated; gnu_plus = mode.a
 abbrev pub takes : AllowedForms → LicenseMarks → Bool
 takes allowed marks = (allowed.deprecated || not marks.deprecated) && (allowed.gnu_plus || not (marks.gnu && marks.plus))
 
--- what stands from one place to another
+-- what is from one place to another
 abbrev pub item : ItemKind → ℕ → ℕ → Item
 item what start end = record { what = what; span = record { start = start; end = end } }
 

@@ -28,7 +28,7 @@ abbrev pub ReadIsSpelled : Type 0
 ReadIsSpelled = (mode : ParseMode) (lists : CatalogLists) (text : List ℕ) (expression : ExpressionView)
     → expression_of_text mode lists text ≡ Some expression → (expression.text ≡ text) × Spells mode lists text expression.tree expression.terms
 
--- where no slash stands in a text, the slash changes neither tree nor terms
+-- where no slash is in a text, the slash changes neither tree nor terms
 abbrev pub SlashIsStrict : Type 0
 SlashIsStrict = (mode : ParseMode) (lists : CatalogLists) (text : List ℕ) (tree : ExpressionTree) (terms : List ExpressionReq)
     → IsTrue (has_no_slash text) → Spells (with_slash true mode) lists text tree terms → Spells (with_slash false mode) lists text tree terms
@@ -47,6 +47,6 @@ TermsRise = (mode : ParseMode) (lists : CatalogLists) (text : List ℕ) (tree : 
 abbrev pub LicenseeOrFault : Type 0
 LicenseeOrFault = (mode : ParseMode) (lists : CatalogLists) (text : List ℕ) → (licensee_fault mode lists text ≡ None) ↔ ((req : LicenseReq) × IsLicensee mode lists text req)
 
--- what is wrong with a text is told at a place of it
+-- what is wrong with a text is reported at a place of it
 abbrev pub FaultsLieIn : (ParseMode → CatalogLists → List ℕ → Option ParseError) → Type 0
 FaultsLieIn fault_in = (mode : ParseMode) (lists : CatalogLists) (text : List ℕ) (fault : ParseError) → IsCatalog lists → IsUtf8 text → fault_in mode lists text ≡ Some fault → LiesBetween text fault.span

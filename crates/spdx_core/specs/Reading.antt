@@ -53,7 +53,7 @@ pub record ExpressionView : Type 0 where
   pub terms : List ExpressionReq
   pub tree : ExpressionTree
 
--- what stands between two parentheses so far: what an `OR` stands behind, and the conjunction behind it
+-- what is between two parentheses so far: what an `OR` is behind, and the conjunction behind it
 pub record ParenthesisLevel : Type 0 where
   pub sum : Option ExpressionTree
   pub product : Option ExpressionTree

@@ -13,7 +13,7 @@ use spdx_terms::items::next_item;
 use spdx_terms::{ExprError, ParseMode};
 use std::alloc::{AllocError, Global};
 
-/// What was read, what is wanted behind it, and where the open parentheses stand.
+/// What was read, what is wanted behind it, and where the open parentheses are.
 #[derive(Drop)]
 pub struct Progress {
     pub reader: Reader,

@@ -6,7 +6,7 @@ use Rattle.std.proofs.lemmas.List.Splits.{slice_split_first, slice_split-cons_no
 use Rattle.std.specs.List.{slice_split, onto_first, position_or_len, before_first, after_first}
 use Rattle.deny_text.specs.Cut.{cut_at}
 
--- a text is cut there: its first piece, and the pieces of what stands behind
+-- a text is cut there: its first piece, and the pieces of what is behind
 pub record IsCut (p : ℕ → Bool) (text before behind : List ℕ) : Type 0 where
   pub pieces : slice_split p text ≡ before ∷ slice_split p behind
   pub shorter : length behind < length text
@@ -58,7 +58,7 @@ none_there p text is = cut_none p text (nat_lt (position_or_len p text) (length 
 pub uncut : (p : ℕ → Bool) (text : List ℕ) → cut_at p text ≡ None → slice_split p text ≡ text ∷ []
 uncut p text is = one_piece p text (none_there p text is)
 
--- what stands before the first such byte: all, where there is none
+-- what is before the first such byte: all, where there is none
 pub before_uncut : (p : ℕ → Bool) (text : List ℕ) → cut_at p text ≡ None → before_first p text ≡ text
 before_uncut p text is = take_all (position_or_len p text) text (none_there p text is)
 

@@ -93,7 +93,7 @@ no_line : faults no_rows ≡ replicate 10 None
 unfolding form_of decimal_of marks_of lists_of
 no_line = refl
 
--- bytes that are no UTF-8 are told before a fault in a line above them
+-- bytes that are no UTF-8 are reported before a fault in a line above them
 no_utf8 : map first_fault ((255 ∷ []) ∷ (codes "#\n#\n# " ++ 255 ∷ []) ∷ (codes "x\n" ++ 255 ∷ codes "\n") ∷ []) ≡ Some 1 ∷ Some 3 ∷ Some 2 ∷ []
 unfolding first_fault is_utf8 chars encode utf8_valid_len form_of decimal_of marks_of lists_of
 no_utf8 = refl
@@ -120,7 +120,7 @@ texts_as_read : store_answered 0 0 (call.entries ((codes "ISC.txt", true) ∷ (c
 unfolding heard_of is_utf8 chars encode
 texts_as_read = refl
 
--- the first that is not had is told, and none is read behind it
+-- the first that is not found is reported, and none is read behind it
 first_bad : store_answered 0 0 (call.entries ((codes "b.txt", true) ∷ (codes "c.txt", true) ∷ [])) (call.bytes (255 ∷ []) ∷ []) ≡ Some (Err (NotUtf8 (codes "b.txt")))
 unfolding heard_of is_utf8 chars encode
 first_bad = refl

@@ -21,9 +21,9 @@ told_had had = Some (Ok had)
 abbrev stored : TextFile → List ℕ → StoreText
 stored text body = record { name = text.license; body = body }
 
--- ---- what is heard of texts that were had
+-- ---- what is read of texts that were found
 
--- the first of them was had, and so were those behind it
+-- the first of them was found, and so were those behind it
 record IsHad (text : TextFile) (heard : Option (Result (List ℕ) ReadFault)) (rest : Option StoreHeard) (had : List StoreText) : Type 0 where
   body : List ℕ
   is : heard ≡ Some (Ok body)
@@ -44,7 +44,7 @@ is_had text (Some (Ok body)) answers rest had is = had_behind text body rest had
 is_had text (Some (Err fault)) [] rest had is = absurd (cc)
 is_had text (Some (Err fault)) (answer ∷ answers) rest had is = absurd (cc)
 
--- a text that is had is so whatever the count is behind its read
+-- a text that is found is so whatever the count is behind its read
 body_any : (begun after other : ℕ) (answer : CallAnswer) (body : List ℕ) → text_answered begun after answer ≡ Some (Ok body) → text_answered begun other answer ≡ Some (Ok body)
 body_any begun after other (call.bytes items) body is = is
 body_any begun after other (call.entries items) body is = absurd (cc)
@@ -74,7 +74,7 @@ module _ (begun after : ℕ) where
       let it = is_had text (text_answered begun after answer) answers (reads_answered begun after texts answers) had is in
       ap suc (had_length texts answers it.more it.had_more)
 
-  -- ---- texts that were had, and more
+  -- ---- texts that were found, and more
 
   abbrev behind : List StoreText → StoreHeard → StoreHeard
   behind had (Ok more) = Ok (had ++ more)
@@ -101,7 +101,7 @@ module _ (begun after : ℕ) where
       ∙ ap (option_map (with_text (stored text it.body))) (had_joined texts others answers more it.more it.had_more)
       ∙ one_before (stored text it.body) it.more had (reads_answered begun after others more) it.all
 
-  -- ---- a text that was not had
+  -- ---- a text that was not found
 
   fault_behind : (text : StoreText) (rest other : Option StoreHeard) (fault : StoreFault) → (rest ≡ Some (Err fault) → other ≡ Some (Err fault)) → option_map (with_text text) rest ≡ Some (Err fault)
       → option_map (with_text text) other ≡ Some (Err fault)
@@ -193,7 +193,7 @@ module _ {begun after : ℕ} {dir : List ℕ} where
     answers = subst (λ (told : Option (Result (List ℕ) ReadFault)). AnswersStore (heard_with text told [] (Some (Ok []))) result) (sym read.hears) answers;
   }
 
-  -- texts were had, and then more
+  -- texts were found, and then more
   pub texts_joined : {mid : ℕ} {old between new : List Call} (texts others : List TextFile) (had more : List StoreText) → AreTextsRead begun mid old between dir texts (Ok had) → AreTextsRead begun after between new dir others (Ok more)
       → AreTextsRead begun after old new dir (texts ++ others) (Ok (had ++ more))
   texts_joined {mid} {old} {between} {new} texts others had more first then =
@@ -206,7 +206,7 @@ module _ {begun after : ℕ} {dir : List ℕ} where
         answers = had_joined begun after texts others first.reads then.reads had now ∙ ap (option_map (behind begun after had)) then.answers;
       }
 
-  -- texts were had, and then one was not
+  -- texts were found, and then one was not
   pub texts_refused : {mid : ℕ} {old between new : List Call} (texts others rest : List TextFile) (had : List StoreText) (error : StoreError) → AreTextsRead begun mid old between dir texts (Ok had)
       → AreTextsRead begun after between new dir others (Err error) → AreTextsRead begun after old new dir (texts ++ (others ++ rest)) (Err error)
   texts_refused {mid} {old} {between} {new} texts others rest had error first then =

@@ -58,18 +58,18 @@ module _ {begun after : ℕ} {dir : List ℕ} where
   passed_over old new texts had none same =
       ([], sym (append-nil had), subst (λ (those : List TextFile). AreTextsRead begun after old new dir those (Ok [])) (sym none) (none_read old new same))
 
-  -- one that is, and was had
+  -- one that is, and was found
   pub one_more : (old new : List Call) (texts : List TextFile) (file : TextFile) (had all : List StoreText) (text : StoreText) → texts ≡ file ∷ [] → AreTextsRead begun after old new dir (file ∷ []) (Ok (text ∷ []))
       → all ≡ had ++ text ∷ [] → ReadsOn begun after old new dir texts had (Ok all)
   one_more old new texts file had all text is read pushed =
       (text ∷ [], pushed, subst (λ (those : List TextFile). AreTextsRead begun after old new dir those (Ok (text ∷ []))) (sym is) read)
 
-  -- it was not had
+  -- it was not found
   pub none_more : (old new : List Call) (texts : List TextFile) (file : TextFile) (had : List StoreText) (error : StoreError) → texts ≡ file ∷ [] → AreTextsRead begun after old new dir (file ∷ []) (Err error)
       → ReadsOn begun after old new dir texts had (Err error)
   none_more old new texts file had error is read = subst (λ (those : List TextFile). AreTextsRead begun after old new dir those (Err error)) (sym is) read
 
-  -- it was had, and then memory was wanting
+  -- it was found, and then memory was wanting
   pub lost_behind : (old new : List Call) (texts : List TextFile) (result : Result (List StoreText) StoreError) → AreTextsRead begun after old new dir texts result → AreTextsRead begun after old new dir texts (Err Memory)
   lost_behind old new texts result read = record { reads = read.reads; within = read.within; made = read.made; answers = tt }
 

@@ -77,7 +77,7 @@ fault_behind names before (line ∷ next ∷ lines) =
 abbrev pub fault_in : List (List ℕ) → Option ℕ
 fault_in lines = fault_behind (names_in lines) [] lines
 
--- the number, from 1, of the line in which a place stands
+-- the number, from 1, of the line in which a place is
 abbrev pub line_at : List ℕ → ℕ → ℕ
 line_at bytes place = count_by is_line_end (take place bytes) + 1
 

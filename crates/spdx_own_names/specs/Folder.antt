@@ -1,4 +1,4 @@
--- A folder of licence texts: which of its files are texts, and what is heard of them.
+-- A folder of licence texts: which of its files are texts, and what is read of them.
 use Rattle.std.specs.Prelude.{◌≡◌, ◌≤◌, ℕ, ◌-◌, true, false, List, [], ◌∷◌, ◌++◌, codes, length, take, nat_eq, Option, Some, None, option_map, Result, Ok, Err, if◌then◌else◌}
 use Rattle.std.specs.List.{filter_map, ends_with}
 use Rattle.deny_text.specs.Path.{join_of}
@@ -15,11 +15,11 @@ use Rattle.spdx_own_names.specs.declared.error.StoreFault.TheVariants.{Failed, A
 use Rattle.spdx_own_names.specs.declared.error.StoreError.{StoreError}
 use Rattle.spdx_own_names.specs.declared.error.StoreError.TheVariants.{Fault, Memory}
 
--- what stands before an end
+-- what is before an end
 abbrev pub before_end : List ℕ → List ℕ → Option (List ℕ)
 before_end end name = if ends_with nat_eq name end then Some (take (length name - length end) name) else None
 
--- the licence that a file's name tells: what stands before `.txt`
+-- the licence that a file's name tells: what is before `.txt`
 abbrev pub license_of : List ℕ → Option (List ℕ)
 license_of name = before_end (codes ".txt") name
 
@@ -61,7 +61,7 @@ texts_due call.wrong_kind = []
 texts_due call.failed = []
 texts_due call.no_memory = []
 
--- ---- what their answers let hear
+-- ---- what their answers say
 
 -- the texts of a folder, or why there are none
 abbrev pub StoreHeard : Type 0
@@ -78,15 +78,16 @@ fault_of file read.Absent = Absent
 fault_of file read.Folder = Absent
 fault_of file (read.NotUtf8 place) = NotUtf8 file
 
--- by what is heard of a text and of those behind it; behind one that is not had no other is read
+-- by what is read of a text and of those behind it; behind one that is not found no other is read
 abbrev pub heard_with : TextFile → Option (Result (List ℕ) ReadFault) → List CallAnswer → Option StoreHeard → Option StoreHeard
 heard_with text None answers rest = None
 heard_with text (Some (Ok body)) answers rest = option_map (with_text (record { name = text.license; body = body })) rest
 heard_with text (Some (Err fault)) [] rest = Some (Err (fault_of text.file fault))
 heard_with text (Some (Err fault)) (answer ∷ answers) rest = None
 
--- By the answers to the reads of texts, between two counts of faults: each text as it is, or the fault of the first that is not had.
--- Nothing is heard where memory was wanting, where a read that is due was not made, and where one more was made.
+-- By the answers to the reads of texts, between two counts of faults: each text as it is, or the fault of the first
+-- that is not found. Nothing is read where memory was wanting, where a read that is due was not made, and where one
+-- more was made.
 abbrev pub reads_answered : ℕ → ℕ → List TextFile → List CallAnswer → Option StoreHeard
 reads_answered begun after [] [] = Some (Ok [])
 reads_answered begun after [] (answer ∷ answers) = None
@@ -111,21 +112,22 @@ store_answered begun after call.no_memory reads = None
 
 -- ---- over a tree
 
--- what is heard is answered; want of memory may come in the place of any answer
+-- what is read is answered; want of memory may come in the place of any answer
 abbrev pub AnswersStore : Option StoreHeard → Result (List StoreText) StoreError → Type 0
 AnswersStore heard (Ok texts) = heard ≡ Some (Ok texts)
 AnswersStore heard (Err (Fault fault)) = heard ≡ Some (Err fault)
 AnswersStore heard (Err Memory) = Unit {0}
 
--- These texts of a folder were read, in order, up to the first that is not had, and nothing else was asked; this is answered.
+-- These texts of a folder were read, in order, up to the first that is not found, and nothing else was asked; this is
+-- answered.
 pub record AreTextsRead (begun after : ℕ) (old new : List Call) (dir : List ℕ) (texts : List TextFile) (result : Result (List StoreText) StoreError) : Type 0 where
   pub reads : List CallAnswer
   pub within : length reads ≤ length texts
   pub made : new ≡ old ++ reads_of dir texts reads
   pub answers : AnswersStore (reads_answered begun after texts reads) result
 
--- The folder was listed, and then its texts were read, in order, up to the first that is not had, and nothing else was asked; this is
--- answered.
+-- The folder was listed, and then its texts were read, in order, up to the first that is not found, and nothing else
+-- was asked; this is answered.
 pub record IsStoreRead (begun after : ℕ) (old new : List Call) (dir : List ℕ) (result : Result (List StoreText) StoreError) : Type 0 where
   pub listing : CallAnswer
   pub reads : List CallAnswer
@@ -137,7 +139,7 @@ abbrev pub one_text : Result StoreText StoreError → Result (List StoreText) St
 one_text (Ok text) = Ok (text ∷ [])
 one_text (Err error) = Err error
 
--- these texts were read behind those that were had
+-- these texts were read behind those that were found
 abbrev pub ReadsOn : ℕ → ℕ → List Call → List Call → List ℕ → List TextFile → List StoreText → Result (List StoreText) StoreError → Type 0
 ReadsOn begun after old new dir texts had (Ok all) =
     (more : List StoreText) × (all ≡ had ++ more) × AreTextsRead begun after old new dir texts (Ok more)

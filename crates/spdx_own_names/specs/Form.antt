@@ -94,7 +94,7 @@ abbrev pub imprecise_cut : Option (List ℕ × List ℕ) → Option LineForm
 imprecise_cut None = None
 imprecise_cut (Some named) = Some (imprecise named.1 named.0)
 
--- by the first word, and what stands behind the space after it
+-- by the first word, and what is behind the space after it
 abbrev pub form_by : List ℕ → List ℕ → Option LineForm
 form_by word rest =
     if bytes_eq word (codes "license") then license_cut (cut_at is_space rest)

@@ -178,7 +178,7 @@ fn imprecise_form(rest: &str) -> Option<LineForm<'_>>
     Some(LineForm::Imprecise { text, name })
 }
 
-/// What a line says by its first word and what stands behind that.
+/// What a line says by its first word and what is behind that.
 fn form_by<'l>(word: &str, rest: &'l str) -> Option<LineForm<'l>>
     ensures { option_map form_view result ≡ form_by word.now rest.now }
 {

@@ -108,7 +108,7 @@ fn compare_lowered(text: &[u8], start: &[u8]) -> Ordering
         .cmp(start.iter().map(|byte| byte.to_ascii_lowercase()))
 }
 
-/// How a text stands to the start of another in lower case.
+/// How a text is to the start of another in lower case.
 fn compare_to(meaning: &Meaning, start: &[u8]) -> Ordering
     ensures { result ≡ slice_cmp nat_cmp meaning.now.text (str_to_ascii_lowercase start.now) }
 {
@@ -129,7 +129,7 @@ fn name_of<'l>(ordered: &'l [Meaning], start: &[u8]) -> Option<&'l str>
     }
 }
 
-/// Whether nothing stands here that goes on a word.
+/// Whether nothing is here that goes on a word.
 fn ends_word(rest: &[u8]) -> bool
     ensures { result ≡ ends_word rest.now }
 {

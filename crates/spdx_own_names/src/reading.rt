@@ -20,7 +20,7 @@ use crate::ordered::OrderedMeanings;
 use crate::words::cut_at_line_end;
 use std::alloc::{AllocError, Global};
 
-/// The number, from 1, of the line in which a place stands.
+/// The number, from 1, of the line in which a place is.
 fn line_at(bytes: &[u8], place: usize) -> usize
     requires { place ≤ length bytes.now }
     ensures { result ≡ line_at bytes.now place }
@@ -64,7 +64,7 @@ fn names_in(alloc: Global, text: &str) -> Result<NameList, AllocError>
     with_name(alloc, names, rest)
 }
 
-/// The lists and what a line lists, which stands behind so many lines.
+/// The lists and what a line lists, which is behind so many lines.
 #[tactic(auto, using(crate::proofs::FormLemmas::is_new, crate::proofs::FormLemmas::no_form))]
 fn read_line(
     alloc: Global,

@@ -14,7 +14,7 @@ use std::alloc::{AllocError, Global};
 use tree_core::texts::{ReadFault, read_file_text};
 use tree_core::{Entry, Tree, TreeError};
 
-/// What stands before an end.
+/// What is before an end.
 #[tactic(auto, using(crate::proofs::WordLemmas::strips_end))]
 fn before_end<'t>(name: &'t str, end: &str) -> Option<&'t str>
     ensures { option_copied result ≡ before_end end.now name.now }
@@ -22,7 +22,7 @@ fn before_end<'t>(name: &'t str, end: &str) -> Option<&'t str>
     name.strip_suffix(end)
 }
 
-/// The licence that a file's name tells: what stands before `.txt`.
+/// The licence that a file's name tells: what is before `.txt`.
 fn license_of(name: &str) -> Option<&str>
     ensures { option_copied result ≡ license_of name.now }
 {
@@ -126,7 +126,7 @@ fn read_texts<T: Tree>(
     Ok(texts)
 }
 
-/// The texts of a folder: the files whose names end `.txt`, each of the licence whose name stands before that.
+/// The texts of a folder: the files whose names end `.txt`, each of the licence whose name is before that.
 fn list_texts<T: Tree>(
     alloc: Global,
     tree: &mut T,
@@ -153,8 +153,9 @@ fn list_texts<T: Tree>(
     }
 }
 
-/// The identifier over the texts of a folder: the files whose names end `.txt`, in the byte order of their names,
-/// each of the licence whose name stands before that end. The folder is listed once, and each text read once.
+/// The identifier over the texts of a folder: the files whose names end `.txt`, in the byte order of their
+/// names, each of the licence whose name is before that end. The folder is listed once, and each text read
+/// once.
 ///
 /// It is refused where the folder or one of its texts can't be read, where a text is not UTF-8, and for want
 /// of memory.

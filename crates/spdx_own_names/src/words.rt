@@ -7,14 +7,14 @@ ghost use Rattle.std.specs.List.{before_first, list_all, slice_split};
 ghost use Rattle.spdx_terms.specs.catalog.Words.{is_word_byte, is_word, is_operator, is_reference};
 ghost use Rattle.spdx_terms.specs.catalog.Words.{is_name, is_imprecise, is_space};
 
-/// What stands before the first space, and what stands behind it.
+/// What is before the first space, and what is behind it.
 pub(crate) fn cut_at_space(text: &str) -> Option<(&str, &str)>
     ensures { option_map (λ cut. (cut.0.now, cut.1.now)) result ≡ cut_at is_space text.now }
 {
     text.split_once(' ')
 }
 
-/// The first line that a line feed ends, and what stands behind that.
+/// The first line that a line feed ends, and what is behind that.
 pub(crate) fn cut_at_line_end(text: &str) -> Option<(&str, &str)>
     ensures { option_map (λ cut. (cut.0.now, cut.1.now)) result ≡ cut_at is_line_end text.now }
 {
@@ -94,7 +94,7 @@ fn are_words(text: &str) -> bool
     and_word(all, rest)
 }
 
-/// What stands before the first space, or all.
+/// What is before the first space, or all.
 pub(crate) fn first_word(text: &str) -> &str
     ensures { result.now ≡ before_first is_space text.now }
 {

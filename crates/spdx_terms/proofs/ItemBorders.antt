@@ -29,7 +29,7 @@ use Rattle.spdx_terms.specs.Items.{item_at, term_of, license_of, license_at, ref
 use Rattle.spdx_terms.proofs.ImpreciseLemmas.{both_true, same_letters, to_begins, same_length, Pairs, longest_sound}
 use Rattle.spdx_terms.proofs.ItemLemmas.{items_at, passed, unused}
 
--- an item takes so many bytes of a text that stands from a place on, up to a character border
+-- an item takes so many bytes of a text that is from a place on, up to a character border
 pub record FitsAt (place : ℕ) (text : List ℕ) (it : Item) : Type 0 where
   pub start : it.span.start ≡ place
   pub len : ℕ
@@ -58,7 +58,7 @@ got [] k h = absurd (false≢true h)
 got (b ∷ rest) zero h = (omega arith, grind (arith, nat_tests))
 got (b ∷ rest) (suc k) h = let more = got rest k h in (omega arith, more.1)
 
--- behind a `+` stands a border
+-- behind a `+` is a border
 plus_border : (text : List ℕ) (len : ℕ) → IsUtf8 text → plus_behind text len ≡ true → IsCharBoundary text (len + 1)
 plus_border text len utf8 h = let at = got text len h in IsCharBoundary-after_ascii text len utf8 at.0 (omega (arith, at.1))
 
@@ -200,7 +200,7 @@ fits_word mode lists laws wants_exception place text len utf8 some border = fits
 fits_word mode lists laws AfterTerm place text len utf8 some border = fits_item _ place len text some border
 fits_word mode lists laws AfterPart place text len utf8 some border = fits_item _ place len text some border
 
--- behind a run of ASCII bytes stands a border
+-- behind a run of ASCII bytes is a border
 last_small : (p : ℕ → Bool) → ((c : ℕ) → p c ≡ true → c < 128) → (b : ℕ) (rest : List ℕ) (n : ℕ) → b < 128 → n ≡ prefix_len p rest → get_or (b ∷ rest) n 0 < 128
 last_small p small b rest zero first is = first
 last_small p small b rest (suc n) first is = small (get_or rest n 0) (prefix_len_passes p rest n 0 (omega arith))
@@ -212,7 +212,7 @@ run_border p small b rest utf8 first =
     let end : prefix_len p rest + 1 ≡ 1 + prefix_len p rest = omega arith in
     subst (λ k. IsCharBoundary (b ∷ rest) k) end (IsCharBoundary-after_ascii (b ∷ rest) (prefix_len p rest) utf8 (omega arith) (last_small p small b rest (prefix_len p rest) first refl))
 
--- behind a character stands a border
+-- behind a character is a border
 begins_character : (c : ℕ) → goes_on c ≡ false → 128 ≤ c → 192 ≤ c
 begins_character c other high = grind (arith, nat_tests)
 
@@ -315,7 +315,7 @@ step_item mode lists laws wanted place b rest utf8 dark =
     (passed mode lists (wanted_after wanted it.what) (place + 1) it.span.end rest (omega arith) (omega arith)
     ∙ ap (λ k. items_from mode lists (wanted_after wanted it.what) it.span.end it.span.end (drop k (b ∷ rest))) back)
 
--- a border of what stands from a place on is one of the text
+-- a border of what is from a place on is one of the text
 pub border_behind : (text : List ℕ) (place len : ℕ) → place ≤ length text → IsCharBoundary (drop place text) len → IsCharBoundary text (place + len)
 border_behind text place len inside border =
     let total : length (drop place text) ≡ length text - place = length-drop place text in

@@ -1,4 +1,4 @@
--- Where the items of a text stand, and what the slash changes.
+-- Where the items of a text are, and what the slash changes.
 use Rattle.std.proofs.Common.{◌≡◌, ◌∙◌, refl, sym, ap, subst, ℕ, ◌+◌, ◌-◌, ◌<◌, ◌≤◌, Bool, true, false, not, ◌||◌, cond, IsTrue, nat_lt, nat_eq, List, [], ◌∷◌, map, Option, Some, length, drop, arith}
 use Rattle.std.proofs.lemmas.Bool.{false≢true}
 use Rattle.std.proofs.lemmas.Bool.Decides.{nat_tests}

@@ -1,4 +1,4 @@
--- The first fault of a licence expression: what may not stand at a place, by what stands before it.
+-- The first fault of a licence expression: what may not are at a place, by what is before it.
 use Rattle.std.specs.Prelude.{ℕ, Bool, true, false, not, ◌&&◌, ◌||◌, List, [], ◌∷◌, Option, Some, None, if◌then◌else◌, length, drop}
 use Rattle.deny_text.specs.declared.span.Span.{Span}
 use Rattle.spdx_terms.specs.declared.mode.ParseMode.{ParseMode}
@@ -101,7 +101,7 @@ opened_after opened Plus span = opened
 opened_after opened Word span = opened
 opened_after opened Other span = opened
 
--- where the last open parenthesis stands
+-- where the last open parenthesis is
 abbrev pub last_open : List Span → Option Span
 last_open [] = None
 last_open (last ∷ rest) = Some last

@@ -108,7 +108,7 @@ plain_item lists place text len =
     unwrap_or (option_or (reference_at (take len text) place len) (license_at lists (take len text) place text len))
     (item_at (operator_of (take len text)) place len)
 
--- the same with them; the text is what stands from the place on
+-- the same with them; the text is what is from the place on
 abbrev pub term_item : ParseMode → CatalogLists → ℕ → List ℕ → ℕ → Item
 term_item mode lists place text len =
     unwrap_or (imprecise_if mode.allow_imprecise_license_names lists place text len) (plain_item lists place text len)
@@ -156,7 +156,7 @@ abbrev pub used_behind : ℕ → Option Item → ℕ
 used_behind used None = used
 used_behind used (Some item) = item.span.end
 
--- The items of what stands from a place on. White space is passed over, and so is what the item before has used.
+-- The items of what is from a place on. White space is passed over, and so is what the item before has used.
 abbrev pub items_from : ParseMode → CatalogLists → WantedItem → ℕ → ℕ → List ℕ → List Item
 items_from mode lists wanted place used [] = []
 items_from mode lists wanted place used (b ∷ rest) =

@@ -37,10 +37,10 @@ with_slash slash mode = record {
   allow_slash_as_or_operator = slash;
 }
 
--- no slash stands in a text
+-- no slash is in a text
 abbrev pub has_no_slash : List ℕ → Bool
 has_no_slash text = list_all (λ b. not (b == byte "/")) text
 
--- where none stands in a text, the slash changes no item
+-- where none is in a text, the slash changes no item
 abbrev pub SlashChangesNothing : Type 0
 SlashChangesNothing = (mode : ParseMode) (lists : CatalogLists) (text : List ℕ) → IsTrue (has_no_slash text) → items_of (with_slash true mode) lists text ≡ items_of (with_slash false mode) lists text

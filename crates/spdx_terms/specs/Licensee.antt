@@ -26,7 +26,7 @@ abbrev pub HasNoPlus : LicenseItem → Type 0
 HasNoPlus (Spdx name family rank later plus) = plus ≡ false
 HasNoPlus (Reference doc id) = Unit {0}
 
--- licensees are told apart and ordered by their printed bytes
+-- licensees are distinguished and ordered by their printed bytes
 abbrev pub printed_order : LicenseReq → LicenseReq → Ordering
 printed_order = on req_text (slice_cmp nat_cmp)
 
@@ -53,13 +53,13 @@ pub data IsOnePart (mode : ParseMode) : List Item → LicenseReq → Type 0 wher
 abbrev pub IsLicensee : ParseMode → CatalogLists → List ℕ → LicenseReq → Type 0
 IsLicensee mode lists text req = IsOnePart (licensee_mode mode) (items_of (licensee_mode mode) lists text) req
 
--- a licensee's text is read, or told by its first fault; want of memory is free
+-- a licensee's text is read, or reported by its first fault; want of memory is free
 abbrev pub LicenseeAnswers : ParseMode → CatalogLists → List ℕ → Result LicenseReq ExprError → Type 0
 LicenseeAnswers mode lists text (Ok req) = IsLicensee mode lists text req
 LicenseeAnswers mode lists text (Err (Parse fault)) = licensee_fault mode lists text ≡ Some fault
 LicenseeAnswers mode lists text (Err Memory) = Unit {0}
 
--- the exception that stands third, behind a term and `WITH`
+-- the exception that is third, behind a term and `WITH`
 abbrev pub exception_name_of : ItemKind → Option (List ℕ)
 exception_name_of (Term named) = None
 exception_name_of (Exception name) = Some name

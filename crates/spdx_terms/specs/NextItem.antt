@@ -11,7 +11,7 @@ use Rattle.spdx_terms.specs.Items.{items_from, wanted_after}
 abbrev pub items_behind : ParseMode → CatalogLists → WantedItem → ℕ → List ℕ → List Item
 items_behind mode lists wanted place text = items_from mode lists wanted place place (drop place text)
 
--- an item is the first one from a place on, and the others stand behind it
+-- an item is the first one from a place on, and the others are behind it
 pub record StandsNext (mode : ParseMode) (lists : CatalogLists) (wanted : WantedItem) (place : ℕ) (text : List ℕ) (item : Item) : Type 0 where
   pub later : place < item.span.end
   pub border : IsCharBoundary text item.span.end

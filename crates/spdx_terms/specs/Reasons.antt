@@ -1,4 +1,4 @@
--- How faults are told.
+-- How faults are reported.
 use Rattle.std.specs.Prelude.{ℕ, List, codes}
 use Rattle.spdx_terms.specs.declared.error.ParseReason.{ParseReason}
 use Rattle.spdx_terms.specs.declared.error.ParseReason.TheVariants.{Empty, InvalidCharacters, SeparatedPlus, UnopenedParens, Unexpected, UnknownTerm, UnknownException, DeprecatedId, GplNoPlus, UnclosedParens}

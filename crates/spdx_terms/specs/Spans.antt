@@ -19,7 +19,7 @@ Rise text place (span ∷ spans) end = LiesFrom text place span × Rise text spa
 abbrev pub IsWhite : List ℕ → ℕ → ℕ → Type 0
 IsWhite text start end = (place : ℕ) → start ≤ place → place < end → IsTrue (is_white (get_or text place 0))
 
--- from a place on, white space alone stands before these spans, between them, and behind them
+-- from a place on, white space alone is before these spans, between them, and behind them
 abbrev pub WhiteBetween : List ℕ → ℕ → List Span → Type 0
 WhiteBetween text place [] = IsWhite text place (length text)
 WhiteBetween text place (span ∷ spans) = IsWhite text place span.start × WhiteBetween text span.end spans

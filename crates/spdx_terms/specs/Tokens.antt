@@ -53,7 +53,7 @@ says_or = one_of (codes "OR" ∷ codes "or" ∷ [])
 abbrev pub says_with : List ℕ → Bool
 says_with = one_of (codes "WITH" ∷ codes "with" ∷ [])
 
--- what stands behind a prefix
+-- what is behind a prefix
 abbrev pub after_prefix : List ℕ → List ℕ → Option (List ℕ)
 after_prefix prefix text = if starts_with nat_eq text prefix then Some (drop (length prefix) text) else None
 
@@ -65,7 +65,7 @@ abbrev pub own_license : Option (List ℕ) → Option (List ℕ) → Option Lice
 own_license doc None = None
 own_license doc (Some id) = if is_word id then Some (Reference doc id) else None
 
--- one that stands in a document of one's own
+-- one that is in a document of one's own
 abbrev pub in_document : Option (List ℕ) → Option LicenseItem
 in_document None = None
 in_document (Some text) =

@@ -17,7 +17,7 @@ pub enum ParseReason {
     SeparatedPlus,
     /// A `)` while no parenthesis is open.
     UnopenedParens,
-    /// What may not stand there, or the end where a term or an exception is expected.
+    /// What may not are there, or the end where a term or an exception is expected.
     Unexpected,
     /// A word that is no term.
     UnknownTerm,
@@ -31,7 +31,7 @@ pub enum ParseReason {
     UnclosedParens,
 }
 
-/// The first fault of a text, and where it stands: bytes from 0.
+/// The first fault of a text, and where it is there: bytes from 0.
 #[derive(Clone, Copy, Debug, PartialEq, Eq)]
 pub struct ParseError {
     pub reason: ParseReason,

@@ -1,4 +1,4 @@
-//! What is wrong with an item where it stands.
+//! What is wrong with an item where it is there.
 ghost use Rattle.std.specs.Prelude.{◌≡◌, Some};
 ghost use Rattle.spdx_terms.specs.Faults.{takes_term, takes_exception, takes_operator, takes_with};
 ghost use Rattle.spdx_terms.specs.Faults.{word_reason, fault as fault_between, fault_unless as unless_fine};

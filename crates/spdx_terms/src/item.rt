@@ -17,7 +17,7 @@ pub struct LicenseMarks {
     pub plus: bool,
 }
 
-/// A licence or a reference that stands where a term is wanted.
+/// A licence or a reference that is where a term is wanted.
 #[derive(Drop)]
 pub struct Simple {
     pub item: LicenseItem,
@@ -26,7 +26,7 @@ pub struct Simple {
     pub name_end: usize,
 }
 
-/// What stands at a place of an expression.
+/// What is at a place of an expression.
 #[derive(Drop)]
 pub enum ItemKind {
     Term(Simple),
@@ -46,14 +46,14 @@ pub enum ItemKind {
     Other,
 }
 
-/// What stands at a place of an expression, and where.
+/// What is at a place of an expression, and where.
 #[derive(Drop)]
 pub struct Item {
     pub what: ItemKind,
     pub span: Span,
 }
 
-/// What may stand at a place, by what stands before it.
+/// What may be at a place, by what is before it.
 #[derive(Clone, Copy, Debug, PartialEq, Eq)]
 pub enum WantedItem {
     Term,

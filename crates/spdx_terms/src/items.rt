@@ -50,7 +50,7 @@ fn operator(word: &str) -> ItemKind
     }
 }
 
-/// Whether a `+` stands behind so many bytes.
+/// Whether a `+` is behind so many bytes.
 fn has_plus(text: &str, len: usize) -> bool
     ensures { result ≡ plus_behind text.now len }
 {

@@ -17,12 +17,12 @@ pub fn items_rise()
     ensures { ItemsRise }
 {}
 
-/// The items of a text cover it: before them, between them and behind them stands white space alone.
+/// The items of a text cover it: before them, between them and behind them is white space alone.
 pub fn items_cover()
     ensures { ItemsCover }
 {}
 
-/// Where no slash stands in a text, the slash as an operator changes no item.
+/// Where no slash is in a text, the slash as an operator changes no item.
 pub fn slash_changes_nothing()
     ensures { SlashChangesNothing }
 {}

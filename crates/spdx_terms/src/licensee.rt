@@ -25,7 +25,7 @@ use std::fmt;
 use std::marker::Model;
 use std::sync::ledger::Ledger;
 
-/// A term that a policy allows. It keeps the text that it prints, by which licensees are told apart and
+/// A term that a policy allows. It keeps the text that it prints, by which licensees are distinguished and
 /// ordered.
 #[derive(Drop)]
 pub struct Licensee {

@@ -63,7 +63,7 @@ impl Token {
         }
     }
 
-    /// How many bytes it takes at the start of what stands behind its first byte.
+    /// How many bytes it takes at the start of what is behind its first byte.
     pub fn rest_len(self, rest: &[u8]) -> usize
         ensures len { result ≡ rest_len self rest.now }
         ensures bound { result ≤ length rest.now }
@@ -110,7 +110,7 @@ pub fn says_with(word: &str) -> bool
     word == "WITH" || word == "with"
 }
 
-/// What stands behind a prefix.
+/// What is behind a prefix.
 #[tactic(auto, using(crate::proofs::WordLemmas::strips))]
 fn after_prefix<'t>(text: &'t str, prefix: &str) -> Option<&'t str>
     ensures { option_copied result ≡ behind_prefix prefix.now text.now }
@@ -135,7 +135,7 @@ fn own_license<'t>(doc: Option<&'t str>, id: Option<&'t str>) -> Option<Referenc
     }
 }
 
-/// One in a document of one's own, by what stands behind `DocumentRef-`.
+/// One in a document of one's own, by what is behind `DocumentRef-`.
 fn in_document(text: &str) -> Option<ReferenceParts<'_>>
     ensures { option_map parts_item result ≡ within_document (Some text.now) }
 {

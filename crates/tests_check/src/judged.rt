@@ -86,7 +86,7 @@ fn beside_bar(text: &str) -> (&str, &str) {
     (one.trim(), other.trim())
 }
 
-/// The verdict on an expression; behind bars stand the allowed licences and the exceptions.
+/// The verdict on an expression; behind bars are the allowed licences and the exceptions.
 pub fn put_verdict(alloc: Global, text: &str, out: &mut AnswerText) -> Option<()> {
     let (text, lists) = beside_bar(text);
     let (allow, exceptions) = beside_bar(lists);
@@ -117,7 +117,7 @@ fn source_of(alloc: Global, from: &str) -> Option<Option<Source>> {
     }
 }
 
-/// A crate that may be published to these registries. Behind the bar stands its source.
+/// A crate that may be published to these registries. Behind the bar is its source.
 fn published(alloc: Global, text: &str) -> Option<Krate> {
     let (words, from) = beside_bar(text);
     let publish = some!(registries(alloc, words));
@@ -176,7 +176,7 @@ fn expr_source(alloc: Global, words: &str) -> Option<LicenseExprSource> {
     }
 }
 
-/// Where the expression stands: the number of the file, the offset, and perhaps the place of the string that the
+/// Where the expression is: the number of the file, the offset, and perhaps the place of the string that the
 /// text was written as; and where it comes from.
 fn info_of(alloc: Global, case: &Case<'_>) -> Option<LicenseExprInfo> {
     let (file, rest) = first_word(case.word("place"));
@@ -380,7 +380,7 @@ fn put_both(
     Some(())
 }
 
-/// What is told of the crate, where the case has a verdict on it, and of the policy, where it has one.
+/// What is reported of the crate, where the case has a verdict on it, and of the policy, where it has one.
 pub fn put_told(alloc: Global, case: &Case<'_>, key: &str, out: &mut AnswerText) -> Option<()> {
     let files = some!(table(alloc, case));
     put_both(alloc, case, key, &files, out)

@@ -28,7 +28,7 @@ impl Rows for TextRows {
     }
 }
 
-/// Cases of what is told of crates and of policies.
+/// Cases of what is reported of crates and of policies.
 struct ToldCases;
 
 /// The keys that say what is put in.

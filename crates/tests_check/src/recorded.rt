@@ -36,7 +36,7 @@ pub fn put_read(alloc: Global, text: &str, out: &mut AnswerText) -> Option<()> {
     Some(())
 }
 
-/// The part before a bar, and what stands behind it.
+/// The part before a bar, and what is behind it.
 fn cut(text: &str) -> (&str, &str) {
     let (part, rest) = text.split_once('|').unwrap_or((text, ""));
     (part.trim(), rest)

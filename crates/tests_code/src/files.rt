@@ -1,4 +1,4 @@
-//! What is told of files that can't be read, and of rows and cases that differ.
+//! What is reported of files that can't be read, and of rows and cases that differ.
 use std::alloc::{AllocError, Global};
 use std::rt::Runtime;
 use std::test::Fail;
@@ -33,7 +33,7 @@ impl Cases for Same {
     }
 }
 
-/// Lines of a file of rows, what each group has, and what is told.
+/// Lines of a file of rows, what each group has, and what is reported.
 const ROWS: [(&str, &str, &str); 11] = [
     (
         "[same]\na => a\n\n# none\nb =>\n",
@@ -148,7 +148,8 @@ const CASES: [(&str, &str, &str); 12] = [
     ),
 ];
 
-/// Whether counts and differences are told, and whether a program ends with 1 exactly where something differs.
+/// Whether counts and differences are reported, and whether a program ends with 1 exactly where something
+/// differs.
 fn is_told(
     rt: &HostRuntime,
     told: Tally,

@@ -9,7 +9,7 @@ ghost use Rattle.spdx_core.specs.Reading.{expression_of_text};
 ghost use Rattle.spdx_core.specs.ExpressionRows.{two_terms, operator_is_used_up};
 ghost use Rattle.spdx_core.specs.certificates.Rows.{rows, computed_row};
 
-/// Does nothing: its clauses are rows of what can stand in a catalogue.
+/// Does nothing: its clauses are rows of what can be in a catalogue.
 fn names_and_imprecise_texts()
     ensures exception { is_name (codes "MPL-2.0-no-copyleft-exception") ≡ true }
     ensures plus { is_name (codes "GPL-2.0+") ≡ false }

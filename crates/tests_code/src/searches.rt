@@ -26,7 +26,7 @@ fn finds_places(rt: HostRuntime) -> Result<(), Fail> {
     Ok(())
 }
 
-/// A number that stands at these bytes.
+/// A number that is at these bytes.
 fn at(value: u32, start: usize, end: usize) -> Spanned<u32> {
     let span = Span { start, end };
     Spanned { value, span }

@@ -1,4 +1,4 @@
-//! What the definitions make of verdicts and of what is told of them.
+//! What the definitions make of verdicts and of what is reported of them.
 ghost use Rattle.std.specs.Prelude.{◌≡◌, map, take};
 ghost use Rattle.check_core.specs.Rows.{judged_row, rows};
 ghost use Rattle.check_core.specs.unused.Rows.{reported_row, unused_rows};

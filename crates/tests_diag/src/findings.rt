@@ -91,7 +91,7 @@ fn overrides_of(alloc: Global, words: &str) -> Result<DiagnosticOverrides, Alloc
     Ok(overrides)
 }
 
-/// A finding that stands as `CODE LEVEL`, or as `LEVEL` without a code.
+/// A finding that is as `CODE LEVEL`, or as `LEVEL` without a code.
 fn finding_of(alloc: Global, text: &str) -> Result<Diag, AllocError> {
     let (name, level) = text.split_once(' ').unwrap_or(("", text));
     let finding = Diagnostic::new(alloc, severity_named(level));
@@ -211,7 +211,7 @@ fn put_place(out: &mut AnswerText, group: &str, files: &Files, number: usize) {
     }
 }
 
-/// Puts what a file says that stands as `NUMBER in TEXT`, or as its text alone.
+/// Puts what a file says that is as `NUMBER in TEXT`, or as its text alone.
 fn put_in_file(out: &mut AnswerText, alloc: Global, group: &str, text: &str) {
     let (number, source) = text.split_once(" in").unwrap_or(("1", text));
     match &files_of(alloc, source.trim_start()) {

@@ -10,14 +10,14 @@ use tests_files::AnswerText;
 use tests_text::paths::pair_of;
 use tree_core::MemSink;
 
-/// What stands before the first blank and behind it.
+/// What is before the first blank and behind it.
 fn cut(text: &str) -> (&str, &str) {
     text.split_once(' ').unwrap_or((text, ""))
 }
 
 // ---- levels
 
-/// Appends the code or the level of a word, which stands behind an option. A word that is none is passed over.
+/// Appends the code or the level of a word, which is behind an option. A word that is none is passed over.
 fn take(levels: &mut LintLevels, option: &str, word: &str) -> Result<(), AllocError> {
     match (option, CodeOrLevel::from_word(word)) {
         ("A", Some(subject)) => levels.allow.push(subject),
@@ -41,7 +41,7 @@ fn levels_of(alloc: Global, words: &str) -> Result<LintLevels, AllocError> {
     Ok(levels)
 }
 
-/// Puts the level that is asked for of a code and a level, or what stands twice.
+/// Puts the level that is asked for of a code and a level, or what is there twice.
 fn put_overridden(out: &mut AnswerText, alloc: Global, levels: &LintLevels, finding: &str) {
     let (name, level) = cut(finding);
     match &overrides_of(alloc, levels) {

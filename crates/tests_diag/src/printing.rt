@@ -33,7 +33,7 @@ fn text_of(entry: &CaseEntry) -> &str {
     str::from_utf8(&entry.text).unwrap_or("no UTF-8")
 }
 
-/// A label in a file, which stands by its number before the bytes; `place` is a place that becomes a label.
+/// A label in a file, which is by its number before the bytes; `place` is a place that becomes a label.
 fn label_of(alloc: Global, entry: &CaseEntry) -> Result<Label, AllocError> {
     let (style, place) = entry.word.as_str().split_once(' ').unwrap_or(("", ""));
     let (file, span) = place.split_once(' ').unwrap_or((place, ""));
@@ -110,7 +110,7 @@ fn fill(pack: &mut Pack, findings: Vec<Diagnostic>) -> MemoryResult {
     Ok(())
 }
 
-/// The findings of a case in a pack, about the crate that stands behind the key `pack`.
+/// The findings of a case in a pack, about the crate that is behind the key `pack`.
 fn pack_of(alloc: Global, case: &Case<'_>) -> Result<Pack, AllocError> {
     let findings = findings_of(alloc, case)?;
     let Ok(mut pack) = pack_about(alloc, case.word("pack")) else {

@@ -6,7 +6,7 @@
 use crate::told::{Tally, UnreadLine};
 use std::alloc::{AllocError, Global};
 
-/// A key, what stands behind it, and a text.
+/// A key, what is behind it, and a text.
 #[derive(Drop)]
 pub struct CaseEntry {
     /// The line that it begins in, counted from 1.
@@ -25,7 +25,7 @@ pub struct Block {
     pub entries: Vec<CaseEntry>,
 }
 
-/// A case with the entries of its base, which stand before its own.
+/// A case with the entries of its base, which are before its own.
 #[derive(Clone, Copy)]
 pub struct Case<'c> {
     pub file: &'c str,
@@ -43,7 +43,7 @@ fn entry_among<'e>(entries: &'e [CaseEntry], key: &str) -> Option<&'e CaseEntry>
     None
 }
 
-/// What stands behind a key of a block, or nothing.
+/// What is behind a key of a block, or nothing.
 pub fn word_of<'b>(block: &'b Block, key: &str) -> &'b str {
     match entry_among(&block.entries, key) {
         Some(entry) => entry.word.as_str(),
@@ -60,7 +60,7 @@ impl<'c> Case<'c> {
         }
     }
 
-    /// What stands behind a key, or else this.
+    /// What is behind a key, or else this.
     pub fn word_or(&self, key: &str, or: &'c str) -> &'c str {
         match self.entry(key) {
             Some(entry) => entry.word.as_str(),
@@ -68,7 +68,7 @@ impl<'c> Case<'c> {
         }
     }
 
-    /// What stands behind a key, or nothing.
+    /// What is behind a key, or nothing.
     pub fn word(&self, key: &str) -> &'c str {
         self.word_or(key, "")
     }
@@ -286,7 +286,7 @@ fn take(
     }
 }
 
-/// The blocks of a file's text. Lines that can't be read are told and passed over.
+/// The blocks of a file's text. Lines that can't be read are reported and passed over.
 pub fn blocks_of(
     alloc: Global,
     told: &mut Tally,

@@ -19,7 +19,7 @@ pub trait Cases {
     /// Whether a key says what is put in. Each other key says what is wanted.
     fn is_given(&self, key: &str) -> bool;
 
-    /// Puts what a case comes to under a key. A case that can't be tried is told by its line.
+    /// Puts what a case comes to under a key. A case that can't be tried is reported by its line.
     fn told(&self, alloc: Global, case: &Case<'_>, key: &str, out: &mut AnswerText) -> KeyAnswer;
 }
 
@@ -33,7 +33,7 @@ pub fn is_among(key: &str, keys: &[&str]) -> bool {
     false
 }
 
-/// Whether a key is for each program the same: the base, and a value that stands in texts by its name.
+/// Whether a key is for each program the same: the base, and a value that is in texts by its name.
 pub fn is_shared(key: &str) -> bool {
     is_among(key, &["with", "let"])
 }
@@ -202,7 +202,7 @@ fn lines_wanted<C: Cases>(entries: &[CaseEntry], cases: &C) -> u64 {
     lines
 }
 
-/// What is told of the cases of a text.
+/// What is reported of the cases of a text.
 pub fn told_cases<C: Cases>(
     alloc: Global,
     file: &str,

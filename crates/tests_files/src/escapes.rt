@@ -1,4 +1,4 @@
-//! Texts in which a backslash and what stands behind it are one character, or a piece that is repeated.
+//! Texts in which a backslash and what is behind it are one character, or a piece that is repeated.
 use crate::told::UnreadLine;
 use std::alloc::{AllocError, Global};
 
@@ -145,8 +145,9 @@ impl Reading {
     }
 }
 
-/// A text without its escapes: `\t`, `\n`, `\r`, `\v`, `\0`, `\s` for a blank, `\\`, `\[`, `\#`, `\=`, `\u{85}` for the
-/// character of that number in hex, and `\*{3:ab}` for a piece that stands so often. A piece has no escapes.
+/// A text without its escapes: `\t`, `\n`, `\r`, `\v`, `\0`, `\s` for a blank, `\\`, `\[`, `\#`, `\=`,
+/// `\u{85}` for the character of that number in hex, and `\*{3:ab}` for a piece that is there so often. A
+/// piece has no escapes.
 pub fn unescaped(alloc: Global, text: &str) -> Result<String, UnreadLine> {
     let mut reading = Reading::new(alloc);
     for letter in text.chars() {

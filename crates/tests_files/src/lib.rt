@@ -1,4 +1,5 @@
-//! Rows and cases that stand in files: how they are written, and how a program compares them with what it answers.
+//! Rows and cases that are in files: how they are written, and how a program compares them with what it
+//! answers.
 #![tactic(auto)]
 
 pub mod case;

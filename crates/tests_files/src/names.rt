@@ -6,8 +6,8 @@ use deny_text::Text;
 use spdx_terms::catalog::{Identifier, Match};
 use std::alloc::{AllocError, Global};
 
-/// Says of a text of one line, which is the name of a licence, that it is that one, at 80 or at the score that
-/// stands behind the name; and of two texts that they are the licence of Pixar, at 90.
+/// Says of a text of one line, which is the name of a licence, that it is that one, at 80 or at the score
+/// that is behind the name; and of two texts that they are the licence of Pixar, at 90.
 pub struct NameIdentifier;
 
 fn name_in(text: &str) -> Option<&'static str>

@@ -1,6 +1,6 @@
 //! What leaves a function that returns an option. `.ok()?` and `?` convert what is let go, and take up to twice as long to prove.
 
-/// What a result holds; where it is an error, the function that this stands in returns none.
+/// What a result holds; where it is an error, the function that this is in returns none.
 #[macro_export]
 macro_rules! ok {
     ($result:expr) => {

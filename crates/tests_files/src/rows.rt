@@ -137,7 +137,7 @@ fn take<R: Rows>(
     }
 }
 
-/// What is told of the rows of a text.
+/// What is reported of the rows of a text.
 pub fn told_rows<R: Rows>(
     alloc: Global,
     file: &str,

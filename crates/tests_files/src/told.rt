@@ -22,12 +22,13 @@ impl From<AllocError> for UnreadLine {
     }
 }
 
-/// A line for each group or file with the number of its rows or cases, and what is to be told of single lines.
+/// A line for each group or file with the number of its rows or cases, and what is to be reported of single
+/// lines.
 #[derive(Drop)]
 pub struct Tally {
     pub counts: String,
     pub differences: String,
-    /// How often something was told of a line.
+    /// How often something was reported of a line.
     pub times: u64,
 }
 
@@ -67,7 +68,7 @@ impl Tally {
         }
     }
 
-    /// Tells what was told elsewhere, so often.
+    /// Tells what was reported elsewhere, so often.
     pub fn tell_all(&mut self, differences: &str, times: u64) -> Result<(), AllocError>
         ensures { self.new.times ≡ min (self.old.times + times) (2 ^ 64 - 1) }
     {
@@ -98,7 +99,7 @@ impl Tally {
     }
 }
 
-/// The line that a byte stands in, counted from 1.
+/// The line that a byte is in, counted from 1.
 fn line_at(bytes: &[u8], place: usize) -> u64 {
     let mut line: u64 = 1;
     for byte in bytes.iter().take(place) {
@@ -109,7 +110,7 @@ fn line_at(bytes: &[u8], place: usize) -> u64 {
     line
 }
 
-/// The text of a file; none where it is no UTF-8, which is told.
+/// The text of a file; none where it is no UTF-8, which is reported.
 pub fn text_of<'b>(
     told: &mut Tally,
     file: &str,
@@ -137,7 +138,7 @@ fn print(rt: &HostRuntime, told: &Tally) -> io::Result<()> {
     eprint!(rt; "{}", told.differences.as_str())
 }
 
-/// Whether all of a file is as wanted: it was read, and nothing was told of a line.
+/// Whether all of a file is as wanted: it was read, and nothing was reported of a line.
 pub fn is_as_wanted(told: &io::Result<Tally>) -> bool
     ensures { IsTrue result ↔ IsOkAnd told.now (λ all. all.times ≡ 0) }
 {
@@ -147,7 +148,7 @@ pub fn is_as_wanted(told: &io::Result<Tally>) -> bool
     }
 }
 
-/// Prints what is told of a file, and returns whether all of it is as wanted and could be printed.
+/// Prints what is reported of a file, and returns whether all of it is as wanted and could be printed.
 pub fn show(rt: &HostRuntime, file: &str, told: &io::Result<Tally>) -> bool
     ensures { IsTrue result → IsOkAnd told.now (λ all. all.times ≡ 0) }
 {

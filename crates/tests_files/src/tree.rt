@@ -62,7 +62,7 @@ fn put_filled(out: &mut Vec<u8>, case: &Case<'_>, text: &str) -> Result<(), Allo
     Ok(())
 }
 
-/// The text of an entry, in which each value stands whose name is between dollar signs.
+/// The text of an entry, in which each value is whose name is between dollar signs.
 pub fn text_of(alloc: Global, case: &Case<'_>, entry: &CaseEntry) -> Result<Vec<u8>, AllocError> {
     let mut out = Vec::new(alloc);
     match str::from_utf8(&entry.text) {

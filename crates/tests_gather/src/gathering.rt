@@ -1,5 +1,5 @@
-//! Crates of metadata, gathered over the policy, the table and the tree of a case; and the files of a crate in the folder `/w`: what
-//! is read and listed, where fields stand, its pack, and the names that are joined.
+//! Crates of metadata, gathered over the policy, the table and the tree of a case; and the files of a crate
+//! in the folder `/w`: what is read and listed, where fields are, its pack, and the names that are joined.
 use crate::given::{OF_FEED, World, first_word, policy_of, world_of};
 use deny_text::{PathBuf, Span, Text};
 use diag_core::{Diag, Files, Label, LabelStyle};
@@ -116,7 +116,7 @@ pub fn put_findings(out: &mut AnswerText, files: &Files, findings: &[Diag]) {
     }
 }
 
-/// The file and the offset of an expression whose text stands there.
+/// The file and the offset of an expression whose text is there.
 fn put_place(out: &mut AnswerText, files: &Files, info: &LicenseInfo) {
     if let LicenseInfo::SpdxExpression { expr, nfo } = info {
         let source = files.source(nfo.file_id).unwrap_or("");
@@ -239,7 +239,7 @@ fn put_folder(out: &mut AnswerText, path: &str, heard: &FolderHeard, record: &Re
     }
 }
 
-/// Where a field stands, the read of its manifest, and how many files the table has then.
+/// Where a field is, the read of its manifest, and how many files the table has then.
 fn put_located(out: &mut AnswerText, located: &LocatedField, files: &Files) {
     match &located.location {
         Some(at) => write!(out, "{}:{}..{}", at.file, at.span.start, at.span.end),
@@ -277,7 +277,7 @@ fn put_listed(alloc: Global, out: &mut AnswerText, tree: &mut MemTree, path: &st
     }
 }
 
-/// Puts where the field stands that is written behind a path.
+/// Puts where the field is that is written behind a path.
 fn put_field(alloc: Global, out: &mut AnswerText, world: &mut World, words: &str) -> Option<()> {
     let (path, field) = first_word(words);
     let path = ok!(PathBuf::copy(alloc, path));
@@ -318,7 +318,8 @@ fn put_entries(
     Some(())
 }
 
-/// What is heard of each file by the key `read` and of each folder by the key `list`, and where each field by the key `locate` stands.
+/// What is read of each file by the key `read` and of each folder by the key `list`, and where each field by
+/// the key `locate` is.
 pub fn put_each(alloc: Global, case: &Case<'_>, out: &mut AnswerText) -> Option<()> {
     let mut world = some!(world_of(alloc, case));
     put_entries(alloc, out, &mut world, case.own)

@@ -144,7 +144,7 @@ fn add_text(alloc: Global, files: &mut Files, path: &str, text: &str) -> Option<
     }
 }
 
-/// What a case stands in.
+/// What a case is in.
 #[derive(Drop)]
 pub struct World {
     pub tree: MemTree,

@@ -52,7 +52,7 @@ impl Cases for CrateCases {
     }
 }
 
-/// What is told of the files of a crate, and of texts that are written in place of them.
+/// What is reported of the files of a crate, and of texts that are written in place of them.
 fn told_of_files(alloc: Global, case: &Case<'_>, key: &str, out: &mut AnswerText) -> KeyAnswer {
     let tried = match key {
         "missing-file" => pointed::put_missing(alloc, case, out),

@@ -177,7 +177,8 @@ pub fn put(alloc: Global, case: &Case<'_>, key: &str, out: &mut AnswerText) -> O
     put_of(alloc, case, &krate, joined, key, out)
 }
 
-/// What is told of a file of a clarification that is not there, whose path stands at these bytes of the first file of the table.
+/// What is reported of a file of a clarification that is not there, whose path is at these bytes of the first
+/// file of the table.
 pub fn put_missing(alloc: Global, case: &Case<'_>, out: &mut AnswerText) -> Option<()> {
     let files = some!(table(alloc, case));
     let span = span(case.word("missing"), "..");

@@ -16,7 +16,7 @@ pub fn put_terms(alloc: Global, text: &str, out: &mut AnswerText) -> Option<()> 
     Some(())
 }
 
-/// Where the first value of a field stands in a manifest.
+/// Where the first value of a field is in a manifest.
 pub fn put_value(text: &str, out: &mut AnswerText) -> Option<()> {
     match license_span(text) {
         Some(span) => write!(out, "{} {}", span.start, span.end),

@@ -1,8 +1,9 @@
 //! What is reached and selected in small graphs, and specs of crates that are left out.
 //!
-//! Each line of a graph is a crate: its id, then `=NAME@VERSION` where it has not its id for a name and the version 1.0.0, then `!`
-//! where its publish list is empty and `~` where a registry stands in it. Behind an arrow stand the crates that it depends on, each
-//! with its kinds, or with `none` for an empty list of kinds, or alone, where there is no such list.
+//! Each line of a graph is a crate: its id, then `=NAME@VERSION` where it has not its id for a name and the
+//! version 1.0.0, then `!` where its publish list is empty and `~` where a registry is in it. Behind an arrow
+//! are the crates that it depends on, each with its kinds, or with `none` for an empty list of kinds, or
+//! alone, where there is no such list.
 use crate::given;
 use graph_core::selection::{
     BuildError, DepKind, ExcludeSpec, ExcludeSpecs, Include, KrateRefs, Krates, Metadata, Selection,

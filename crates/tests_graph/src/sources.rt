@@ -80,7 +80,7 @@ fn put_source(alloc: Global, out: &mut AnswerText, group: &str, source: &Source,
     }
 }
 
-/// Puts what a group tells of a source and of what stands behind the bar, or why there is no source.
+/// Puts what a group tells of a source and of what is behind the bar, or why there is no source.
 pub fn put(alloc: Global, out: &mut AnswerText, group: &str, text: &str) {
     if group == "normal addresses" {
         return put_normal(alloc, out, text);

@@ -121,8 +121,8 @@ fn tree_with(alloc: Global, files: &str) -> Result<MemTree, PutError> {
     Ok(tree)
 }
 
-/// Puts what is found for a policy and for an exceptions file; or, where numbers stand behind a bar, what is found for a policy where
-/// one call after another fails.
+/// Puts what is found for a policy and for an exceptions file; or, where numbers are behind a bar, what is
+/// found for a policy where one call after another fails.
 pub fn put_searches(alloc: Global, out: &mut AnswerText, text: &str) {
     let (files, calls) = text.split_once(" | ").unwrap_or((text, ""));
     let Ok(mut tree) = tree_with(alloc, files) else {

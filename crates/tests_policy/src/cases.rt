@@ -59,7 +59,7 @@ struct LoadEnding {
 /// Lets an ending go. Whoever owns one hands it on to here, since to let it go is dear to prove.
 fn let_go(_ending: LoadEnding) {}
 
-/// The path that stands behind a key, if there is one.
+/// The path that is behind a key, if there is one.
 fn path_of(alloc: Global, word: &str) -> Result<Option<PathBuf>, AllocError> {
     if word.is_empty() {
         return Ok(None);

@@ -72,7 +72,7 @@ fn put_order_of(
     Ok(())
 }
 
-/// The text of a policy's file, of which is heard what these words say.
+/// The text of a policy's file, of which is read what these words say.
 fn heard(alloc: Global, words: &str) -> Result<ConfigText, ConfigError> {
     let heard = match words {
         "nothing is there" => Err(ReadFault::Absent),
@@ -104,7 +104,8 @@ fn put_reason(alloc: Global, value: &mut Value<'_>, out: &mut AnswerText) {
     }
 }
 
-/// Puts what a key `old` that holds a flag and is no longer used gives, where it stands, and what is told at the table's end.
+/// Puts what a key `old` that holds a flag and is no longer used gives, where it is there, and what is
+/// reported at the table's end.
 fn put_removed(
     alloc: Global,
     value: &mut Value<'_>,
@@ -132,7 +133,7 @@ fn put_flag(
     Ok(())
 }
 
-/// Puts what a table comes to of which more is told than what its type reads.
+/// Puts what a table comes to of which more is reported than what its type reads.
 fn put_table(
     alloc: Global,
     group: &str,
@@ -196,7 +197,7 @@ fn put_valid(
     Ok(())
 }
 
-/// Puts what is valid of a policy, and all that is told. The policy has the number 3.
+/// Puts what is valid of a policy, and all that is reported. The policy has the number 3.
 fn put_told(
     alloc: Global,
     group: &str,
@@ -215,7 +216,7 @@ fn put_told(
     put
 }
 
-/// The words of a text, which stand at 0, 1 and so on.
+/// The words of a text, which are at 0, 1 and so on.
 fn words_of(alloc: Global, text: &str) -> Result<SpannedList<&str>, AllocError> {
     let mut list = SpannedList::new(alloc);
     let mut start: usize = 0;
@@ -227,7 +228,7 @@ fn words_of(alloc: Global, text: &str) -> Result<SpannedList<&str>, AllocError> 
     Ok(list)
 }
 
-/// The words of a text that are left where equal ones are told; or the text is the message of a finding.
+/// The words of a text that are left where equal ones are reported; or the text is the message of a finding.
 fn words_left<'t>(
     alloc: Global,
     group: &str,
@@ -246,7 +247,7 @@ fn words_left<'t>(
     }
 }
 
-/// Puts all that is told of some words, and those that are left.
+/// Puts all that is reported of some words, and those that are left.
 fn put_left(alloc: Global, group: &str, text: &str, out: &mut AnswerText) {
     let mut files = Files::new(alloc);
     let mut found = Diagnostics::new(alloc);

@@ -1,4 +1,4 @@
-//! What was read, told or refused as one text: each field, or the faults with their places.
+//! What was read, reported or refused as one text: each field, or the faults with their places.
 use deny_text::{Span, Spanned, Texts};
 use diag_core::{Label, LabelStyle, Severity};
 use policy_core::{
@@ -21,7 +21,7 @@ pub fn put_spans(out: &mut AnswerText, spans: &[Span]) {
     }
 }
 
-/// Puts a value and where it stands.
+/// Puts a value and where it is there.
 pub fn put_at<T: Display>(out: &mut AnswerText, item: &Spanned<T>) {
     write!(out, "{} at ", item.value);
     put_span(out, item.span);

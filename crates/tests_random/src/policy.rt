@@ -22,7 +22,7 @@ fn put_exception(out: &mut AnswerText, numbers: &mut Numbers) {
     out.put("] }]\n");
 }
 
-/// Keys that stand beside the list, and now and then one that may not.
+/// Keys that are beside the list, and now and then one that may not.
 fn put_keys(out: &mut AnswerText, numbers: &mut Numbers) {
     if numbers.is_one_of(3) {
         put_exception(out, numbers);

@@ -10,7 +10,7 @@ const FOLDERS: [&str; 9] = [
     "text", "spdx", "diag", "toml", "graph", "policy", "gather", "check", "start",
 ];
 
-/// Compares what stands in a folder, and returns whether nothing differs.
+/// Compares what is in a folder, and returns whether nothing differs.
 fn compare(rt: &HostRuntime, folder: &str) -> bool {
     match folder {
         "text" => tests_text::compare(rt),

@@ -12,13 +12,13 @@ use tests_files::case::{Block, Case, CaseEntry, blocks_of};
 use tests_files::cases::{case_of, is_shared, number_of, wanted};
 use tests_files::told::{Tally, bytes_of, show, text_of};
 
-/// What is told of the cases of a file, and how many runs and answers were compared.
+/// What is reported of the cases of a file, and how many runs and answers were compared.
 #[derive(Drop)]
 struct Comparison<'f> {
     alloc: Global,
     file: &'f str,
     told: AnswerText,
-    /// How often something was told.
+    /// How often something was reported.
     times: u64,
     runs: u64,
     answers: u64,
@@ -42,7 +42,8 @@ fn is_first(case: &Case<'_>, entry: &CaseEntry) -> bool {
     }
 }
 
-/// Whether an entry may stand so: only files and values stand several times, and only files have a word and a text.
+/// Whether an entry may be so: only files and values are several times, and only files have a word and a
+/// text.
 fn is_right(case: &Case<'_>, entry: &CaseEntry) -> bool {
     let is_one = entry.word.as_str().is_empty() || entry.text.is_empty();
     match entry.key.as_str() {
@@ -81,7 +82,7 @@ fn seen_of(alloc: Global, setting: &Setting<'_>, ending: &Ending, key: &str) -> 
     seen
 }
 
-/// What is told of a long text: its beginning.
+/// What is reported of a long text: its beginning.
 fn beginning(text: &str) -> &str {
     text.get(..4000).unwrap_or(text)
 }
@@ -234,7 +235,7 @@ impl Comparison<'_> {
         }
     }
 
-    /// Counts the cases and the runs, and tells what is to be told.
+    /// Counts the cases and the runs, and tells what is to be reported.
     fn tell_all(self, told: &mut Tally, cases: u64) -> Result<(), AllocError> {
         told.count(self.file, cases, "cases")?;
         told.count(self.file, self.runs, "runs")?;

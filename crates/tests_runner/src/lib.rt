@@ -1,4 +1,4 @@
-//! Cases of the whole run of the gate, which stand in files: what a run is over, and what it comes to.
+//! Cases of the whole run of the gate, which are in files: what a run is over, and what it comes to.
 #![tactic(auto)]
 
 mod command;

@@ -315,7 +315,7 @@ fn put_report(alloc: Global, out: &mut AnswerText, report: &Report, key: &str, e
             }
         }
         "found" => out.put(found(&printed(alloc, report, LevelFilter::Info))),
-        // What stands before the findings.
+        // What is before the findings.
         "load" => {
             let printed = printed(alloc, report, LevelFilter::Warn);
             out.put(err.strip_suffix(found(&printed)).unwrap_or("no findings"));

@@ -50,7 +50,7 @@ pub fn words_of(alloc: Global, case: &Case<'_>) -> Result<Vec<String>, AllocErro
     Ok(words)
 }
 
-/// What stands behind a key, or else this.
+/// What is behind a key, or else this.
 pub fn word_or<'c>(case: &Case<'c>, key: &str, or: &'static str) -> &'c str {
     match case.entry(key) {
         Some(entry) => entry.word.as_str(),
@@ -66,7 +66,7 @@ fn number_or(case: &Case<'_>, key: &str, or: u64) -> Option<u64> {
     }
 }
 
-/// Lets calls of a tree fail, which stand with blanks between.
+/// Lets calls of a tree fail, which are with blanks between.
 fn fail_calls(tree: &mut MemTree, calls: &str) -> Option<()> {
     for call in calls.split(' ') {
         match number(call) {

@@ -5,7 +5,7 @@ use spdx_core::{ExprError, ExprNode, Expression, ParseMode, Table};
 use std::alloc::{AllocError, Global};
 use tests_files::AnswerText;
 
-/// What is made of an expression; behind a bar stands what was found of its terms.
+/// What is made of an expression; behind a bar is what was found of its terms.
 pub fn put(alloc: Global, out: &mut AnswerText, group: &str, text: &str) {
     let (text, hits) = pair_of(text);
     match read(alloc, group, text) {
@@ -55,7 +55,7 @@ fn put_read(
     Ok(())
 }
 
-/// How many terms and nodes there are, and where the last term stands.
+/// How many terms and nodes there are, and where the last term is.
 fn put_size(out: &mut AnswerText, read: &Expression) {
     let terms = read.requirements().len();
     let nodes = read.nodes().len();

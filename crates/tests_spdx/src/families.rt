@@ -1,4 +1,4 @@
-//! Where licence families stand in lists of licences.
+//! Where licence families are in lists of licences.
 use crate::terms::pair_of;
 use spdx_core::{Expression, Family, ParseMode, Table};
 use spdx_terms::families::FamilyIndex;
@@ -39,7 +39,7 @@ fn put_places(out: &mut AnswerText, places: &[usize]) {
     }
 }
 
-/// The places at which the family of a licence stands among some licences.
+/// The places at which the family of a licence is among some licences.
 pub fn put(alloc: Global, out: &mut AnswerText, text: &str) {
     let (names, name) = pair_of(text);
     match (index_of(alloc, names), family_of(alloc, name)) {

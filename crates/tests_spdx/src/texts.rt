@@ -70,7 +70,7 @@ pub fn put_found(
     Ok(())
 }
 
-/// A text with that of a file in place of the file's name, which stands in braces.
+/// A text with that of a file in place of the file's name, which is in braces.
 fn filled(alloc: Global, files: &RowTexts, text: &str) -> Result<String, AllocError> {
     let (before, rest) = text.split_once('{').unwrap_or((text, ""));
     let (name, behind) = rest.split_once('}').unwrap_or((rest, ""));

@@ -1,18 +1,19 @@
-//! A process that is made up: its words as bytes, and its folder, or why that is not told.
+//! A process that is made up: its words as bytes, and its folder, or why that is not reported.
 use std::env::{Env, FillError};
 use std::io;
 use std::io::ErrorKind;
 use tests_files::CaseEntry;
 use tests_text::system::{fill, kind_named};
 
-/// The words of some entries by the key `word`, and a folder, or the name of the error that it is told with.
+/// The words of some entries by the key `word`, and a folder, or the name of the error that it is reported
+/// with.
 #[derive(Clone, Copy)]
 pub struct Process<'c> {
     pub entries: &'c [CaseEntry],
     pub folder: &'c str,
 }
 
-/// The bytes of a word: the text below it, or else what stands behind its key.
+/// The bytes of a word: the text below it, or else what is behind its key.
 fn bytes_of(entry: &CaseEntry) -> &[u8] {
     if entry.text.is_empty() {
         entry.word.as_bytes()

@@ -1,5 +1,6 @@
-//! Texts of cases whose lines are calls, each with what it answers behind an arrow: `read a/x => "one"`. The calls
-//! are made in their order, and the same lines are told with what was seen. Paths alone have escapes.
+//! Texts of cases whose lines are calls, each with what it answers behind an arrow: `read a/x => "one"`. The
+//! calls are made in their order, and the same lines are printed with what was seen. Paths alone have
+//! escapes.
 use std::alloc::{AllocError, Global};
 use std::fmt::Display;
 use tests_files::cases::wanted;
@@ -20,7 +21,7 @@ pub struct CallWords<'l> {
 
 /// What calls are made to.
 pub trait Called {
-    /// Puts an arrow and what a call answers, or nothing where nothing is to be told.
+    /// Puts an arrow and what a call answers, or nothing where nothing is to be reported.
     fn put_answer(
         &mut self,
         out: &mut AnswerText,

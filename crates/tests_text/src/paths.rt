@@ -9,7 +9,7 @@ use deny_text::{HomeEnv, HomeError, PathBuf, Text};
 use std::alloc::{AllocError, Global};
 use tests_files::AnswerText;
 
-/// What stands before a bar and behind it, without blanks at their ends.
+/// What is before a bar and behind it, without blanks at their ends.
 pub fn pair_of(text: &str) -> (&str, &str) {
     let (one, other) = text.split_once('|').unwrap_or((text, ""));
     (one.trim(), other.trim())
@@ -48,7 +48,7 @@ fn sample(alloc: Global, length: usize) -> Result<Vec<u8>, AllocError> {
     Ok(bytes)
 }
 
-/// What stands behind a name in words `NAME=VALUE`.
+/// What is behind a name in words `NAME=VALUE`.
 fn value_of(alloc: Global, words: &str, name: &str) -> Result<Option<Text>, AllocError> {
     for word in words.split(' ') {
         let (key, value) = word.split_once('=').unwrap_or((word, ""));

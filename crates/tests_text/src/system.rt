@@ -59,9 +59,9 @@ impl PathState {
 /// A file of the text `hello`, or a folder of the entry `a`, and how the system's calls on them end.
 #[derive(Clone, Copy)]
 struct System {
-    /// What stands at the path, once links are followed.
+    /// What is at the path, once links are followed.
     there: PathState,
-    /// What stands at the entry, once links are followed, and what stands there itself.
+    /// What is at the entry, once links are followed, and what is there itself.
     entry: PathState,
     link: PathState,
     opening: Option<ErrorKind>,
@@ -189,7 +189,7 @@ impl Files for System {
     }
 }
 
-/// What stands at a path: a file of a length, a folder, a link, or the error that the system answers.
+/// What is at a path: a file of a length, a folder, a link, or the error that the system answers.
 fn state_of(words: &str) -> PathState {
     let (kind, length) = words.split_once(' ').unwrap_or((words, ""));
     match kind {
@@ -200,8 +200,8 @@ fn state_of(words: &str) -> PathState {
     }
 }
 
-/// A system with what a word says of it: `at`, `entry` or `link` before what stands there, `opening` or `reading` before the error
-/// that it ends with.
+/// A system with what a word says of it: `at`, `entry` or `link` before what is there, `opening` or `reading`
+/// before the error that it ends with.
 fn with_word(system: System, word: &str) -> System {
     let (name, value) = word.split_once(' ').unwrap_or((word, ""));
     let mut system = system;
@@ -216,7 +216,7 @@ fn with_word(system: System, word: &str) -> System {
     system
 }
 
-/// The system of some words, with a file at the path and at the entry where they do not say what stands there.
+/// The system of some words, with a file at the path and at the entry where they do not say what is there.
 fn system_of(words: &str) -> System {
     let mut system = System {
         there: PathState::File(5),

@@ -136,7 +136,7 @@ fn put_asked<T: Tree>(out: &mut AnswerText, alloc: Global, tree: &mut T, call: C
     }
 }
 
-/// Writes a file, and makes the folder that it stands in.
+/// Writes a file, and makes the folder that it is in.
 fn write_file(rt: &HostRuntime, path: &str, bytes: &[u8]) -> io::Result<()> {
     fs::create_dir_all(rt, parent(path).unwrap_or("."))?;
     fs::write(rt, path, bytes)
@@ -235,7 +235,7 @@ impl Called for MemSink {
     }
 }
 
-/// A sink with the room and the piece that stand behind the key `sink`.
+/// A sink with the room and the piece that are behind the key `sink`.
 fn sink_of(alloc: Global, case: &Case<'_>) -> Result<MemSink, AllocError> {
     let (room, piece) = case.word("sink").split_once(' ').unwrap_or(("", ""));
     MemSink::new(alloc, number_in(room), number_in(piece).max(1))

@@ -12,7 +12,7 @@ use run_request::{
 use std::alloc::{AllocError, Global};
 use tests_files::AnswerText;
 
-/// The words of a text, which stand with a blank between, behind the program's name.
+/// The words of a text, which are with a blank between, behind the program's name.
 fn words_of(alloc: Global, name: &str, text: &str) -> Result<Vec<String>, AllocError> {
     let mut words = Vec::new(alloc);
     for part in [name, text] {

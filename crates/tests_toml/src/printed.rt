@@ -73,7 +73,7 @@ pub fn put_inner(out: &mut AnswerText, inner: &ValueInner<'_>) {
 /// Lets a value go. Whoever owns one hands it on to here, since to let it go is dear to prove.
 pub fn let_go(_value: Value<'_>) {}
 
-/// A value with what stands in it down to a depth, and with its place.
+/// A value with what is in it down to a depth, and with its place.
 pub fn put_value(alloc: Global, out: &mut AnswerText, depth: u32, value: &mut Value<'_>) {
     let span = value.span();
     if depth == 0 {

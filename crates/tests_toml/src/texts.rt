@@ -1,4 +1,4 @@
-//! Whole texts of TOML: their values, what stands at a path, and the types that are read from them.
+//! Whole texts of TOML: their values, what is at a path, and the types that are read from them.
 use crate::printed::{DEPTH, let_go, names_of, put_error, put_inner, put_span, put_value};
 use crate::tokens;
 use crate::typed::{FIVE, put_at_a, put_table};
@@ -78,7 +78,7 @@ fn put_root(
     true
 }
 
-/// What stands at each path: the text of a string, and the place.
+/// What is at each path: the text of a string, and the place.
 fn put_paths(out: &mut AnswerText, root: &Value<'_>, paths: &str) {
     let mut is_behind = false;
     for path in paths.split_whitespace() {

@@ -1,4 +1,4 @@
-//! What stands at a place of a text: numbers, strings, keys, values, blanks, comments and commas.
+//! What is at a place of a text: numbers, strings, keys, values, blanks, comments and commas.
 ghost use Rattle.std.specs.Prelude.{◌≤◌, length};
 
 use crate::printed::{
@@ -17,7 +17,7 @@ use toml_subset::{
 };
 use toml_value::{Value, read_value};
 
-/// A text and the place behind its bar; the whole text and its start where no place stands there.
+/// A text and the place behind its bar; the whole text and its start where no place is there.
 fn placed(text: &str) -> (&str, usize)
     ensures { result.1 ≤ length result.0.now }
 {

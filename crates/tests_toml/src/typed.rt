@@ -203,7 +203,7 @@ fn put_list(alloc: Global, out: &mut AnswerText, value: &mut Value<'_>) {
     }
 }
 
-/// A string, what is told where it is taken again, and where it is to be a table.
+/// A string, what is reported where it is taken again, and where it is to be a table.
 fn put_string_twice(alloc: Global, out: &mut AnswerText, value: &mut Value<'_>) {
     for _ in 0..2u32 {
         out.put("[");

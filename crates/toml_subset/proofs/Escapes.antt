@@ -199,7 +199,7 @@ escape_goes_on text i (Closing next) inside border = absurd border
 escape_goes_on text i (Escape meaning next) inside border = (inside, border)
 escape_goes_on text i Broken inside border = tt
 
--- a byte that stands at a place and is ASCII ends where a character begins
+-- a byte that is at a place and is ASCII ends where a character begins
 pub behind_byte : (text : List ℕ) → IsUtf8 text → (i c : ℕ) → c < 128 → stands text i c ≡ true → (i < length text) × IsCharBoundary text (i + 1)
 behind_byte text utf8 i c low h =
     let here = byte_passes (λ b. eqb b c) text i h in

@@ -5,7 +5,7 @@ use Rattle.std.specs.List.{list_all, slice_split, onto_first}
 use Rattle.toml_subset.specs.Bytes.{underscore}
 use Rattle.toml_subset.specs.Numbers.{is_digit_in, are_digits_in, are_grouped}
 
--- each byte is a digit, or an underscore behind a digit, and the last is a digit; a digit may stand before
+-- each byte is a digit, or an underscore behind a digit, and the last is a digit; a digit may be before
 abbrev pub groups_after : Bool → ℕ → List ℕ → Bool
 groups_after digit base [] = digit
 groups_after digit base (c ∷ cs) =

@@ -21,7 +21,7 @@ use Rattle.toml_subset.proofs.Runs.{run_end_passes}
 bare_ascii : (c : ℕ) → is_bare c ≡ true → c < 128
 bare_ascii c h = grind (arith, nat_tests, letter_ascii, digit_ascii)
 
--- a bare key stands between borders of characters
+-- a bare key is between borders of characters
 pub bare_borders : (text : List ℕ) → IsUtf8 text → (i : ℕ) → passes_at is_bare text i ≡ true
     → (i < run_end is_bare text i) × IsCharBoundary text i × IsCharBoundary text (run_end is_bare text i)
 bare_borders text utf8 i begins =
@@ -68,7 +68,7 @@ key_refused text start before i fault inside are e =
     let step = key_by text start before i are.left inside are.room are.is in
     step.2 ∙ ap (λ x. then_read (onto_keys before) (then_read (keys_behind (read_keys step.0 text) text) x)) e
 
--- a part behind which no dot stands is the last
+-- a part behind which no dot comes is the last
 pub key_last : (text : List ℕ) (start : ℕ) (before : List Key) (i : ℕ) (key : Key) (end : ℕ) → i ≤ length text → AreRead text start before i
     → read_key text i ≡ Ok (key, end) → stands text (after_blanks text end) dot ≡ false → keys_at text start ≡ Ok (before ++ key ∷ [], end)
 key_last text start before i key end inside are e none =

@@ -46,7 +46,7 @@ prefix_take p (suc n) (c ∷ cs) =
       | false ↦ omega arith
     ]
 
--- a part that is no plain piece begins with an ASCII byte, or stands at the text's end
+-- a part that is no plain piece begins with an ASCII byte, or is at the text's end
 
 not_true : (b : Bool) → not b ≡ true → b ≡ false
 not_true true h = absurd (true≢false (sym h))
@@ -269,7 +269,7 @@ end_broken kind text i past =
     (and_no (has_escapes kind) (stands text i backslash) (stands_out (λ b. eqb b backslash) text i past))
     ∙ plain_step kind text i ∙ ap (plain_by kind text i) (slice_get_past text i past)
 
--- a plain byte stands in the text
+-- a plain byte is in the text
 pub plain_inside : (kind : Quoting) (text : List ℕ) (i : ℕ) → is_plain_part (part_at kind text i) ≡ true → i < length text
 plain_inside kind text i h =
     elim (nat_lt i (length text)) as (λ b. nat_lt i (length text) ≡ b → i < length text) [
@@ -290,6 +290,6 @@ run_extended kind text i j run h =
           ] refl;
     }
 
--- marks stand in the text
+-- marks are in the text
 pub marks_inside : (mark : ℕ) (text : List ℕ) (i : ℕ) → i ≤ length text → i + marks_in_row mark text i ≤ length text
 marks_inside mark text i inside = let least = prefix_len-le-length (λ c. eqb c mark) (drop i text) in let rest = length-drop i text in omega arith

@@ -1,4 +1,4 @@
--- A string with no escape stands in the text as it is meant.
+-- A string with no escape is in the text as it is meant.
 use Rattle.std.proofs.Common.{◌≡◌, ℕ, zero, suc, ◌+◌, ◌-◌, ◌≤◌, Bool, true, false, cond, eqb, ◌&&◌, ◌||◌, nat_le, List, [], ◌∷◌, ◌++◌, take, drop, Some, None, is_some, slice_get, slice_range, true≢false, refl, ap, sym, subst, ◌∙◌, eqb-true, arith}
 use Rattle.std.proofs.Math.Seq.{take-add}
 use Rattle.std.proofs.lemmas.List.{drop-drop}
@@ -89,7 +89,7 @@ none_of false b h = (refl, h)
 drop_next : (i : ℕ) (s : List ℕ) → drop 1 (drop i s) ≡ drop (i + 1) s
 drop_next i s = drop-drop 1 i s
 
--- pieces without an escape stand in the text from the first one's place up to the closing
+-- pieces without an escape are in the text from the first one's place up to the closing
 pub plain_slice : (kind : Quoting) (text : List ℕ) (i : ℕ) (ps : List StringPiece) (close next : ℕ) → ArePieces kind text i ps close next
     → list_any (λ (p : StringPiece). p.escape) ps ≡ false → (i ≤ close) × (pieces_text ps ≡ take (close - i) (drop i text))
 plain_slice kind text i [] close next is plain =

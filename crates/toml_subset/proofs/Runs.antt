@@ -1,4 +1,4 @@
--- What stands behind a run, and in it.
+-- What is behind a run, and in it.
 use Rattle.std.proofs.Common.{◌≡◌, ℕ, ◌+◌, ◌-◌, ◌<◌, ◌≤◌, Bool, true, false, List, length, get_or, drop, arith, length-drop, zero, suc, [], ◌∷◌, not, true≢false, sym}
 use Rattle.std.proofs.lemmas.List.{get_or-drop}
 use Rattle.std.proofs.lemmas.List.Sums.{prefix_len_stops, prefix_len_passes}
@@ -24,7 +24,7 @@ run_end_passes p text i k from before =
 pub begins_character : (c : ℕ) → goes_on c ≡ false → 128 ≤ c → 192 ≤ c
 begins_character c other high = grind (arith, nat_tests)
 
--- what stands at a place is the byte there
+-- what is at a place is the byte there
 pub byte_passes : (p : ℕ → Bool) (text : List ℕ) (i : ℕ) → passes_at p text i ≡ true → (i < length text) × (p (get_or text i 0) ≡ true)
 byte_passes p [] zero h = absurd (true≢false (sym h))
 byte_passes p [] (suc i) h = absurd (true≢false (sym h))

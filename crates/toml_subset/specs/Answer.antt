@@ -1,4 +1,4 @@
--- What reading answers: what stands at a place, or the first fault.
+-- What reading answers: what is at a place, or the first fault.
 use Rattle.std.specs.Prelude.{◌≡◌, ℕ, nat_lt, if◌then◌else◌, List, Option, Some, None, Result, Ok, Err, length, ⊤}
 use Rattle.toml_subset.specs.Places.{from_to, char_end}
 use Rattle.toml_subset.specs.declared.error.SyntaxError.{SyntaxError}
@@ -13,7 +13,7 @@ TomlReading A = Result A SyntaxError
 abbrev pub fault_at : SyntaxReason → ℕ → ℕ → SyntaxError
 fault_at reason i j = record { reason = reason; span = from_to i j }
 
--- Nothing can go on at a place: another character stands there, or the text ends.
+-- Nothing can go on at a place: another character is there, or the text ends.
 abbrev pub stop_error : List ℕ → ℕ → SyntaxError
 stop_error text i =
     if nat_lt i (length text) then fault_at Unexpected i (char_end text i) else fault_at UnexpectedEnd (length text) (length text)

@@ -1,4 +1,4 @@
--- The characters of the subset, by their bytes, and which may stand where (TOML 1.0: Spec, Comment, Keys).
+-- The characters of the subset, by their bytes, and which may be where (TOML 1.0: Spec, Comment, Keys).
 use Rattle.std.specs.Prelude.{ℕ, Bool, ◌||◌, ◌&&◌, ◌==◌, not, nat_le, nat_lt}
 
 abbrev pub tab : ℕ
@@ -66,7 +66,7 @@ is_blank c = (c == space) || (c == tab)
 abbrev pub is_control : ℕ → Bool
 is_control c = nat_lt c 32 || (c == 127)
 
--- what may stand in a comment or a string: all but the control characters other than tab
+-- what may be in a comment or a string: all but the control characters other than tab
 abbrev pub may_stand : ℕ → Bool
 may_stand c = not (is_control c) || (c == tab)
 

@@ -30,7 +30,7 @@ pub record Toml : Type 0 where
   pub content : TomlContent
   pub span : Span
 
--- how many tables and arrays stand between a value's outside and the deepest value in it, itself counted
+-- how many tables and arrays are between a value's outside and the deepest value in it, itself counted
 abbrev mutual
   pub depth_of : TomlContent → ℕ
   depth_of (string w) = 0
@@ -48,6 +48,6 @@ abbrev mutual
   entries_depth no_entry = 0
   entries_depth (entry key span content more) = max (depth_of content) (entries_depth more)
 
--- how deep values may stand below the root
+-- how deep values may be below the root
 abbrev pub depth_limit : ℕ
 depth_limit = 128

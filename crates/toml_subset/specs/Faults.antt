@@ -19,7 +19,7 @@ use Rattle.toml_subset.specs.declared.error.SyntaxReason.TheVariants.{Unexpected
 abbrev pub begins_number : List ℕ → ℕ → Bool
 begins_number text i = passes_at begins_run text i || is_special (run_at is_run text i)
 
--- a number run of a class stands here
+-- a number run of a class is here
 pub record IsRunOf (class : Class) (text : List ℕ) (span : Span) : Type 0 where
   pub begins : IsTrue (begins_number text span.start)
   pub ends : span.end ≡ run_end is_run text span.start
@@ -36,7 +36,7 @@ abbrev pub LineBegins : List ℕ → ℕ → Type 0
 LineBegins text zero = ⊤
 LineBegins text (suc i) = IsTrue (stands text i line_feed)
 
--- What stands on either side of a key's parts, which stand from a place up to another: `=` behind them, or a header's
+-- What stands on either side of a key's parts, which are from a place up to another: `=` behind them, or a header's
 -- brackets on both sides, of which the first is the line's first character behind blanks.
 abbrev pub IsKeyOf : Role → List ℕ → ℕ → ℕ → Type 0
 IsKeyOf of_pair text i next = IsTrue (stands text (after_blanks text next) equals)
@@ -49,7 +49,7 @@ IsKeyOf of_array_header text i next =
     × IsTrue (stands text (after_blanks text line + 1) open_bracket) × (i ≡ after_blanks text (after_blanks text line + 2))
     × IsTrue (stands text (after_blanks text next) close_bracket) × IsTrue (stands text (after_blanks text next + 1) close_bracket)
 
--- a part of a key stands here, without its quotes, these further parts behind it
+-- a part of a key is here, without its quotes, these further parts behind it
 pub record IsKeyPart (role : Role) (behind : List Key) (text : List ℕ) (span : Span) : Type 0 where
   pub before : List Key
   pub key : Key
@@ -69,12 +69,12 @@ IsTablePart text span =
     ((behind : List Key) × (0 < length behind) × IsKeyPart of_pair behind text span)
     ⊎ ((behind : List Key) × (IsKeyPart of_header behind text span ⊎ IsKeyPart of_array_header behind text span))
 
--- these pieces stand from a place of a string up to another
+-- these pieces are from a place of a string up to another
 abbrev pub ArePiecesTo : Quoting → List ℕ → ℕ → List StringPiece → ℕ → Type 0
 ArePiecesTo kind text i [] end = end ≡ i
 ArePiecesTo kind text i (p ∷ ps) end = (k : ℕ) × (part_at kind text i ≡ piece p k) × ArePiecesTo kind text k ps end
 
--- a string of a kind begins, and goes on up to a place where no part of it stands
+-- a string of a kind begins, and goes on up to a place where no part of it is there
 pub record BreaksOff (kind : Quoting) (text : List ℕ) (i : ℕ) : Type 0 where
   pub place : ℕ
   pub first : ℕ
@@ -101,12 +101,12 @@ escape_end text i =
     if stands text (i + 1) 117 then digits_end 4 text (i + 2)
     else (if stands text (i + 1) 85 then digits_end 8 text (i + 2) else char_end text (i + 1))
 
--- an opening bracket or brace stands here
+-- an opening bracket or brace is here
 abbrev pub IsOpening : List ℕ → Span → Type 0
 IsOpening text span =
     (IsTrue (stands text span.start open_bracket) ⊎ IsTrue (stands text span.start open_brace)) × (span.end ≡ span.start + 1)
 
--- what stands at a fault, by its reason
+-- what is at a fault, by its reason
 abbrev pub StandsThere : SyntaxReason → List ℕ → Span → Type 0
 StandsThere UnexpectedEnd text span = span ≡ from_to (length text) (length text)
 StandsThere Unexpected text span = (span.start < length text) × (span.end ≡ char_end text span.start)
@@ -123,7 +123,7 @@ StandsThere DuplicateKey text span = IsLastPart text span
 StandsThere RedefinedTable text span = IsTablePart text span
 StandsThere TooDeep text span = IsOpening text span ⊎ IsTablePart text span
 
--- a fault's span lies in the text from a place on, on character borders, and what its reason says stands there
+-- a fault's span lies in the text from a place on, on character borders, and what its reason says is there
 pub record IsSyntaxFault (text : List ℕ) (from : ℕ) (fault : SyntaxError) : Type 0 where
   pub begins : from ≤ fault.span.start
   pub ordered : fault.span.start ≤ fault.span.end
@@ -131,7 +131,8 @@ pub record IsSyntaxFault (text : List ℕ) (from : ℕ) (fault : SyntaxError) : 
   pub end_border : IsCharBoundary text fault.span.end
   pub there : StandsThere fault.reason text fault.span
 
--- The text has no value, and so have all its fronts of whole lines, each ended by LF, that end behind the span's start.
+-- The text has no value, and so have all its prefixes of whole lines, each ended by LF, that end behind the span's
+-- start.
 pub record IsFirstFault (text : List ℕ) (fault : SyntaxError) : Type 0 where
   pub is_fault : IsSyntaxFault text 0 fault
   pub outside : (value : Toml) → IsText text value → ⊥

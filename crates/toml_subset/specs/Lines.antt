@@ -15,7 +15,7 @@ pub data Statement : Type 0 where
   table_header : Span → List Key → Statement
   array_header : Span → List Key → Statement
 
--- a statement stands at a place, up to a further place on its last line
+-- a statement is at a place, up to a further place on its last line
 abbrev pub IsStatement : List ℕ → ℕ → Statement → ℕ → Type 0
 IsStatement text i blank_line next = next ≡ i
 IsStatement text i (pair keys span value) next = IsPair text i keys span value next

@@ -50,18 +50,18 @@ unsigned (c ∷ cs) = if is_sign c then cs else c ∷ cs
 abbrev pub is_negative : List ℕ → Bool
 is_negative = front_is (λ c. c == minus)
 
--- the decimal form of an integer, its sign apart: no zero stands before other digits
+-- the decimal form of an integer, its sign apart: no zero is before other digits
 abbrev pub is_whole : List ℕ → Bool
 is_whole s = are_grouped 10 s && ((length s == 1) || not (front_is (λ c. c == 48) s))
 
--- what stands before the point, and behind it
+-- what is before the point, and behind it
 abbrev pub whole_part : List ℕ → List ℕ
 whole_part = before_first is_point
 
 abbrev pub fraction : List ℕ → List ℕ
 fraction = after_first is_point
 
--- what stands before the `e`, and behind it
+-- what is before the `e`, and behind it
 abbrev pub before_e : List ℕ → List ℕ
 before_e = before_first is_e
 
@@ -96,7 +96,7 @@ abbrev pub is_unsupported : List ℕ → Bool
 is_unsupported run =
     begins_date run || is_special run || has_exponent (unsigned run) || has_long_fraction (unsigned run)
 
--- the base that `0x`, `0o` or `0b` names, and ten where none stands
+-- the base that `0x`, `0o` or `0b` names, and ten where none is there
 abbrev pub base_of : List ℕ → ℕ
 base_of run =
     if starts_with nat_eq run (codes "0x") then 16

@@ -1,4 +1,4 @@
--- Places in a text, counted in bytes from 0: what stands at one, and how far a run goes from it
+-- Places in a text, counted in bytes from 0: what is at one, and how far a run goes from it
 -- (TOML 1.0: Spec on white space and line ends, Comment).
 use Rattle.std.specs.Prelude.{ℕ, zero, suc, ◌+◌, Bool, false, not, ◌&&◌, ◌==◌, if◌then◌else◌, List, [], ◌∷◌, Option, Some, None, length, take, drop}
 use Rattle.std.specs.List.{prefix_len}
@@ -17,11 +17,11 @@ abbrev pub front_is : (ℕ → Bool) → List ℕ → Bool
 front_is p [] = false
 front_is p (c ∷ cs) = p c
 
--- whether a byte that passes stands at a place
+-- whether a byte that passes is at a place
 abbrev pub passes_at : (ℕ → Bool) → List ℕ → ℕ → Bool
 passes_at p text i = front_is p (drop i text)
 
--- whether this byte stands at a place
+-- whether this byte is at a place
 abbrev pub stands : List ℕ → ℕ → ℕ → Bool
 stands text i c = passes_at (λ b. b == c) text i
 
@@ -47,24 +47,24 @@ run_at p text i = take (prefix_len p (drop i text)) (drop i text)
 abbrev pub after_blanks : List ℕ → ℕ → ℕ
 after_blanks = run_end is_blank
 
--- the place behind a line end, where one stands: LF, or CR LF
+-- the place behind a line end, where one is there: LF, or CR LF
 abbrev pub behind_line_end : List ℕ → ℕ → Option ℕ
 behind_line_end text i =
     if stands text i line_feed then Some (i + 1)
     else (if stands text i carriage_return && stands text (i + 1) line_feed then Some (i + 2) else None)
 
--- A comment runs from `#` over all that may stand in it. Where none begins, the place itself.
+-- A comment runs from `#` over all that may be in it. Where none begins, the place itself.
 abbrev pub after_comment : List ℕ → ℕ → ℕ
 after_comment text i = if stands text i hash then run_end may_stand text (i + 1) else i
 
--- The place where the next line begins, if blanks and a comment alone stand before this line's end. The text may
+-- The place where the next line begins, if blanks and a comment alone are before this line's end. The text may
 -- end in place of a line.
 abbrev pub next_line : List ℕ → ℕ → Option ℕ
 next_line text i =
     let j = after_comment text (after_blanks text i) in
     if j == length text then Some j else behind_line_end text j
 
--- blanks and a comment, as they may stand before a line's end between the tokens of an array
+-- blanks and a comment, as they may be before a line's end between the tokens of an array
 abbrev pub after_blanks_and_comment : List ℕ → ℕ → ℕ
 after_blanks_and_comment text i = after_comment text (after_blanks text i)
 
@@ -77,7 +77,7 @@ lines_over over (suc n) text i = elim (behind_line_end text (over text i)) [ Som
 abbrev pub after_lines_of : (List ℕ → ℕ → ℕ) → List ℕ → ℕ → ℕ
 after_lines_of over text = lines_over over (length text) text
 
--- the place behind white space, line ends and comments, as they may stand between the tokens of an array
+-- the place behind white space, line ends and comments, as they may be between the tokens of an array
 abbrev pub after_space : List ℕ → ℕ → ℕ
 after_space text i = after_blanks_and_comment text (after_lines_of after_blanks_and_comment text i)
 
@@ -85,7 +85,7 @@ after_space text i = after_blanks_and_comment text (after_lines_of after_blanks_
 abbrev pub in_comment : List ℕ → ℕ → Bool
 in_comment text i = stands text (after_blanks text (after_lines_of after_blanks_and_comment text i)) hash
 
--- the place behind white space and line ends, as they may stand behind a backslash at a line's end
+-- the place behind white space and line ends, as they may be behind a backslash at a line's end
 abbrev pub after_white : List ℕ → ℕ → ℕ
 after_white text i = after_blanks text (after_lines_of after_blanks text i)
 

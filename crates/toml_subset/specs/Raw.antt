@@ -1,4 +1,4 @@
--- Values as they are written (TOML 1.0: Boolean, Array, Inline Table). An inline table's entries are kept as they stand,
+-- Values as they are written (TOML 1.0: Boolean, Array, Inline Table). An inline table's entries are kept as they are,
 -- dotted keys and all.
 use Rattle.std.specs.Prelude.{◌≡◌, ℕ, ◌+◌, Bool, true, false, ◌⊎◌, IsTrue, List, ℤ, length, take, drop, codes}
 use Rattle.deny_text.specs.declared.span.Span.{Span}
@@ -29,7 +29,7 @@ mutual
     raw_empty : RawEntries
     raw_entry : List Key → Span → Raw → RawEntries → RawEntries
 
--- a number of a class stands at a place
+-- a number of a class is at a place
 pub record IsNumber (text : List ℕ) (i : ℕ) (class : Class) (span : Span) (next : ℕ) : Type 0 where
   pub begins : IsTrue (passes_at begins_run text i)
   pub ends : next ≡ run_end is_run text i
@@ -40,21 +40,21 @@ abbrev pub word_of : Bool → List ℕ
 word_of true = codes "true"
 word_of false = codes "false"
 
--- `true` or `false` stands at a place
+-- `true` or `false` is at a place
 pub record IsWord (text : List ℕ) (i : ℕ) (b : Bool) (span : Span) (next : ℕ) : Type 0 where
   pub ends : next ≡ i + length (word_of b)
   pub is : take (length (word_of b)) (drop i text) ≡ word_of b
   pub spans : span ≡ from_to i next
 
--- A key, `=` and what `Stands` says of the value's place and the place behind it. Blanks may stand around the `=`.
+-- A key, `=` and what `Stands` says of the value's place and the place behind it. Blanks may be around the `=`.
 abbrev pub IsPairOf : (ℕ → ℕ → Type 0) → List ℕ → ℕ → List Key → ℕ → Type 0
 IsPairOf Stands text i keys next =
     (k : ℕ) × AreKeys text i keys k × IsTrue (stands text (after_blanks text k) equals)
     × Stands (after_blanks text (after_blanks text k + 1)) next
 
--- A value stands at a place, with its span, up to a further place. Between the tokens of an array there may be line ends
--- and comments, and a comma may stand behind its last item. The tokens of an inline table stand on one line, and no
--- comma stands behind its last entry.
+-- A value is at a place, with its span, up to a further place. Between the tokens of an array there may be line ends
+-- and comments, and a comma may be behind its last item. The tokens of an inline table stand on one line, and no
+-- comma is behind its last entry.
 abbrev mutual
   pub IsValue : List ℕ → ℕ → Span → Raw → ℕ → Type 0
   IsValue text i span (raw_text w) next = (kind : Quoting) × IsString text i kind w span next
@@ -95,6 +95,6 @@ abbrev mutual
       × ((k : ℕ) × IsPairOf (λ a b. IsValue text a span value b) text (after_blanks text (i + 1)) keys k
       × AreEntriesBehind text (after_blanks text k) more next)
 
--- a key, `=` and a value, as they stand in an inline table and on a line of their own
+-- a key, `=` and a value, as they are in an inline table and on a line of their own
 abbrev pub IsPair : List ℕ → ℕ → List Key → Span → Raw → ℕ → Type 0
 IsPair text i keys span value next = IsPairOf (λ a b. IsValue text a span value b) text i keys next

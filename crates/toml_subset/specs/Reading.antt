@@ -29,7 +29,7 @@ number_read text i number_range = Err (fault_at NumberRange i (run_end is_run te
 number_read text i (integer z) = Ok (from_to i (run_end is_run text i), data.integer z, run_end is_run text i)
 number_read text i (decimal z) = Ok (from_to i (run_end is_run text i), data.decimal z, run_end is_run text i)
 
--- how many bytes of a word stand at the front of another text
+-- how many bytes of a word are at the front of another text
 abbrev pub shared_len : List ℕ → List ℕ → ℕ
 shared_len [] s = 0
 shared_len (c ∷ cs) [] = 0
@@ -49,11 +49,11 @@ read_scalar text i =
     else (if stands text i 116 then word_read true text i
     else (if stands text i 102 then word_read false text i else Err (stop_error text i))))
 
--- whether the space from a place on in an array ends in a comment, at a character that may not stand there
+-- whether the space from a place on in an array ends in a comment, at a character that may not are there
 abbrev pub cut_in_comment : List ℕ → ℕ → Bool
 cut_in_comment text i = in_comment text i && nat_lt (after_space text i) (length text)
 
--- what is wrong behind that space, where no token may stand there
+-- what is wrong behind that space, where no token may be there
 abbrev pub space_fault : List ℕ → ℕ → SyntaxError
 space_fault text i =
     let j = after_space text i in if cut_in_comment text i then fault_at ControlCharacter j (j + 1) else stop_error text j
@@ -141,7 +141,7 @@ call_bound text = suc (suc (suc (length text + length text)))
 abbrev pub value_at : List ℕ → ℕ → ℕ → TomlReading ValueFound
 value_at text = read_value (call_bound text) text
 
--- the table that a header opened, and how many tables and arrays stand around its entries
+-- the table that a header opened, and how many tables and arrays are around its entries
 abbrev pub section_of : List Key → Branches → ℕ → Inside
 section_of [] branches above = (branches, above)
 section_of (key ∷ more) branches above =

@@ -29,7 +29,7 @@ escape_fault kind text i =
     else (if stands text (i + 1) 85 then scalar_fault 8 text i
     else (if escape_is_cut kind text i then stop_error text (length text) else fault_at InvalidEscape i (char_end text (i + 1))))
 
--- What breaks a string at a place: a sixth mark in a row, an escape, a character that may not stand in it, or the text's
+-- What breaks a string at a place: a sixth mark in a row, an escape, a character that may not are in it, or the text's
 -- end.
 abbrev pub part_fault : Quoting → List ℕ → ℕ → SyntaxError
 part_fault kind text i =

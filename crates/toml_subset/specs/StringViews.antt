@@ -31,7 +31,7 @@ part_of (Closing next) = closing next
 part_of (Escape meaning next) = escaped_piece (meaning_of meaning) next
 part_of Broken = broken
 
--- whether a piece stands there that is no escape
+-- whether a piece is there that is no escape
 abbrev pub is_plain_part : StringPart → Bool
 is_plain_part (piece p next) = not p.escape
 is_plain_part (closing next) = false
@@ -54,11 +54,11 @@ ClosesWithin text (Closing next) = next ≤ length text
 ClosesWithin text (Escape meaning next) = ⊥
 ClosesWithin text Broken = ⊤
 
--- whether a byte that is no mark and no backslash may stand at a place
+-- whether a byte that is no mark and no backslash may be at a place
 abbrev pub kept_at : Bool → List ℕ → ℕ → Bool
 kept_at long text i = elim (slice_get text i) [ Some c ↦ may_stand c || (long && is_some (behind_line_end text i)) | None ↦ false ]
 
--- plain bytes stand from a place up to another
+-- plain bytes are from a place up to another
 pub record IsPlainRun (kind : Quoting) (text : List ℕ) (i j : ℕ) : Type 0 where
   pub ordered : i ≤ j
   pub plain : (k : ℕ) → i ≤ k → k < j → is_plain_part (part_at kind text k) ≡ true

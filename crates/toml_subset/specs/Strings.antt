@@ -40,13 +40,13 @@ pub record StringPiece : Type 0 where
   pub means : List ℕ
   pub escape : Bool
 
--- what stands at a place in a string: a piece up to a further place, the closing up to one, or nothing that may
+-- what is at a place in a string: a piece up to a further place, the closing up to one, or nothing that may
 pub data StringPart : Type 0 where
   piece : StringPiece → ℕ → StringPart
   closing : ℕ → StringPart
   broken : StringPart
 
--- how many of these bytes stand here in a row
+-- how many of these bytes are here in a row
 abbrev pub marks_in_row : ℕ → List ℕ → ℕ → ℕ
 marks_in_row mark text i = prefix_len (λ c. c == mark) (drop i text)
 
@@ -55,7 +55,7 @@ abbrev pub opening_of : Quoting → Quoting → ℕ → List ℕ → ℕ → Quo
 opening_of short long mark text i =
     if nat_le 3 (marks_in_row mark text i) then (long, unwrap_or (behind_line_end text (i + 3)) (i + 3)) else (short, i + 1)
 
--- the kind of the string that begins at a place, and where its first piece stands
+-- the kind of the string that begins at a place, and where its first piece is
 abbrev pub opening : List ℕ → ℕ → Option (Quoting × ℕ)
 opening text i =
     if stands text i quote then Some (opening_of basic long_basic quote text i)
@@ -115,7 +115,7 @@ mark_at kind text i =
     else (if nat_le marks 5 then plain_piece (mark_of kind ∷ []) (i + 1) else broken))
     else closing (i + 1)
 
--- A byte stands for itself unless it is a control character. A line end may stand in a string over lines, and is kept
+-- A byte stands for itself unless it is a control character. A line end may be in a string over lines, and is kept
 -- as it is written.
 abbrev pub plain_at : Quoting → List ℕ → ℕ → StringPart
 plain_at kind text i =
@@ -124,13 +124,13 @@ plain_at kind text i =
       | None ↦ broken
     ]
 
--- what stands at a place in a string
+-- what is at a place in a string
 abbrev pub part_at : Quoting → List ℕ → ℕ → StringPart
 part_at kind text i =
     if stands text i (mark_of kind) then mark_at kind text i
     else (if has_escapes kind && stands text i backslash then escape_at kind text i else plain_at kind text i)
 
--- these pieces stand from a place up to the closing, which ends before a further place
+-- these pieces are from a place up to the closing, which ends before a further place
 abbrev pub ArePieces : Quoting → List ℕ → ℕ → List StringPiece → ℕ → ℕ → Type 0
 ArePieces kind text i [] close next = (part_at kind text i ≡ closing next) × (close ≡ i)
 ArePieces kind text i (p ∷ ps) close next = (k : ℕ) × (part_at kind text i ≡ piece p k) × ArePieces kind text k ps close next
@@ -143,7 +143,7 @@ pieces_text (p ∷ ps) = p.means ++ pieces_text ps
 abbrev pub written_of : List StringPiece → WrittenString
 written_of ps = record { text = pieces_text ps; escaped = list_any (λ (p : StringPiece). p.escape) ps }
 
--- A string of a kind stands at a place: its opening, its pieces and its closing. Its span lies between the delimiters.
+-- A string of a kind is at a place: its opening, its pieces and its closing. Its span lies between the delimiters.
 pub record IsString (text : List ℕ) (i : ℕ) (kind : Quoting) (w : WrittenString) (span : Span) (next : ℕ) : Type 0 where
   pub pieces : List StringPiece
   pub first : ℕ

@@ -75,7 +75,7 @@ open_table_fault key branches above =
 abbrev pub header_fault : List Key → Branches → Option SyntaxError
 header_fault keys root = way_fault inside_any open_table_fault keys root 0
 
--- the table of an array header is a further one of its array, or the first of a new one, which stands around it
+-- the table of an array header is a further one of its array, or the first of a new one, which is around it
 abbrev pub appended_fault : Key → Node → Option SyntaxError
 appended_fault key (closed span content) = fault_at_key RedefinedTable key
 appended_fault key (growing span mark branches) = fault_at_key RedefinedTable key

@@ -91,7 +91,7 @@ through_dotted edit (growing span implicit branches) = None
 through_dotted edit (growing span dotted branches) = option_map (growing span dotted) (edit branches)
 through_dotted edit (tables span bodies) = None
 
--- An edit at the last of some keys. Tables that are absent on the way are made with a mark, and stand at the key part
+-- An edit at the last of some keys. Tables that are absent on the way are made with a mark, and are at the key part
 -- that made them; `through` says which tables the way may go through.
 abbrev pub edit_along : Mark → ((Branches → Option Branches) → Node → Option Node) → (Key → Branches → Option Branches) → List Key → Branches → Option Branches
 edit_along mark through edit [] branches = None

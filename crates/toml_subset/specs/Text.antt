@@ -1,4 +1,4 @@
--- Which text stands for which value. A text is read as lines, these make a table, and no value in it stands deeper than
+-- Which text stands for which value. A text is read as lines, these make a table, and no value in it is deeper than
 -- the limit. The root is the whole text.
 use Rattle.std.specs.Prelude.{◌≡◌, ℕ, ◌+◌, ◌≤◌, List, Some, length}
 use Rattle.deny_text.specs.declared.span.Span.{Span}
@@ -16,8 +16,8 @@ pub record IsText (text : List ℕ) (value : Toml) : Type 0 where
   pub shallow : entries_depth (entries_of document.root) ≤ depth_limit
   pub is : value ≡ record { content = table (entries_of document.root); span = from_to 0 (length text) }
 
--- A value stands at a place, up to a further one: it keeps the table rules, and with so many tables and arrays around it,
--- no value in it stands deeper than the limit.
+-- A value is at a place, up to a further one: it keeps the table rules, and with so many tables and arrays around it,
+-- no value in it is deeper than the limit.
 pub record StandsAs (above : ℕ) (text : List ℕ) (i : ℕ) (span : Span) (content : TomlContent) (next : ℕ) : Type 0 where
   pub raw : Raw
   pub is : IsValue text i span raw next

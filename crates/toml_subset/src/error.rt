@@ -28,7 +28,7 @@ pub enum SyntaxReason {
     TooDeep,
 }
 
-/// A fault and where it stands. The span lies in the text, on character borders.
+/// A fault and where it is there. The span lies in the text, on character borders.
 #[derive(Clone, Copy, Debug, PartialEq, Eq)]
 pub struct SyntaxError {
     pub reason: SyntaxReason,

@@ -16,7 +16,7 @@ pub fn fault_at(reason: SyntaxReason, start: usize, end: usize) -> SyntaxError
     }
 }
 
-/// Nothing can go on at a place: another character stands there, or the text ends.
+/// Nothing can go on at a place: another character is there, or the text ends.
 pub fn stuck(text: &str, place: usize) -> SyntaxError
     ensures { result ≡ stuck_at text.now place }
 {
@@ -27,7 +27,7 @@ pub fn stuck(text: &str, place: usize) -> SyntaxError
     }
 }
 
-/// A control character stands at a place where none may.
+/// A control character is at a place where none may.
 pub fn control_character(text: &str, place: usize) -> SyntaxError
     requires { place < length text.now }
     ensures { result ≡ fault_from SyntaxReason.ControlCharacter place (place + 1) }

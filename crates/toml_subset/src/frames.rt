@@ -1,5 +1,5 @@
-//! Values of the subset of TOML without what stands in them: scalars, where arrays and inline tables go on,
-//! what reading owes of those that stand open, and which tables headers open.
+//! Values of the subset of TOML without what is in them: scalars, where arrays and inline tables go on,
+//! what reading owes of those that are open, and which tables headers open.
 
 mod between;
 pub mod laws;

@@ -19,7 +19,7 @@ pub fn reading_answers_where_a_value_stands()
     ensures stands { (text : List ℕ) (value : Toml) → read_text text ≡ Ok value → IsText text value }
 {}
 
-/// Reading a value answers exactly where one stands that keeps the table rules and is not too deep.
+/// Reading a value answers exactly where one is that keeps the table rules and is not too deep.
 pub fn reading_a_value_answers_where_one_stands()
     ensures answers { (above : ℕ) (text : List ℕ) (i : ℕ) (span : Span) (content : TomlContent) (next : ℕ)
         → StandsAs above text i span content next → value_at text above i ≡ Ok (span, content, next) }

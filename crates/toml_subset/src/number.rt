@@ -55,7 +55,7 @@ pub fn is_digit_in(base: u8, byte: u8) -> bool
     (is_digit(byte) || is_letter(byte)) && digit_value(byte) < base
 }
 
-/// Whether digits stand here, with single underscores between them.
+/// Whether digits are here, with single underscores between them.
 fn are_grouped(base: u8, run: &[u8]) -> bool
     ensures { result ≡ grouped base run.now }
 {
@@ -72,7 +72,7 @@ fn are_grouped(base: u8, run: &[u8]) -> bool
     behind_digit
 }
 
-/// Whether digits alone stand here.
+/// Whether digits alone are here.
 pub fn are_digits(run: &[u8]) -> bool
     ensures { result ≡ digits run.now }
 {
@@ -135,14 +135,14 @@ pub fn is_whole(run: &[u8]) -> bool
     are_grouped(10, run) && (run.len() == 1 || run[0] != b'0')
 }
 
-/// What stands before the point.
+/// What is before the point.
 fn whole_part(run: &[u8]) -> &[u8]
     ensures { result.now ≡ whole_of run.now }
 {
     run.split_at(run_end(run, 0, RunKind::Whole)).0
 }
 
-/// What stands behind the point.
+/// What is behind the point.
 fn fraction(run: &[u8]) -> &[u8]
     ensures { result.now ≡ fraction_of run.now }
 {
@@ -161,7 +161,7 @@ fn exponent_part(run: &[u8]) -> &[u8]
     behind(run, run_end(run, 0, RunKind::Mantissa))
 }
 
-/// What stands behind a place, which may be the end.
+/// What is behind a place, which may be the end.
 fn behind(run: &[u8], place: usize) -> &[u8]
     requires { place ≤ length run.now }
     ensures { result.now ≡ drop (place + 1) run.now }
@@ -192,7 +192,7 @@ fn has_long_fraction(run: &[u8]) -> bool
     is_whole(whole_part(run)) && are_grouped(10, part) && part.len() > 2
 }
 
-/// Whether so many digits stand at the front, and then a mark.
+/// Whether so many digits are at the front, and then a mark.
 fn has_digits_before(run: &[u8], digits: usize, mark: u8) -> bool
     ensures { result ≡ digits_before digits mark run.now }
 {
@@ -381,7 +381,7 @@ pub fn begins_number(text: &str, place: usize) -> bool
     starts_number(bytes, place) || is_special(&bytes[place..end])
 }
 
-/// Whether a digit or a sign stands at a place.
+/// Whether a digit or a sign is at a place.
 fn starts_number(text: &[u8], place: usize) -> bool
     ensures { result ≡ passes_at begins_run text.now place }
 {

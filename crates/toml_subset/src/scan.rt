@@ -13,7 +13,7 @@ ghost use Rattle.toml_subset.specs.Places.{after_white as white_end, char_end as
 
 use deny_text::character::goes_on;
 
-/// What may stand before a line's end in a gap.
+/// What may be before a line's end in a gap.
 #[derive(Clone, Copy)]
 pub enum Gap {
     /// Blanks.
@@ -31,7 +31,7 @@ pub enum RunKind {
     Bare,
     /// A number run.
     Number,
-    /// What may stand in a comment.
+    /// What may be in a comment.
     Comment,
     /// The bytes of a character behind its first.
     Character,
@@ -67,7 +67,7 @@ pub fn is_blank(byte: u8) -> bool
     byte == b' ' || byte == b'\t'
 }
 
-/// What may stand in a comment or a string: no control character but a tab.
+/// What may be in a comment or a string: no control character but a tab.
 pub fn may_stand(byte: u8) -> bool
     ensures { result ≡ may byte }
 {
@@ -108,7 +108,7 @@ pub fn is_sign(byte: u8) -> bool
     byte == b'+' || byte == b'-'
 }
 
-/// Whether this byte stands at a place, which may lie behind the text.
+/// Whether this byte is at a place, which may lie behind the text.
 pub fn stands(text: &[u8], place: usize, byte: u8) -> bool
     ensures { result ≡ stands_at text.now place byte }
 {
@@ -140,7 +140,7 @@ pub fn after_blanks(text: &[u8], place: usize) -> usize
     run_end(text, place, RunKind::Blanks)
 }
 
-/// The place behind the line end at a place, where one stands there.
+/// The place behind the line end at a place, where one is there.
 pub fn line_end(text: &[u8], place: usize) -> Option<usize>
     requires { place ≤ length text.now }
     ensures { result ≡ line_ends text.now place }
@@ -167,7 +167,7 @@ pub fn after_comment(text: &[u8], place: usize) -> usize
     }
 }
 
-/// The place of the next line, where nothing but blanks and a comment stands before this one's end.
+/// The place of the next line, where nothing but blanks and a comment is before this one's end.
 pub fn next_line(text: &[u8], place: usize) -> Option<usize>
     requires { place ≤ length text.now }
     ensures { result ≡ line_after text.now place }
@@ -181,7 +181,7 @@ pub fn next_line(text: &[u8], place: usize) -> Option<usize>
 }
 
 impl Gap {
-    /// The place behind what stands at a place before the line's end.
+    /// The place behind what is at a place before the line's end.
     fn over(self, text: &[u8], place: usize) -> usize
         requires { place ≤ length text.now }
         ensures end { result ≡ goes_over self text.now place }

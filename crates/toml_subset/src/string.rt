@@ -35,7 +35,7 @@ pub struct Key<'de> {
     pub span: Span,
 }
 
-/// A string that stands in the text as it is meant.
+/// A string that is in the text as it is meant.
 pub fn plain_string(text: &str) -> Str<'_>
     ensures { result ≡ record { text = text.now; escaped = false } }
 {

@@ -39,7 +39,7 @@ enum Quotes {
     LongLiteral,
 }
 
-/// What stands in a string where no plain byte does.
+/// What is in a string where no plain byte does.
 #[derive(Clone, Copy)]
 enum Special {
     /// The closing, up to a place.
@@ -79,7 +79,7 @@ impl Quotes {
     }
 }
 
-/// How many of these marks stand in a row at a place, six at most.
+/// How many of these marks are in a row at a place, six at most.
 fn marks_at(text: &[u8], place: usize, mark: u8) -> usize
     requires { place ≤ length text.now }
     ensures { result ≡ min (marks_from mark text.now place) 6 }
@@ -91,7 +91,7 @@ fn marks_at(text: &[u8], place: usize, mark: u8) -> usize
     marks
 }
 
-/// Whether three marks or more stand at a place.
+/// Whether three marks or more are at a place.
 pub fn has_three(text: &[u8], place: usize, mark: u8) -> bool
     requires { place ≤ length text.now }
     ensures { result ≡ nat_le 3 (marks_from mark text.now place) }
@@ -99,7 +99,7 @@ pub fn has_three(text: &[u8], place: usize, mark: u8) -> bool
     marks_at(text, place, mark) >= 3
 }
 
-/// The kind of the string that begins at a place, and where its first piece stands.
+/// The kind of the string that begins at a place, and where its first piece is.
 fn opening(text: &[u8], place: usize) -> Option<(Quotes, usize)>
     requires { place ≤ length text.now }
     ensures { option_map quoting_start result ≡ opening_at text.now place }
@@ -153,7 +153,7 @@ fn is_kept_mark(marks: usize) -> bool
     marks != 3 && marks <= 5
 }
 
-/// Whether a byte that is no mark and no backslash may stand at a place.
+/// Whether a byte that is no mark and no backslash may be at a place.
 fn stands_for_itself(text: &[u8], place: usize, long: bool) -> bool
     requires { place ≤ length text.now }
     ensures { result ≡ kept_at long text.now place }
@@ -191,7 +191,7 @@ fn scalar(digits: &[u8]) -> Option<char>
     }
 }
 
-/// How many hexadecimal digits stand at a place, so many at most.
+/// How many hexadecimal digits are at a place, so many at most.
 fn digits_at(text: &[u8], place: usize, most: usize) -> usize
     requires { place ≤ length text.now }
     ensures found { result ≡ prefix_len (digit_in 16) (take most (drop place text.now)) }
@@ -262,7 +262,7 @@ fn trimming_escape(text: &str, place: usize, quotes: Quotes) -> Special
     }
 }
 
-/// The escape whose backslash stands at a place.
+/// The escape whose backslash is at a place.
 fn escape_at(text: &str, place: usize, quotes: Quotes) -> Special
     requires { IsCharBoundary text.now (place + 1) }
     ensures part { part_of result ≡ escape_part (kind_of quotes) text.now place }
@@ -274,7 +274,7 @@ fn escape_at(text: &str, place: usize, quotes: Quotes) -> Special
     }
 }
 
-/// The escape whose backslash stands at a place before a byte.
+/// The escape whose backslash is at a place before a byte.
 fn escape_by(text: &str, place: usize, quotes: Quotes, letter: u8) -> Special
     requires border { IsCharBoundary text.now (place + 1) }
     requires there { slice_get text.now (place + 1) ≡ Some letter }
@@ -293,7 +293,7 @@ fn escape_by(text: &str, place: usize, quotes: Quotes, letter: u8) -> Special
     }
 }
 
-/// What stands at a place where no plain byte does.
+/// What is at a place where no plain byte does.
 fn special_at(text: &str, place: usize, quotes: Quotes) -> Special
     requires inside { place ≤ length text.now }
     requires special { plain (part_from (kind_of quotes) text.now place) ≡ false }
@@ -344,7 +344,7 @@ fn scalar_fault(text: &str, place: usize, digits: usize) -> SyntaxError
     }
 }
 
-/// What is wrong with the escape whose backslash stands at a place.
+/// What is wrong with the escape whose backslash is at a place.
 fn escape_fault(text: &str, place: usize, quotes: Quotes) -> SyntaxError
     requires { place < length text.now }
     ensures { result ≡ fault_of_escape (kind_of quotes) text.now place }
@@ -379,7 +379,7 @@ fn part_fault(text: &str, place: usize, quotes: Quotes) -> SyntaxError
     }
 }
 
-/// The string whose opening mark stands at a place, its span between the delimiters, and the place behind it.
+/// The string whose opening mark is at a place, its span between the delimiters, and the place behind it.
 pub fn read_string(
     alloc: Global,
     text: &str,

@@ -1,4 +1,4 @@
-//! The laws of the subset: the first fault of a text, and where its values and keys stand in it.
+//! The laws of the subset: the first fault of a text, and where its values and keys are in it.
 
 pub mod faults;
 pub mod places;

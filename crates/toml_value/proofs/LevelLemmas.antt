@@ -46,7 +46,7 @@ place_is key (k ∷ ks) (n ∷ ns) same =
       | false ↦ ap (option_map suc) rest ∙ up_first (found_at key (branches_of_lists ks ns))
     ]
 
--- what stands at a place
+-- what is at a place
 pub node_is : (key : Key) (keys : List Key) (nodes : List Node) (i : ℕ) (node d : Node) → found_at key (branches_of_lists keys nodes) ≡ Some (i, node) → node ≡ get_or nodes i d
 node_is key [] nodes i node d e = absurd (cc)
 node_is key (k ∷ ks) [] i node d e = absurd (cc)
@@ -163,7 +163,7 @@ pub into_is_old : (part : HeaderPart) (key : Key) (c : Cursor) (i : ℕ) (node :
     → into_part part key c ≡ into_old key c i o
 into_is_old part key c i node o there is = ap (into_found part key c) there ∙ ap (into_old key c i) (sym is)
 
--- a table that stands there was opened, or is refused
+-- a table that is there was opened, or is refused
 
 pub found_there : (key : Key) (table : Branches) (i : ℕ) → option_map (λ (f : ℕ × Node). f.0) (found_at key table) ≡ Some i → (node : Node) × (found_at key table ≡ Some (i, node))
 found_there key table i e =

@@ -164,7 +164,7 @@ pub outside_by : {B : Type 0} (view : B → Toml) (text : List ℕ) (error : Tom
 outside_by view text (Syntax fault) is = no_value text fault is
 outside_by view text Memory is = tt
 
--- what a fault that is told is of the text
+-- what a fault that is reported is of the text
 pub first_by : {B : Type 0} (view : B → Toml) (text : List ℕ) → IsUtf8 text → (error : TomlError) → AnswersToml {B = B} view (read_text text) (Err error)
     → OnSyntax {A = B} (Err error) (λ fault. IsFirstFault text fault)
 first_by view text utf8 (Syntax fault) is = first_fault text fault utf8 is

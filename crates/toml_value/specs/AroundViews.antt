@@ -1,4 +1,4 @@
--- What stands around a table that was taken out.
+-- What is around a table that was taken out.
 use Rattle.std.specs.Prelude.{Bool, true, map, Option, Some, None, Ok, Err}
 use Rattle.std.specs.List.{list_all}
 use Rattle.toml_subset.specs.frames.Levels as levels
@@ -16,11 +16,11 @@ abbrev pub around_view : Around → levels.Around
 around_view (Alone span mark) = levels.alone span (mark_of mark)
 around_view (Behind span bodies at) = levels.behind span (map (λ b. body_view b) bodies.items) at
 
--- a table that was taken out, and what it is where it stands
+-- a table that was taken out, and what it is where it is there
 abbrev pub opened_view : Around × BranchesOf → levels.Around × Branches
 opened_view found = (around_view found.0, branches_view found.1)
 
--- what a part of a header opens of what stands at its key, or the fault of a key that it may not open
+-- what a part of a header opens of what is at its key, or the fault of a key that it may not open
 abbrev pub or_redefined : {A : Type 0} → Key → Option A → TomlReading A
 or_redefined key (Some opened) = Ok opened
 or_redefined key None = Err (refusal RedefinedTable key)

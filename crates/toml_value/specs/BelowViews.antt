@@ -1,4 +1,4 @@
--- What stands below a key that has further parts.
+-- What is below a key that has further parts.
 use Rattle.std.specs.Prelude.{◌≡◌, ℕ, ◌<◌, true, false, is_some, Option, Some, None}
 use Rattle.deny_text.specs.declared.span.Span.{Span}
 use Rattle.toml_subset.specs.Tables.{Node, Branches, growing, dotted, unbranched, has_key, branches_with_key}
@@ -11,12 +11,12 @@ abbrev pub LeadsOn : Option (ℕ × Node) → Type 0
 LeadsOn None = Unit {0}
 LeadsOn (Some found) = is_some (parts_of_dotted found.1) ≡ true
 
--- The table below a key is taken out, and a hole is left at the key's place; where nothing stands, it is a new one.
+-- The table below a key is taken out, and a hole is left at the key's place; where nothing is there, it is a new one.
 abbrev pub IsTakenOut : Key → Branches → Branches → Option ℕ → Span → Branches → Type 0
 IsTakenOut key old new None span inner = (found_at key old ≡ None) × (new ≡ old) × (span ≡ key.span) × (inner ≡ unbranched)
 IsTakenOut key old new (Some i) span inner = (found_at key old ≡ Some (i, growing span dotted inner)) × (new ≡ branches_with_node i (hole key) old)
 
--- a node may stand at a place of a table, or at a further key of it
+-- a node may be at a place of a table, or at a further key of it
 abbrev pub HasRoom : Option ℕ → Key → Branches → Type 0
 HasRoom None key table = has_key key table ≡ false
 HasRoom (Some i) key table = i < size table

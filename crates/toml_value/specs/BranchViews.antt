@@ -45,11 +45,11 @@ body_items (x ∷ more) = data.item x.0 (data.table (tables.entries_of x.1)) (bo
 abbrev pub closed_node : Value → Node
 closed_node value = tables.closed (value_view value).span (value_view value).content
 
--- the value that stands at a key in the end
+-- the value that is at a key in the end
 abbrev pub node_value : Node → Toml
 node_value node = record { content = tables.content_of node; span = tables.span_of node }
 
--- one level of a tree, with what stands in it already seen
+-- one level of a tree, with what is in it already seen
 abbrev pub node_step : Node-F Node (Span × Branches) Branches → Node
 node_step (Node-F.Closed value) = closed_node value
 node_step (Node-F.Growing span mark branches) = tables.growing span (mark_of mark) branches

@@ -42,7 +42,7 @@ IsPending None keys c (Err fault) = ⊥
 IsPending (Some refusal) keys c (Ok pending) = ⊥
 IsPending (Some refusal) keys c (Err fault) = fault ≡ refusal
 
--- no value below the open table stands too deep
+-- no value below the open table is too deep
 abbrev pub IsShallowCursor : Cursor → Type 0
 IsShallowCursor c = c.above + entries_depth (entries_of c.here) ≤ depth_limit
 

@@ -1,4 +1,4 @@
--- What stands in a value at a key, at a place, and along a path of both.
+-- What is in a value at a key, at a place, and along a path of both.
 use Rattle.std.specs.Prelude.{ℕ, zero, suc, ◌^◌, Bool, true, false, ◌&&◌, ◌==◌, nat_lt, if◌then◌else◌, List, [], ◌∷◌, Option, Some, None, option_and_then}
 use Rattle.std.specs.List.{slice_split}
 use Rattle.std.specs.Str.{bytes_eq}
@@ -55,7 +55,7 @@ abbrev pub steps_to : List (List ℕ) → Toml → Option Toml
 steps_to [] value = Some value
 steps_to (part ∷ more) value = option_and_then (steps_to more) (step_to part value.content)
 
--- Each `/` of a path stands before a key or a place. The empty path leads to the value itself.
+-- Each `/` of a path is before a key or a place. The empty path leads to the value itself.
 abbrev pub pointed_at : List ℕ → Toml → Option Toml
 pointed_at [] value = Some value
 pointed_at (c ∷ cs) value = if c == 47 then steps_to (slice_split (λ b. b == 47) cs) value else None

@@ -17,7 +17,7 @@ abbrev pub entries_from_list : List (Key × Toml) → Entries
 entries_from_list [] = data.no_entry
 entries_from_list (x ∷ xs) = data.entry x.0 x.1.span x.1.content (entries_from_list xs)
 
--- one level of a value, with what stands in it already seen
+-- one level of a value, with what is in it already seen
 abbrev pub content_step : ValueInner-F TomlContent Entries Toml Items → TomlContent
 content_step (ValueInner-F.String s) = data.string s
 content_step (ValueInner-F.Integer z) = data.integer z

@@ -34,7 +34,7 @@ use toml_subset::{
 /// A document, and the place of the next line.
 type NextLine<'de> = Result<(Document<'de>, usize), TomlError>;
 
-/// Whether a line without a statement stands at a place behind its blanks.
+/// Whether a line without a statement is at a place behind its blanks.
 fn is_blank_line(text: &[u8], place: usize) -> bool
     requires { place ≤ length text.now }
     ensures { result ≡ blank_line_at text.now place }
@@ -230,7 +230,7 @@ fn behind_array_parts<'de>(
     )
 }
 
-/// A header or an array header, whose first bracket stands at a place.
+/// A header or an array header, whose first bracket is at a place.
 fn header_line<'de>(
     alloc: Global,
     text: &'de str,

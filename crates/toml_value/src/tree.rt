@@ -35,7 +35,7 @@ pub(crate) enum Mark {
     Dotted,
 }
 
-/// What stands at a key.
+/// What is at a key.
 #[derive(Drop)]
 #[cycle(tree)]
 pub(crate) enum Node<'de> {
@@ -55,7 +55,7 @@ pub(crate) struct Body<'de> {
     table: Branches<'de>,
 }
 
-/// The keys of a table that may grow, in the order in which they first appear, and what stands at each.
+/// The keys of a table that may grow, in the order in which they first appear, and what is at each.
 #[derive(Drop)]
 #[cycle(tree)]
 pub(crate) struct Branches<'de> {
@@ -81,7 +81,7 @@ impl<'de> Branches<'de> {
         self.keys.find(key.name.as_str())
     }
 
-    /// What stands at a key.
+    /// What is at a key.
     fn at(&self, key: &Key<'_>) -> Option<&Node<'de>>
         requires { IsTrue (is_whole self.now) }
         ensures value { option_map (λ node. node_view node.now) result
@@ -146,7 +146,7 @@ impl<'de> Branches<'de> {
         self.nodes.len()
     }
 
-    /// Takes out what stands at the place of a key. A hole is left there.
+    /// Takes out what is at the place of a key. A hole is left there.
     fn take(&mut self, place: usize, key: &Key<'_>) -> Node<'de>
         requires whole { IsTrue (is_whole self.old) }
         requires inside { place < length (out-Branches self.old).nodes.items }
@@ -185,7 +185,7 @@ fn of_parts<'de>(
     Ok(Branches { keys, nodes })
 }
 
-/// What stands at the place of a table that was taken out.
+/// What is at the place of a table that was taken out.
 fn hole<'de>(key: &Key<'_>) -> Node<'de>
     ensures view { node_view result ≡ hole_at key.now }
     ensures whole { IsTrue (is_whole_node result) }

@@ -60,7 +60,7 @@ impl<'de> Value<'de> {
     /// Lets the value go.
     pub(crate) fn let_go(self) {}
 
-    /// Where the value stands in the text.
+    /// Where the value is in the text.
     pub fn span(&self) -> Span
         ensures { result ≡ (value_view self.now).span }
     {

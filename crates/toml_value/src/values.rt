@@ -1,4 +1,4 @@
-//! Values, read with a stack of what stands open.
+//! Values, read with a stack of what is open.
 ghost use Rattle.std.specs.Prelude.{◌≡◌, ◌+◌, ◌-◌, ◌<◌, ◌≤◌, ◌||◌, ◌++◌, length, map, true, false, [], ◌∷◌};
 ghost use Rattle.std.specs.Prelude.{IfOk, OnOk};
 ghost use Rattle.toml_subset.specs.Answer.{AnswersToml};
@@ -26,7 +26,7 @@ use toml_subset::frames::{
 };
 use toml_subset::{Number, SyntaxReason, TomlError, fault_at, read_left, stands};
 
-/// Where an array or an inline table opens, and how many tables and arrays stand around it.
+/// Where an array or an inline table opens, and how many tables and arrays are around it.
 #[derive(Clone, Copy)]
 struct Opening {
     place: usize,
@@ -47,12 +47,12 @@ enum Frame<'de> {
 enum ValueStep<'de> {
     /// A value was read, up to a place.
     Read(Value<'de>, usize),
-    /// The value of what stands open stands at a place.
+    /// The value of what is open is at a place.
     Waits(Frame<'de>, usize),
 }
 
 impl Frame<'_> {
-    /// How many tables and arrays stand around its value.
+    /// How many tables and arrays are around its value.
     fn inside(&self) -> usize
         requires { IsShallowFrame (frame_view self.now) }
         ensures { result ≡ inside_of (frame_view self.now) }
@@ -126,7 +126,7 @@ fn closed_table(
     Ok(ValueStep::Read(Value::new(ValueInner::Table(entries), span), end))
 }
 
-/// An inline table whose next key stands at a place.
+/// An inline table whose next key is at a place.
 fn entry_turn<'de>(
     alloc: Global,
     text: &'de str,
@@ -173,7 +173,7 @@ fn table_turn<'de>(
     }
 }
 
-/// Whether a bracket or a brace stands at a place.
+/// Whether a bracket or a brace is at a place.
 fn opens(text: &[u8], place: usize) -> bool
     ensures { result ≡ (stands_at text.now place open_bracket || stands_at text.now place open_brace) }
 {
@@ -269,7 +269,7 @@ fn behind_pair<'de>(
     }
 }
 
-/// What stands open, its value read.
+/// What is open, its value read.
 fn next_turn<'de>(
     alloc: Global,
     text: &'de str,
@@ -290,7 +290,7 @@ fn next_turn<'de>(
     }
 }
 
-/// One more that stands open.
+/// One more that is open.
 fn open_further<'de>(waiting: &mut Vec<Frame<'de>>, frame: Frame<'de>) -> Result<(), AllocError>
     ensures { OnOk result (waiting.new.items ≡ waiting.old.items ++ frame.entry ∷ []) }
 {
@@ -298,7 +298,7 @@ fn open_further<'de>(waiting: &mut Vec<Frame<'de>>, frame: Frame<'de>) -> Result
     Ok(())
 }
 
-/// One more that stands open, whose value stands at a place.
+/// One more that is open, whose value is at a place.
 fn deeper<'de>(
     alloc: Global,
     text: &'de str,
@@ -318,7 +318,7 @@ fn deeper<'de>(
     first_turn(alloc, text, above, place)
 }
 
-/// The value at a place, read with a stack on which nothing stands open at first.
+/// The value at a place, read with a stack on which nothing is open at first.
 fn read_with<'de>(
     alloc: Global,
     text: &'de str,

@@ -1,4 +1,4 @@
--- What stands right in a folder, and that its names rise.
+-- What is right in a folder, and that its names rise.
 use Rattle.std.proofs.Common.{◌≡◌, ◌≢◌, ℕ, Bool, true, false, cond, T, List, [], ◌∷◌, ◌++◌, map, Option, Some, None, refl, sym, ap, ◌∙◌, subst, append_assoc, append-nil, ◌&&◌}
 use Rattle.std.specs.Ordering.{nat_cmp, is_lt, is_le, is_gt, ordering_reverse}
 use Rattle.std.specs.declared.cmp.Ordering.{Ordering}
@@ -30,7 +30,7 @@ pub entry_in-there : (above : Place) (name : List ℕ) (node : TreeNode) → ent
 entry_in-there [] name node = refl
 entry_in-there (at ∷ above) name node = rw (bytes_eq-itself at) (entry_in-there above name node)
 
--- only what stands right in a folder is an entry of it
+-- only what is right in a folder is an entry of it
 pub entry_in-is : (above place : Place) (node : TreeNode) (entry : ListedEntry) → entry_in above place node ≡ Some entry → place ≡ above ++ entry.0 ∷ []
 entry_in-is [] [] node entry e = cc
 entry_in-is [] (name ∷ []) node entry e = let same : (name, is_file node) ≡ entry = cc in ap (λ (l : ListedEntry). l.0 ∷ []) same
@@ -63,7 +63,7 @@ filter_map-step f done x rest =
 abbrev pub listing_of : Place → List (Place × StoredNode) → List ListedEntry
 listing_of above entries = filter_map (λ e. entry_in above e.0 e.1) (map entry_of entries)
 
--- what stands right in the folder comes from its least possible entry on, and before the least possible entry of the folder
+-- what is right in the folder comes from its least possible entry on, and before the least possible entry of the folder
 -- with the least name in it
 abbrev pub least_in : Place → Place
 least_in place = place ++ [] ∷ []

@@ -153,7 +153,7 @@ some_joined first then = some_made (made_joined first.made then.made)
 pub some-later : {told tells : Option Content} {before after : ℕ} {old new : List Call} → MadeSome told tells before after old new → before ≤ after
 some-later some = made-later some.made
 
--- they are those that stand at the end of the trace
+-- they are those that are at the end of the trace
 pub made_these : {told tells : Option Content} {before after : ℕ} {old new calls : List Call} → MadeSome told tells before after old new → new ≡ old ++ calls → Made told tells before after old new calls
 made_these {told} {tells} {before} {after} {old} {new} {calls} some is =
     made_as (append_cancel_left old some.calls calls (sym some.made.traced ∙ is)) some.made

@@ -1,4 +1,4 @@
--- Places: equal where they tie, and their fronts.
+-- Places: equal where they tie, and their prefixes.
 use Rattle.std.proofs.Common.{◌≡◌, ◌≢◌, ℕ, ◌+◌, ◌-◌, ◌<◌, ◌≤◌, ◌⊎◌, true, false, List, [], ◌∷◌, ◌++◌, length, take, get_or, refl, sym, ap, ◌∙◌, subst, inl, inr, arith}
 use Rattle.std.specs.Ordering.{nat_cmp, is_eq, eq_by_cmp, ordering_then}
 use Rattle.std.specs.declared.cmp.Ordering.{Ordering}
@@ -30,7 +30,7 @@ after_root (name ∷ names) = refl
 pub place_cmp-root : (name : List ℕ) (names : Place) → place_cmp (name ∷ names) [] ≡ Greater
 place_cmp-root name names = after_root (place_above (name ∷ names))
 
--- the folder above what stands right in a folder
+-- the folder above what is right in a folder
 pub above-child : (folder : Place) (name : List ℕ) → place_above (folder ++ name ∷ []) ≡ folder
 above-child folder name = take_at folder (name ∷ []) (length (folder ++ name ∷ []) - 1) (omega (arith, length-append folder (name ∷ [])))
 
@@ -52,11 +52,11 @@ names_cmp-longer [] name = refl
 names_cmp-longer (at ∷ folder) name =
     ap (λ o. ordering_then o (names_cmp (folder ++ name ∷ []) folder)) (tied_itself nat_list_cmp_total at) ∙ names_cmp-longer folder name
 
--- what stands in one folder is ordered by its names
+-- what is in one folder is ordered by its names
 pub place_cmp-siblings : (folder : Place) (a b : List ℕ) → place_cmp (folder ++ a ∷ []) (folder ++ b ∷ []) ≡ slice_cmp nat_cmp a b
 place_cmp-siblings folder a b = rw (above-child folder a, above-child folder b, names_tie folder) (names_cmp-siblings folder a b)
 
--- what stands in a folder within the folder comes after what stands in the folder
+-- what is in a folder within the folder comes after what is in the folder
 pub place_cmp-within : (folder : Place) (a b c : List ℕ) → place_cmp ((folder ++ a ∷ []) ++ b ∷ []) (folder ++ c ∷ []) ≡ Greater
 place_cmp-within folder a b c = rw (above-child (folder ++ a ∷ []) b, above-child folder c, names_cmp-longer folder a) refl
 
@@ -85,20 +85,20 @@ cases_place x y =
       | false ↦ λ e. inr (λ s. let own : eq_by_cmp place_cmp x x ≡ true = place_is_itself x in let other : eq_by_cmp place_cmp x x ≡ false = subst (λ (z : Place). eq_by_cmp place_cmp x z ≡ false) (sym s) e in cc)
     ] refl
 
--- a front of the place above is a front of the place
+-- a prefix of the place above is a prefix of the place
 pub IsFront-above : (front place : Place) → IsPlaceFront front (take (length place - 1) place) → IsPlaceFront front place
 IsFront-above front place is =
     let len : length front ≤ length place - 1 = omega (arith, ap length is, length-take (length front) (take (length place - 1) place), length-take (length place - 1) place) in
     sym (take-take (length front) (length place - 1) place len) ∙ is
 
--- a shorter front of the place is a front of the place above
+-- a shorter front of the place is a prefix of the place above
 pub IsFront-at_above : (front place : Place) → IsPlaceFront front place → length front < length place → IsPlaceFront front (take (length place - 1) place)
 IsFront-at_above front place is shorter = take-take (length front) (length place - 1) place (omega arith) ∙ is
 
 pub length-above : (place : Place) → length (take (length place - 1) place) ≡ length place - 1
 length-above place = length-take-le (length place - 1) place (omega arith)
 
--- the longest of the shorter fronts is the place above
+-- the longest of the shorter prefixes is the place above
 pub above_or_shorter : (front place : Place) → IsPlaceFront front place → length front < length place → (front ≡ take (length place - 1) place) ⊎ (length front < length place - 1)
 above_or_shorter front place is shorter =
     elim (cases_lt (length front) (length place - 1)) [

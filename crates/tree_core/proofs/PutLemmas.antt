@@ -44,11 +44,11 @@ IsRooted-root_alone =
 pub IsSound-none : IsSound []
 IsSound-none = record { ordered = tt; rooted = subst IsRooted (sym content_of-none) IsRooted-root_alone }
 
--- what was replaced or added at a place is not seen at its shorter fronts
+-- what was replaced or added at a place is not seen at its shorter prefixes
 shorter_apart : (front place : Place) → length front < length place → front ≢ place
 shorter_apart front place shorter e = omega (arith, ap length e)
 
--- in a rooted content each shorter front of what stands there is a folder
+-- in a rooted content each shorter front of what is there is a folder
 folders_down : (content : Content) (place : Place) → IsClosedAbove content place → (more count : ℕ) → count + more + 1 ≡ length place → map.get content (take (count + more) place) ≡ Some folder → map.get content (take count place) ≡ Some folder
 folders_down content place closed zero count e there = subst (λ (n : ℕ). map.get content (take n place) ≡ Some folder) (omega arith) there
 folders_down content place closed (suc more) count e there =
@@ -154,7 +154,7 @@ IsClosedAbove-rooted content place rooted =
           rooted.above (take count place) (get_or place count []) node (subst (λ (p : Place). map.get content p ≡ Some node) (take_more place count [] (omega arith)) there);
     }
 
--- in a rooted content, what stands above anything is a folder
+-- in a rooted content, what is above anything is a folder
 folders_above_held : (content : Content) (place : Place) (node : TreeNode) → IsRooted content → map.get content place ≡ Some node → (front : Place) → IsPlaceFront front place → length front < length place → map.get content front ≡ Some folder
 folders_above_held content place node rooted held front is shorter =
     let top : map.get content (take (length place - 1) place) ≡ Some folder = rooted.above (take (length place - 1) place) (get_or place (length place - 1) []) node (subst (λ (p : Place). map.get content p ≡ Some node) (last_name place [] (omega arith)) held) in

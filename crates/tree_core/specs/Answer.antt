@@ -7,7 +7,7 @@ use Rattle.tree_core.specs.declared.tree.TreeError.{TreeError}
 use Rattle.tree_core.specs.declared.tree.TreeError.TheVariants.{Absent, WrongKind, Failed, Memory}
 use Rattle.tree_core.specs.declared.tree.Entry.{Entry}
 
--- `read`: the bytes of a file, Absent where nothing stands, WrongKind at a folder
+-- `read`: the bytes of a file, Absent where nothing is there, WrongKind at a folder
 abbrev pub ReadAnswers : Option TreeNode → Result (List ℕ) TreeError → Type 0
 ReadAnswers there (Ok bytes) = there ≡ Some (file bytes)
 ReadAnswers there (Err Absent) = there ≡ None
@@ -18,7 +18,7 @@ ReadAnswers there (Err Memory) = Unit {0}
 abbrev pub listed_entry : Entry → ListedEntry
 listed_entry entry = (entry.name, entry.is_file)
 
--- `list`: the entries of a folder, Absent where nothing stands, WrongKind at a file
+-- `list`: the entries of a folder, Absent where nothing is there, WrongKind at a file
 abbrev pub ListAnswers : Content → List ℕ → Result (List Entry) TreeError → Type 0
 ListAnswers content path (Ok entries) = (node_at content path ≡ Some folder) × (map listed_entry entries ≡ entries_in content (resolve path))
 ListAnswers content path (Err Absent) = node_at content path ≡ None
@@ -26,17 +26,17 @@ ListAnswers content path (Err WrongKind) = (bytes : List ℕ) × (node_at conten
 ListAnswers content path (Err Failed) = Unit {0}
 ListAnswers content path (Err Memory) = Unit {0}
 
--- a file stands there
+-- a file is there
 abbrev pub has_file : Option TreeNode → Bool
 has_file None = false
 has_file (Some node) = is_file node
 
--- `is_file`: whether a file stands there
+-- `is_file`: whether a file is there
 abbrev pub FileAnswers : Option TreeNode → Result Bool TreeError → Type 0
 FileAnswers there (Ok answer) = answer ≡ has_file there
 FileAnswers there (Err error) = Unit {0}
 
--- `exists`: whether anything stands there
+-- `exists`: whether anything is there
 abbrev pub ExistsAnswers : Option TreeNode → Result Bool TreeError → Type 0
 ExistsAnswers there (Ok answer) = answer ≡ is_some there
 ExistsAnswers there (Err error) = Unit {0}
@@ -45,6 +45,6 @@ ExistsAnswers there (Err error) = Unit {0}
 abbrev pub FailsOrLacksMemory : Result Bool TreeError → Type 0
 FailsOrLacksMemory result = (result ≢ Err Absent) × (result ≢ Err WrongKind)
 
--- entries stand in byte order of their names
+-- entries are in byte order of their names
 abbrev pub IsInNameOrder : List Entry → Type 0
 IsInNameOrder entries = IsSorted (on (λ e. e.name) (slice_cmp nat_cmp)) entries

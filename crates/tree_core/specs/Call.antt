@@ -3,7 +3,7 @@ use Rattle.std.specs.Prelude.{◌≡◌, ℕ, ◌⊎◌, Bool, true, false, List
 use Rattle.std.proofs.Common.{inl, inr}
 use Rattle.std.specs.Coded.{Coded, code_by, coded×, coded⊎, coded_ℕ, coded_bool, coded_list}
 
--- what was asked: the bytes of a file, what stands in a folder, whether a file stands there, whether anything does
+-- what was asked: the bytes of a file, what is in a folder, whether a file is there, whether anything does
 pub data CallKind : Type 0 where
   read : CallKind
   list : CallKind

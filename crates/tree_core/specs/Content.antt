@@ -14,11 +14,11 @@ pub data TreeNode : Type 0 where
   file : List ℕ → TreeNode
   folder : TreeNode
 
--- where something stands: the names that lead to it from the root
+-- where something is there: the names that lead to it from the root
 abbrev pub Place : Type 0
 Place = List (List ℕ)
 
--- the folder that it stands in; the root for the root
+-- the folder that it is in; the root for the root
 abbrev pub place_above : Place → Place
 place_above place = take (length place - 1) place
 
@@ -26,7 +26,7 @@ place_above place = take (length place - 1) place
 abbrev pub names_cmp : Place → Place → Ordering
 names_cmp = slice_cmp (slice_cmp nat_cmp)
 
--- by the folders that they stand in, and then by their names: what stands right in a folder stands together, after the root
+-- by the folders that they are in, and then by their names: what is right in a folder is together, after the root
 abbrev pub place_cmp : Place → Place → Ordering
 place_cmp = then_cmp (on place_above names_cmp) names_cmp
 
@@ -52,7 +52,7 @@ resolve path = fold step [] (components_of path)
 abbrev pub JoinGoesOn : Type 0
 JoinGoesOn = (folder path : List ℕ) → resolve (join_of folder path) ≡ fold step (resolve folder) (components_of path)
 
--- what stands at a path
+-- what is at a path
 abbrev pub node_at : Content → List ℕ → Option TreeNode
 node_at content path = map.get content (resolve path)
 
@@ -64,7 +64,7 @@ is_file folder = false
 abbrev pub ListedEntry : Type 0
 ListedEntry = List ℕ × Bool
 
--- what stands at the second place, as an entry of the folder at the first, where it stands right in it
+-- what is at the second place, as an entry of the folder at the first, where it is right in it
 abbrev pub entry_in : Place → Place → TreeNode → Option ListedEntry
 entry_in [] [] node = None
 entry_in [] (name ∷ []) node = Some (name, is_file node)
@@ -72,11 +72,11 @@ entry_in [] (name ∷ below ∷ rest) node = None
 entry_in (at ∷ place) [] node = None
 entry_in (at ∷ place) (name ∷ rest) node = if bytes_eq at name then entry_in place rest node else None
 
--- what stands right in a folder, in byte order of names
+-- what is right in a folder, in byte order of names
 abbrev pub entries_in : Content → Place → List ListedEntry
 entries_in content place = filter_map (λ e. entry_in place e.0 e.1) (map.entries content)
 
--- the root is a folder, and so is what any entry stands in
+-- the root is a folder, and so is what any entry is in
 pub record IsRooted (content : Content) : Type 0 where
   pub root : map.get content [] ≡ Some folder
   pub above : (place : Place) (name : List ℕ) (node : TreeNode) → map.get content (place ++ name ∷ []) ≡ Some node → map.get content place ≡ Some folder

@@ -5,7 +5,7 @@ use Rattle.tree_core.specs.declared.tree.TreeError.{TreeError}
 use Rattle.tree_core.specs.declared.tree.TreeError.TheVariants.{Absent, WrongKind, Failed, Memory}
 use Rattle.tree_core.specs.declared.sink.SinkFailed.{SinkFailed}
 
--- a count of faults went up, or stands at the last number of 64 bits
+-- a count of faults went up, or is at the last number of 64 bits
 abbrev pub Rose : ℕ → ℕ → Type 0
 Rose before after = (before < after) ⊎ (2 ^ 64 ≤ after + 1)
 
@@ -14,11 +14,11 @@ pub record IsCounted {T : Type 0} (before after : ℕ) (result : Result T SinkFa
   pub later : before ≤ after
   pub rose : OnErr result (Rose before after)
 
--- what was written, where it is told, grew by the text
+-- what was written, where it is reported, grew by the text
 abbrev pub Gained : Option (List ℕ) → Option (List ℕ) → List ℕ → Type 0
 Gained old new text = new ≡ option_map (λ held. held ++ text) old
 
--- what was written grew by a front of the text
+-- what was written grew by a prefix of the text
 pub record GainedPrefix (old new : Option (List ℕ)) (text : List ℕ) : Type 0 where
   pub front : List ℕ
   pub rest : List ℕ

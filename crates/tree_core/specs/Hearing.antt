@@ -6,8 +6,8 @@ use Rattle.tree_core.specs.Call.{Call}
 use Rattle.tree_core.specs.Content.{Content}
 use Rattle.tree_core.specs.Trace.{Says, faults_after}
 
--- These calls, and no other, were made on a tree: they stand at the end of its trace; its count of faults rose by those that
--- failed; what it tells of its content is as before; and where it tells it, each call says what is so.
+-- These calls, and no other, were made on a tree: they are at the end of its trace; its count of faults rose by those
+-- that failed; what it tells of its content is as before; and where it tells it, each call says what is so.
 pub record Made (told tells : Option Content) (before after : ℕ) (old new calls : List Call) : Type 0 where
   pub content : tells ≡ told
   pub counts : after ≡ faults_after before calls

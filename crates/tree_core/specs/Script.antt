@@ -52,7 +52,7 @@ RefusedBy counts to_out before after =
     (before ≡ counts.out_before) × (after ≡ counts.out_after) × Rose counts.out_before counts.out_after
 RefusedBy counts to_err before after = (before ≡ counts.err_before) × (after ≤ counts.err_after) × Rose before after
 
--- a write of a script was refused: the earlier pieces were written, a front of this one, and none of the later
+-- a write of a script was refused: the earlier pieces were written, a prefix of this one, and none of the later
 pub record IsCut (counts : FaultCounts) (before after : ℕ) (whole begun : Script) : Type 0 where
   pub earlier : Script
   pub target : OutputSink
@@ -63,10 +63,10 @@ pub record IsCut (counts : FaultCounts) (before after : ℕ) (whole begun : Scri
   pub written : begun ≡ earlier ++ (target, front) ∷ []
   pub refused : RefusedBy counts target before after
 
--- a line, or a front of it where the sink's count rose
+-- a line, or a prefix of it where the sink's count rose
 abbrev pub IsLineOrFront : ℕ → ℕ → List ℕ → List ℕ → Type 0
 IsLineOrFront before after line written = (written ≡ line) ⊎ (Rose before after × ((rest : List ℕ) × (line ≡ written ++ rest)))
 
--- a line was written, or a front of it where the sink's count rose
+-- a line was written, or a prefix of it where the sink's count rose
 abbrev pub LineWritten : Option (List ℕ) → Option (List ℕ) → ℕ → ℕ → List ℕ → Type 0
 LineWritten old new before after line = Gained old new line ⊎ (Rose before after × GainedPrefix old new line)

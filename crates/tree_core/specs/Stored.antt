@@ -19,11 +19,11 @@ with_root entries = ([], folder) ∷ map entry_of entries
 abbrev pub content_of : List (Place × StoredNode) → Content
 content_of entries = map.from_sorted (with_root entries)
 
--- what stands at a place
+-- what is at a place
 abbrev pub stored_at : List (Place × StoredNode) → Place → Option TreeNode
 stored_at entries place = map.find place_cmp place (with_root entries)
 
--- places rise, none is the root, and what an entry stands in is a folder
+-- places rise, none is the root, and what an entry is in is a folder
 pub record IsSound (entries : List (Place × StoredNode)) : Type 0 where
   pub ordered : T (map.is_sorted place_cmp (with_root entries))
   pub rooted : IsRooted (content_of entries)

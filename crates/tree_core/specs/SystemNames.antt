@@ -13,11 +13,11 @@ names_entry name =
     else (if bytes_eq name (codes ".") then false
     else (if bytes_eq name (codes "..") then false else true))
 
--- each name that is told ends with the byte 0
+-- each name that is reported ends with the byte 0
 abbrev pub names_in_listing : List ℕ → List (List ℕ)
 names_in_listing bytes = filter names_entry (slice_split (λ byte. byte == 0) bytes)
 
--- these are the names, each as often, that a folder has told from before up to after
+-- these are the names, each as often, that a folder has reported from before up to after
 pub record TellsNames (before after : Option (List ℕ)) (names : List (List ℕ)) : Type 0 where
   pub bytes : List ℕ
   pub told : Consumes before after bytes

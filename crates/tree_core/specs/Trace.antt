@@ -15,7 +15,7 @@ refusal_answer WrongKind = call.wrong_kind
 refusal_answer Failed = call.failed
 refusal_answer Memory = call.no_memory
 
--- what was answered, by how a value is told
+-- what was answered, by how a value is reported
 abbrev pub call_answer : {T : Type 0} → (T → CallAnswer) → Result T TreeError → CallAnswer
 call_answer tell (Ok value) = tell value
 call_answer tell (Err error) = refusal_answer error
@@ -51,13 +51,13 @@ faults_after count (one ∷ calls) = faults_after (fault_behind count one.answer
 
 -- ---- what a content answers
 
--- to a read, by what stands there
+-- to a read, by what is there
 abbrev pub read_answer : Option TreeNode → CallAnswer
 read_answer None = call.absent
 read_answer (Some folder) = call.wrong_kind
 read_answer (Some (file bytes)) = call.bytes bytes
 
--- to a listing, by what stands there and what stands in it
+-- to a listing, by what is there and what is in it
 abbrev pub list_answer : List (List ℕ × Bool) → Option TreeNode → CallAnswer
 list_answer items None = call.absent
 list_answer items (Some folder) = call.entries items

@@ -77,17 +77,17 @@ folder_code =
 abbrev pub IsPlaceFront : Place → Place → Type 0
 IsPlaceFront front place = take (length front) place ≡ front
 
--- nothing can be put there: a folder stands there, or a file stands above it
+-- nothing can be put there: a folder is there, or a file is above it
 pub data Clashes (content : Content) (place : Place) : Type 0 where
   at_folder : map.get content place ≡ Some folder → Clashes content place
   below_file : (above : Place) (bytes : List ℕ) → IsPlaceFront above place → length above < length place → map.get content above ≡ Some (file bytes) → Clashes content place
 
--- the node stands there, and what stands above it are folders; all else is as it was
+-- the node is there, and what is above it are folders; all else is as it was
 pub record Puts (old new : Content) (place : Place) (node : TreeNode) : Type 0 where
   pub there : map.get new place ≡ Some node
   pub above : (front : Place) → IsPlaceFront front place → length front < length place → map.get new front ≡ Some folder
   pub others : (other : Place) → ¬ (IsPlaceFront other place) → map.get new other ≡ map.get old other
 
--- what stands above a place, but not right above it, stands in folders
+-- what is above a place, but not right above it, is in folders
 pub record IsClosedAbove (content : Content) (place : Place) : Type 0 where
   pub folders : (count : ℕ) (node : TreeNode) → count + 1 < length place → map.get content (take (count + 1) place) ≡ Some node → map.get content (take count place) ≡ Some folder

@@ -1,4 +1,4 @@
-//! Reads of a crate's files: what is heard, and what their records say.
+//! Reads of a crate's files: what is read, and what their records say.
 
 pub mod bad_read;
 pub mod laws;

@@ -30,7 +30,7 @@ use std::rt::Files;
 /// The most bytes that a file may have.
 const LIMIT: usize = 67_108_864;
 
-/// How many bytes one read asks for, once more came than was told.
+/// How many bytes one read asks for, once more came than was reported.
 const PIECE: usize = 65_536;
 
 /// How many bytes the read asks for that is to meet a file's end.
@@ -180,7 +180,7 @@ fn failure(error: &io::Error) -> TreeError
     }
 }
 
-/// What stands at a path, by what the system answered. Nothing does only where it said so.
+/// What is at a path, by what the system answered. Nothing does only where it said so.
 fn looked(answer: io::Result<Metadata>) -> Result<Option<Metadata>, TreeError>
     ensures there { IfOk answer (λ found. result ≡ Ok (Some found)) }
     ensures absent { IfErr answer (λ error. (result ≡ Ok None) ↔ (error_kind error ≡ ErrorKind.NotFound)) }
@@ -200,7 +200,7 @@ fn looked(answer: io::Result<Metadata>) -> Result<Option<Metadata>, TreeError>
     }
 }
 
-/// What stands at a path, if anything does.
+/// What is at a path, if anything does.
 fn look<R: Files>(rt: &R, path: &str) -> Result<Option<Metadata>, TreeError>
     ensures no_absent { IfErr result (λ error. error ≢ TreeError.Absent) }
     ensures no_kind { IfErr result (λ error. error ≢ TreeError.WrongKind) }
@@ -228,7 +228,7 @@ fn is_there<R: Files>(rt: &R, path: &str) -> Result<bool, TreeError>
     }
 }
 
-/// Whether what stands at a path is read: a file whose length is lawful, and what is neither a file nor a
+/// Whether what is at a path is read: a file whose length is lawful, and what is neither a file nor a
 /// folder only where its path was named for it.
 fn readable(found: &Option<Metadata>, is_named: bool) -> Result<(), TreeError>
     ensures absent { (result ≡ Err TreeError.Absent) ↔ (found.now ≡ None) }
@@ -271,7 +271,7 @@ fn opened<F>(answer: io::Result<F>) -> Result<F, TreeError>
     }
 }
 
-/// The bytes of what stands at a path.
+/// The bytes of what is at a path.
 fn read_file<R: Files>(
     rt: &R,
     alloc: Global,
@@ -293,8 +293,8 @@ fn length_told(found: &Option<Metadata>) -> usize {
     }
 }
 
-/// All bytes, where they are not more than the limit: as many as were told by one read, and what comes behind
-/// them, if anything does, by reads of which the first asks for `next` bytes.
+/// All bytes, where they are not more than the limit: as many as were reported by one read, and what comes
+/// behind them, if anything does, by reads of which the first asks for `next` bytes.
 fn read_to_limit<F: Read>(
     file: &mut F,
     alloc: Global,
@@ -380,7 +380,7 @@ fn read_piece<F: Read>(file: &mut F, piece: &mut [u8]) -> io::Result<usize>
     Err(io::Error::from(ErrorKind::TimedOut))
 }
 
-/// Whether what stands at a path is listed: a folder.
+/// Whether what is at a path is listed: a folder.
 fn listable(found: &Option<Metadata>) -> Result<(), TreeError>
     ensures absent { (result ≡ Err TreeError.Absent) ↔ (found.now ≡ None) }
     ensures folder { ForSome found.now (λ there. (result ≡ Ok tt) ↔ IsDir (file_type there)) }
@@ -480,7 +480,7 @@ fn names_in<D: Read>(alloc: Global, folder: &mut D) -> Result<Vec<Text>, TreeErr
     Ok(names)
 }
 
-/// The names of entries among those that are told, each of which ends with the byte 0.
+/// The names of entries among those that are reported, each of which ends with the byte 0.
 fn split_names(alloc: Global, bytes: &[u8]) -> Result<Vec<Text>, TreeError>
     ensures { IfOk result (λ names. names.items ≡ names_in_listing bytes.now) }
 {

@@ -77,7 +77,7 @@ impl MemTree {
         Ok(())
     }
 
-    /// Puts a file, in place of one that stands there. The parents that are missing become folders.
+    /// Puts a file, in place of one that is there. The parents that are missing become folders.
     pub fn put(&mut self, path: &str, bytes: &[u8]) -> Result<(), PutError>
         ensures ok { OnOk result
             (Puts self.old.content self.new.content (resolve path.now) (file bytes.now)) }
@@ -112,7 +112,7 @@ impl MemTree {
         Ok(())
     }
 
-    /// What stands at a path.
+    /// What is at a path.
     fn look(&self, alloc: Global, path: &str) -> Result<FoundNode<'_>, AllocError>
         ensures { IfOk result (λ found. found_node found ≡ node_at self.now.content path.now) }
     {
@@ -120,14 +120,14 @@ impl MemTree {
         Ok(self.at(&place))
     }
 
-    /// What stands at a place.
+    /// What is at a place.
     fn at(&self, place: &Place) -> FoundNode<'_>
         ensures { found_node result ≡ get self.now.content place.now }
     {
         find(&self.nodes, place)
     }
 
-    /// What stands right in a folder.
+    /// What is right in a folder.
     fn entries(&self, alloc: Global, folder: &Place) -> Result<FolderEntries, AllocError>
         ensures answer { IfOk result (λ entries. map listed_entry entries
             ≡ entries_in self.now.content folder.now) }

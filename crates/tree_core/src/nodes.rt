@@ -18,7 +18,7 @@ use thiserror::Error;
 /// Why a file was not put.
 #[derive(Clone, Copy, Debug, PartialEq, Eq, Error)]
 pub enum PutError {
-    /// A folder stands there, or a file where a parent belongs.
+    /// A folder is there, or a file where a parent belongs.
     #[error("a file or a folder is in the way")]
     Clash,
     #[error("out of memory")]
@@ -35,7 +35,7 @@ impl From<AllocError> for PutError {
     }
 }
 
-/// What stands at a place below the root.
+/// What is at a place below the root.
 #[derive(Drop)]
 pub enum StoredNode {
     File(Bytes),
@@ -63,7 +63,7 @@ pub enum FoundNode<'a> {
     Folder,
 }
 
-/// What stands at a place.
+/// What is at a place.
 pub fn find<'a>(nodes: &'a Nodes, place: &Place) -> FoundNode<'a>
     ensures { found_node result ≡ stored_at nodes.now.entries place.now }
 {
@@ -77,7 +77,7 @@ pub fn find<'a>(nodes: &'a Nodes, place: &Place) -> FoundNode<'a>
     }
 }
 
-/// Puts a node in place of a file, or where nothing stands, and makes its missing parents folders.
+/// Puts a node in place of a file, or where nothing is there, and makes its missing parents folders.
 pub fn put_at(
     nodes: &mut Nodes,
     alloc: Global,
@@ -105,7 +105,7 @@ pub fn put_at(
     }
 }
 
-/// Adds a node where nothing stands, and makes its missing parents folders.
+/// Adds a node where nothing is there, and makes its missing parents folders.
 fn add(nodes: &mut Nodes, alloc: Global, place: &Place, node: StoredNode) -> Result<(), PutError>
     requires ordered { T (finite.is_sorted place_cmp (with_root nodes.old.entries)) }
     requires absent { stored_at nodes.old.entries place.now ≡ None }
@@ -140,7 +140,7 @@ fn add(nodes: &mut Nodes, alloc: Global, place: &Place, node: StoredNode) -> Res
     }
 }
 
-/// What stands right in a folder, in order: from the folder's least possible entry on, which has the empty
+/// What is right in a folder, in order: from the folder's least possible entry on, which has the empty
 /// name, up to the first of another folder.
 pub fn entries_at(nodes: &Nodes, alloc: Global, folder: &Place) -> Result<FolderEntries, AllocError>
     requires { T (finite.is_sorted place_cmp (with_root nodes.now.entries)) }
@@ -157,7 +157,7 @@ pub fn entries_at(nodes: &Nodes, alloc: Global, folder: &Place) -> Result<Folder
     Ok(entries)
 }
 
-/// Appends what stands at the place, where that is right in the folder.
+/// Appends what is at the place, where that is right in the folder.
 fn push_entry(
     entries: &mut FolderEntries,
     alloc: Global,

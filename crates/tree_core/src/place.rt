@@ -13,7 +13,7 @@ use std::alloc::{AllocError, Global};
 use std::cmp::Ordering;
 use std::marker::Model;
 
-/// The names that lead to a place from the root. Places are ordered by the folder that they stand in, and
+/// The names that lead to a place from the root. Places are ordered by the folder that they are in, and
 /// then by their name.
 #[derive(Drop)]
 pub struct Place {
@@ -73,7 +73,7 @@ impl Place {
         Ok(Place { names })
     }
 
-    /// The folder that this stands in; the root for the root.
+    /// The folder that this is in; the root for the root.
     pub fn above(&self, alloc: Global) -> Result<Place, AllocError>
         ensures { IfOk result (λ p. p ≡ place_above self.now) }
     {
@@ -104,7 +104,7 @@ impl Place {
         self.names.is_empty()
     }
 
-    /// The name of what stands right in the folder, where this is such a place.
+    /// The name of what is right in the folder, where this is such a place.
     pub fn name_in(&self, folder: &Place) -> Option<&str>
         ensures some { IfSome result (λ name. self.now ≡ folder.now ++ name.now ∷ []) }
         ensures none { IfNone result ((name : List ℕ) → self.now ≢ folder.now ++ name ∷ []) }

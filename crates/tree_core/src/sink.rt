@@ -13,7 +13,7 @@ pub trait Sink {
     /// How often a write was refused.
     ghost fault_count: { Self → ℕ };
 
-    /// Takes a front of the piece, and tells how many bytes it took: at least one of a piece that is not
+    /// Takes a prefix of the piece, and tells how many bytes it took: at least one of a piece that is not
     /// empty.
     fn write(&mut self, piece: &[u8]) -> Result<usize, SinkFailed>
         ensures most { IfOk result (λ n. n ≤ length piece.now) }
@@ -27,7 +27,7 @@ pub trait Sink {
         ensures { result ≡ fault_count self.now };
 }
 
-/// Writes all bytes. After a refusal the sink has gained a front of them.
+/// Writes all bytes. After a refusal the sink has gained a prefix of them.
 pub fn write_all<S: Sink>(sink: &mut S, bytes: &[u8]) -> Result<(), SinkFailed>
     ensures ok { OnOk result (Gained (S.written sink.old) (S.written sink.new) bytes.now) }
     ensures err { OnErr result (GainedPrefix (S.written sink.old) (S.written sink.new) bytes.now) }

@@ -15,7 +15,7 @@ use thiserror::Error;
 /// Why a tree did not answer.
 #[derive(Clone, Copy, Debug, PartialEq, Eq, Error)]
 pub enum TreeError {
-    /// Nothing stands at the path.
+    /// Nothing is at the path.
     #[error("not found")]
     Absent,
     /// A folder was to be read, or a file to be listed.
@@ -38,7 +38,7 @@ impl From<AllocError> for TreeError {
     }
 }
 
-/// What stands right in a folder.
+/// What is right in a folder.
 #[derive(Debug, Drop)]
 pub struct Entry {
     pub name: Text,
@@ -66,7 +66,7 @@ pub trait Tree {
         ensures counts { fault_count self.new ≡ count_after (fault_count self.old) result }
         ensures traced { trace self.new ≡ trace self.old ++ read_call path.now result ∷ [] };
 
-    /// What stands right in a folder.
+    /// What is right in a folder.
     fn list(&mut self, alloc: Global, path: &str) -> Result<FolderEntries, TreeError>
         ensures answer { ForSome (content self.old) (λ c. ListAnswers c path.now result) }
         ensures ordered { IfOk result IsInNameOrder }
@@ -74,7 +74,7 @@ pub trait Tree {
         ensures counts { fault_count self.new ≡ count_after (fault_count self.old) result }
         ensures traced { trace self.new ≡ trace self.old ++ list_call path.now result ∷ [] };
 
-    /// Whether a file stands at the path.
+    /// Whether a file is at the path.
     fn is_file(&mut self, alloc: Global, path: &str) -> Result<bool, TreeError>
         ensures answer { ForSome (content self.old) (λ c. FileAnswers (node_at c path.now) result) }
         ensures refusal { FailsOrLacksMemory result }
@@ -82,7 +82,7 @@ pub trait Tree {
         ensures counts { fault_count self.new ≡ count_after (fault_count self.old) result }
         ensures traced { trace self.new ≡ trace self.old ++ file_call path.now result ∷ [] };
 
-    /// Whether a file or a folder stands at the path.
+    /// Whether a file or a folder is at the path.
     fn exists(&mut self, alloc: Global, path: &str) -> Result<bool, TreeError>
         ensures answer { ForSome (content self.old) (λ c. ExistsAnswers (node_at c path.now) result) }
         ensures refusal { FailsOrLacksMemory result }

@@ -1,4 +1,4 @@
--- A term's own family alone: what stands at its places, and what the first that satisfies the term is.
+-- A term's own family alone: what is at its places, and what the first that satisfies the term is.
 use Rattle.std.proofs.Common.{◌≡◌, ◌∙◌, refl, sym, ap, ℕ, zero, suc, ◌+◌, ◌<◌, Bool, true, false, cond, eqb, ◌&&◌, List, [], ◌∷◌, length, drop, get_or, slice_get, arith}
 use Rattle.std.specs.List.{filter}
 use Rattle.std.specs.Option.{option_map_or}

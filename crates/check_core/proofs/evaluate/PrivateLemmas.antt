@@ -49,7 +49,7 @@ module _ {A : Type 0} (number : A → ℕ) (test : A → Bool) (meant : ℕ) (me
       kept (passes_at test (before ++ x ∷ rest)) (eqb meant (number x)) (test x) n (places_from (suc n) (λ n. meant == n) (map number rest)) (list_any test rest)
       (ap (λ o. option_map_or test o false) (at_front before x rest)) (means x) moved
 
--- a name is one of a list exactly where it stands at a place of its number
+-- a name is one of a list exactly where it is at a place of its number
 pub named : (names : List (List ℕ)) (name : List ℕ) → list_any (is_at names name) (places_of (name_number name) (map name_number names)) ≡ has_text names name
 named names name =
     any_walked name_number (λ other. bytes_eq other name) (name_number name)
@@ -145,7 +145,7 @@ two_found P means addresses numbers one other all one_is other_is some =
     (to_places address_number P (site_number (codes "github.com") (codes "/rust-lang/crates.io-index")) (site_number (codes "index.crates.io") (codes "/"))
     (λ address holds. either_site address (means address holds)) [] addresses some.0 some.1 some.2 some.3 some.4)))
 
--- one of two answers, where one is told
+-- one of two answers, where one is reported
 pub either_told : (one : Bool) (A B : Type 0) → one ≡ false → (A → IsTrue one) → A ⊎ B → B
 either_told one A B is told (inl a) = absurd (let yes = told a in cc)
 either_told one A B is told (inr b) = b

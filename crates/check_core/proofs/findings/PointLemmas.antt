@@ -1,4 +1,4 @@
--- Places in a text that stands in another.
+-- Places in a text that is in another.
 use Rattle.std.proofs.Common.{◌≡◌, ◌∙◌, refl, sym, ap, subst, ℕ, ◌+◌, ◌-◌, ◌<◌, ◌≤◌, ◌⊎◌, inl, inr, List, [], ◌∷◌, length, map, take, drop, get_or, Option, Some, None, arith}
 use Rattle.std.specs.Prelude.{slice_range}
 use Rattle.std.specs.List.{AllZip}
@@ -21,7 +21,7 @@ use Rattle.check_core.specs.findings.Laws.{LabelsPoint, term_text}
 use Rattle.check_core.specs.findings.Places.{all_of, span_by, LabelPoints, PointsBy}
 use Rattle.check_core.proofs.findings.PlaceLemmas.{span_of}
 
--- ---- a text that stands in another from a place on
+-- ---- a text that is in another from a place on
 
 module _ (source text : List ℕ) (start : ℕ) (is : slice_range source start (start + length text) ≡ text) (ends : IsCharBoundary source (start + length text)) where
   byte : (i : ℕ) → i < length text → get_or text i 0 ≡ get_or source (start + i) 0
@@ -59,7 +59,7 @@ module _ (source text : List ℕ) (start : ℕ) (is : slice_range source start (
 
 -- ---- in a table of files
 
--- in a file of the table, a part of the text that stands there
+-- in a file of the table, a part of the text that is there
 part_cut : (files : List File) (file start : ℕ) (text : List ℕ) (span : Span) → span.start ≤ span.end → IsCharBoundary text span.start → IsCharBoundary text span.end
     → PointsAt files (record { file = file; span = record { start = start; end = start + length text } }) text
     → PointsAt files (record { file = file; span = moved_span start span }) (slice_range text span.start span.end)

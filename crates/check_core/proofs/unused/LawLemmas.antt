@@ -50,7 +50,7 @@ exception_not_hit hits place none found =
     both_ways (is_exception_hit hits place) none
     (list_any-from_Any (excepts place) hits (found.0, found.1, found.2, found.3, ap (excepts place) found.4.1 ∙ eq-eqb place place refl))
 
--- ---- items that are told
+-- ---- items that are reported
 
 tell_none : {A : Type 0} (is_told : ℕ → A → Type 0) (told : A → Diag) → ((place : ℕ) (x : A) → is_told place x → ⊥) → (place : ℕ) (items : List A) → Tell is_told told place items []
 tell_none is_told told none place [] = refl

@@ -46,7 +46,7 @@ pack_is policy hits =
 
 -- ---- steps
 
--- of one that is a hit nothing is told, of another its finding
+-- of one that is a hit nothing is reported, of another its finding
 pub unless_hit : {A : Type 0} (pack new : PackOf) (tell : List A → List Diag) (item : A) (is_hit : Bool) → is_hit ≡ false → new ≡ with_more pack (tell (item ∷ []))
     → new ≡ with_more pack (tell (cond is_hit [] (item ∷ [])))
 unless_hit pack new tell item is_hit free is = is ∙ sym (ap (λ (b : Bool). with_more pack (tell (cond b [] (item ∷ [])))) free)

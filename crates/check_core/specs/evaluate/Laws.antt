@@ -7,7 +7,7 @@ use Rattle.graph_core.specs.Krate.{CrateRecord}
 use Rattle.policy_core.specs.valid.Policy.{Grant, Policy}
 use Rattle.check_core.specs.evaluate.Evaluation.{is_allowed}
 
--- a policy with one more allowed licensee at a place of its list; behind the list it stands last
+-- a policy with one more allowed licensee at a place of its list; behind the list it is last
 abbrev pub with_allowed : Policy → ℕ → LicenseReq → Policy
 with_allowed policy place licensee = record {
   ignores = policy.ignores;

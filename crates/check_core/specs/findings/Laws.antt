@@ -21,11 +21,11 @@ pub record LabelsPoint (files : List File) (expression : ExpressionView) (nfo : 
   pub whole : LabelPoints files nfo expression.text (whole_label nfo expression.text)
   pub terms : AllZip (λ term label. LabelPoints files nfo (term_text expression.text term) label) expression.terms (term_labels nfo expression.terms hits)
 
--- so they do where the expression's text stands where it is said to
+-- so they do where the expression's text is where it is said to
 abbrev pub LabelsAlwaysPoint : Type 0
 LabelsAlwaysPoint = (files : List File) (expression : ExpressionView) (nfo : LicenseExprInfo) (hits : List (Option Hit))
     → IsExpression expression.text expression.terms expression.tree → Stands files nfo expression.text → LabelsPoint files expression nfo hits
 
--- a text that stands in a table of files stands in each longer one
+-- a text that is in a table of files is in each longer one
 abbrev pub StandsOn : Type 0
 StandsOn = (files more : List File) (nfo : LicenseExprInfo) (words : List ℕ) → Stands files nfo words → Stands (files ++ more) nfo words

@@ -1,4 +1,4 @@
--- Rows of expressions and crates, with what is told of them, worked out by hand from the rules.
+-- Rows of expressions and crates, with what is reported of them, worked out by hand from the rules.
 use Rattle.std.specs.Prelude.{ℕ, true, false, List, [], ◌∷◌, codes, Option, Some, None}
 use Rattle.deny_text.specs.declared.span.Span.{Span}
 use Rattle.spdx_terms.specs.declared.term.ExpressionReq.{ExpressionReq}

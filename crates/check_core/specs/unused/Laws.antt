@@ -15,7 +15,7 @@ use Rattle.policy_core.specs.declared.valid.policy.ValidConfig.{ValidConfig}
 use Rattle.policy_core.specs.declared.valid.policy.ValidException.{ValidException}
 use Rattle.check_core.specs.unused.Unused.{unused_exception, unused_findings, unused_license}
 
--- ---- which entries are told
+-- ---- which entries are reported
 
 -- one of these hits is the allowed licensee at a place
 abbrev pub LicenseIsHit : List Hit → ℕ → Type 0
@@ -30,7 +30,7 @@ pub record IsUnused (level : LintLevel) (Hits : Type 0) : Type 0 where
   pub asked : level ≡ Allow → ⊥
   pub no_hit : Hits → ⊥
 
--- Findings tell just the items that are to be told, in order, where the first item stands at a place.
+-- Findings tell just the items that are to be reported, in order, where the first item is at a place.
 abbrev pub Tell : {A : Type 0} → (ℕ → A → Type 0) → (A → Diag) → ℕ → List A → List Diag → Type 0
 Tell is_told told place [] findings = findings ≡ []
 Tell is_told told place (x ∷ xs) findings =

@@ -1,4 +1,4 @@
--- Rows of policies and hits, with what is told after all crates, worked out by hand from the rules.
+-- Rows of policies and hits, with what is reported after all crates, worked out by hand from the rules.
 use Rattle.std.specs.Prelude.{ℕ, pos, false, List, [], ◌∷◌, map, codes, Option, Some, None}
 use Rattle.deny_text.specs.declared.span.Span.{Span}
 use Rattle.spdx_terms.specs.declared.term.LicenseItem.TheVariants.{Spdx}
@@ -31,7 +31,7 @@ mit = licensee (codes "MIT") 21 24
 abbrev zlib : Licensee
 zlib = licensee (codes "Zlib") 28 32
 
--- an exception that stands in a file
+-- an exception that is in a file
 abbrev exception : ℕ → ℕ → ℕ → List Licensee → ValidException
 exception file start end licensees = record { spec = record { name = codes "a"; span = from_to start end; requirement = None }; allowed = licensees; file_id = file }
 
@@ -97,7 +97,7 @@ abbrev pub unused_rows : List UnusedRow
 unused_rows =
     -- no hit at all
     row (usual_policy Warn Warn) [] (license_told Warning 21 24 ∷ license_told Warning 28 32 ∷ exception_told Warning 61 62 ∷ exception_told Warning 90 91 ∷ [])
-    -- by the place of the entry, whatever stands there
+    -- by the place of the entry, whatever is there
     ∷ row (usual_policy Warn Warn) (Allowed 1 ∷ []) (license_told Warning 21 24 ∷ exception_told Warning 61 62 ∷ exception_told Warning 90 91 ∷ [])
     -- one entry is enough for an exception, and its place is none in the list of allowed licences
     ∷ row (usual_policy Warn Warn) (Exception 0 1 ∷ []) (license_told Warning 21 24 ∷ license_told Warning 28 32 ∷ exception_told Warning 90 91 ∷ [])
@@ -108,8 +108,8 @@ unused_rows =
     ∷ row (usual_policy Allow Deny) (Allowed 0 ∷ Exception 0 0 ∷ []) (exception_told Error 90 91 ∷ [])
     ∷ row (usual_policy Warn Allow) (Allowed 0 ∷ Exception 0 0 ∷ []) (license_told Warning 28 32 ∷ [])
     ∷ row (usual_policy Allow Allow) [] []
-    -- exceptions of another file are not told
+    -- exceptions of another file are not reported
     ∷ row (policy Warn Warn [] (exception 1 61 62 (mit ∷ []) ∷ exception 0 90 91 (mit ∷ []) ∷ exception 1 99 100 [] ∷ [])) [] (exception_told Warning 90 91 ∷ [])
-    -- of two equal entries the one that is no hit is told
+    -- of two equal entries the one that is no hit is reported
     ∷ row (policy Warn Warn (mit ∷ licensee (codes "MIT") 28 31 ∷ []) []) (Allowed 0 ∷ []) (license_told Warning 28 31 ∷ [])
     ∷ []

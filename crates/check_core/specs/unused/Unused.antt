@@ -43,14 +43,14 @@ is_license_hit hits place = list_any (allows place) hits
 abbrev pub is_exception_hit : List Hit → ℕ → Bool
 is_exception_hit hits place = list_any (excepts place) hits
 
--- the items at whose places no hit is, where the first stands at a place
+-- the items at whose places no hit is, where the first is at a place
 abbrev pub items_without_hit : {A : Type 0} → (ℕ → Bool) → ℕ → List A → List A
 items_without_hit is_hit place [] = []
 items_without_hit is_hit place (x ∷ xs) = (if is_hit place then [] else x ∷ []) ++ items_without_hit is_hit (suc place) xs
 
 -- ---- findings
 
--- the level of what is told of unused entries; nothing is told where they are allowed
+-- the level of what is reported of unused entries; nothing is reported where they are allowed
 abbrev pub severity_asked : LintLevel → Option Severity
 severity_asked Allow = None
 severity_asked Warn = Some Warning
@@ -69,11 +69,11 @@ unused_exception severity exception =
     unused_finding severity LicenseExceptionNotEncountered (codes "license exception was not encountered")
     (label_at Primary exception.file_id exception.spec.span (codes "unmatched license exception"))
 
--- an exception stands in the file of that number
+-- an exception is in the file of that number
 abbrev pub is_own : ℕ → ValidException → Bool
 is_own file exception = exception.file_id == file
 
--- of some exceptions those of the file are told
+-- of some exceptions those of the file are reported
 abbrev pub own_findings : Severity → ℕ → List ValidException → List Diag
 own_findings severity file exceptions = map (unused_exception severity) (filter (is_own file) exceptions)
 
@@ -87,7 +87,7 @@ abbrev pub exception_findings : ValidConfig → (ℕ → Bool) → List Diag
 exception_findings policy is_hit =
     option_map_or (λ severity. own_findings severity policy.file_id (items_without_hit is_hit 0 policy.exceptions)) (severity_asked policy.unused_license_exception) []
 
--- what is told after all crates, of which these are the hits
+-- what is reported after all crates, of which these are the hits
 abbrev pub unused_findings : ValidConfig → List Hit → List Diag
 unused_findings policy hits = license_findings policy (is_license_hit hits) ++ exception_findings policy (is_exception_hit hits)
 

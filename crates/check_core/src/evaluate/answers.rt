@@ -50,7 +50,7 @@ fn step(answers: &mut Vec<bool>, node: ExprNode, kept: &[Option<Hit>])
     }
 }
 
-/// The answer of the last tree of some nodes. What stands in `answers` goes; there has to be room for one
+/// The answer of the last tree of some nodes. What is in `answers` goes; there has to be room for one
 /// answer a node.
 pub fn is_accepted(answers: &mut Vec<bool>, nodes: &[ExprNode], kept: &[Option<Hit>]) -> bool
     requires { length nodes.now ≤ vec_capacity answers.old }

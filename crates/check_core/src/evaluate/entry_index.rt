@@ -1,4 +1,4 @@
-//! Where the entries of each licence family stand in a policy.
+//! Where the entries of each licence family are in a policy.
 ghost use Rattle.std.specs.Prelude.{◌≡◌, map, IfOk};
 ghost use Rattle.spdx_terms.specs.families.Places.{places_in};
 ghost use Rattle.policy_core.specs.valid.View.{req_of, grant_of, policy_of};

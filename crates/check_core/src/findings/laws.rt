@@ -1,14 +1,14 @@
 //! What holds of the labels of all expressions. These functions do nothing: their contracts are the laws.
 ghost use Rattle.check_core.specs.findings.Laws.{LabelsAlwaysPoint, StandsOn};
 
-/// Where an expression's text stands in its file, its first label cuts out just this text, and each further one
-/// just the words of its term, in text order, between characters. Where the text was written with escapes, each
-/// label is the whole string.
+/// Where an expression's text is in its file, its first label cuts out just this text, and each further one
+/// just the words of its term, in text order, between characters. Where the text was written with escapes,
+/// each label is the whole string.
 pub fn labels_point()
     ensures { LabelsAlwaysPoint }
 {}
 
-/// A text that stands in a file still does once the table of files has grown.
+/// A text that is in a file still does once the table of files has grown.
 pub fn stands_on()
     ensures { StandsOn }
 {}

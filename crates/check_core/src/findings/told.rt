@@ -74,7 +74,7 @@ fn judged_by(
     }
 }
 
-/// Whether an expression is accepted, with its terms in text order, each by its own hit. Hits stand at the
+/// Whether an expression is accepted, with its terms in text order, each by its own hit. Hits are at the
 /// places of the terms; a term behind their end has none.
 pub fn judged(
     alloc: Global,

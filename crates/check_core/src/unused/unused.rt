@@ -15,7 +15,7 @@ use policy_parts::LintLevel;
 use policy_parts::entries::Licensee;
 use std::alloc::{AllocError, Global};
 
-/// The level of what is told; nothing is told where the policy allows it.
+/// The level of what is reported; nothing is reported where the policy allows it.
 fn severity_of(level: LintLevel) -> Option<Severity>
     ensures { result ≡ severity_asked level }
 {
@@ -102,7 +102,7 @@ fn push_license(
     Ok(())
 }
 
-/// Appends that an exception allows no term, unless it stands in another file.
+/// Appends that an exception allows no term, unless it is in another file.
 fn push_own(
     alloc: Global,
     pack: &mut Pack,
@@ -120,7 +120,7 @@ fn push_own(
     Ok(())
 }
 
-/// Appends that an exception allows no term, unless it is a hit or stands in another file.
+/// Appends that an exception allows no term, unless it is a hit or is in another file.
 fn push_exception(
     alloc: Global,
     pack: &mut Pack,

@@ -1,4 +1,4 @@
--- The run ended where its own clause says, and behind that its help was told.
+-- The run ended where its own clause says, and behind that its help was printed.
 use Rattle.std.proofs.Common.{◌≡◌, subst, sym, Bool}
 use Rattle.tree_core.proofs.MadeLemmas.{some_joined}
 use Rattle.refusal_help.specs.Told.{told_between}

@@ -68,7 +68,7 @@ or_map : (first second : Option Span) → option_or (option_map (moved_span 7) f
 or_map None second = refl
 or_map (Some span) second = refl
 
--- from one key to what stands behind it
+-- from one key to what is behind it
 abbrev pub Leads : List ℕ → List ℕ → Type 0
 Leads text rest = license_span_of text ≡ option_map (moved_span (length text - length rest)) (license_span_of rest)
 

@@ -1,4 +1,4 @@
--- Lists of which all but the first of equal items are taken out, and what is told of them.
+-- Lists of which all but the first of equal items are taken out, and what is reported of them.
 use Rattle.std.specs.Prelude.{◌≡◌, ℕ, Bool, if◌then◌else◌, List, [], ◌∷◌, ◌++◌, codes, Result, Ok, Err, ⊤}
 use Rattle.std.specs.List.{dedup}
 use Rattle.std.specs.List.Sorted.{IsPermutation, IsSorted, IsStable}
@@ -21,7 +21,7 @@ pub record Sorts {T : Type 0} (cmp : T → T → Ordering) (old new : List (Span
   pub same : IsPermutation old new
   pub sorted : IsSorted (by_value cmp) new
 
--- ---- what is told
+-- ---- what is reported
 
 abbrev pub duplicates : ℕ → Span → Span → Diagnostic
 duplicates file one other =
@@ -45,13 +45,14 @@ GainsFront old new all = (front : List Diagnostic) × (rest : List Diagnostic) �
 
 -- ---- the call
 
--- the list was sorted, and then of equals the first is kept, and all is told; or memory was wanting, and nothing was taken out
+-- the list was sorted, and then of equals the first is kept, and all is reported; or memory was wanting, and nothing
+-- was taken out
 abbrev pub EndsDedup : {T : Type 0} → (T → T → Bool) → ℕ → List (Spanned T) → List (Spanned T) → List Diagnostic → List Diagnostic
     → Result (Unit {0}) AllocError → Type 0
 EndsDedup eq file sorted new before after (Ok done) = (new ≡ dedup (by_value eq) sorted) × (after ≡ before ++ warnings_of eq file sorted)
 EndsDedup eq file sorted new before after (Err error) = (new ≡ sorted) × GainsFront before after (warnings_of eq file sorted)
 
--- items that tie stand in the order in which they stood
+-- items that tie are in the order in which they stood
 abbrev pub StandsAsBefore : {T : Type 0} → (T → T → Ordering) → List (Spanned T) → List (Spanned T) → Result (Unit {0}) AllocError → Type 0
 StandsAsBefore cmp old sorted (Ok done) = IsStable (by_value cmp) old sorted
 StandsAsBefore cmp old sorted (Err error) = ⊤

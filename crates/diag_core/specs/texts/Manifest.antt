@@ -47,7 +47,7 @@ hash_pieces hash = plain (codes "hash = 0x") ∷ plain (hash_text hash) ∷ plai
 abbrev pub named_pieces : Bit → Bit → List Bit
 named_pieces score name = plain (codes "score = ") ∷ score ∷ plain (codes ", license = \"") ∷ name ∷ plain (codes "\"") ∷ []
 
--- what is told of a file; marked is why it gives no name
+-- what is reported of a file; marked is why it gives no name
 abbrev pub told_pieces : FileNote → List Bit
 told_pieces (Joined hash) = hash_pieces hash
 told_pieces (Unknown hash score name) = hash_pieces hash ++ named_pieces (plain (score_text score)) (marked name.now)

@@ -1,4 +1,4 @@
--- Places of a text in which each slash was replaced by ` OR `, told as places of the text with the slashes.
+-- Places of a text in which each slash was replaced by ` OR `, reported as places of the text with the slashes.
 use Rattle.std.specs.Prelude.{ℕ, ◌+◌, ◌-◌, ◌*◌, ◌==◌, nat_lt, nat_le, List, [], ◌∷◌, length, max, if◌then◌else◌}
 use Rattle.deny_text.specs.declared.span.Span.{Span}
 

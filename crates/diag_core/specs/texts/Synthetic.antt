@@ -44,11 +44,11 @@ marked_of (marked bytes ∷ rest) = bytes ∷ marked_of rest
 abbrev pub text_at : List ℕ → Span → List ℕ
 text_at text span = take (span.end - span.start) (drop span.start text)
 
--- both its ends are between characters: what stands before each is text
+-- both its ends are between characters: what is before each is text
 abbrev pub IsBetweenCharacters : List ℕ → Span → Type 0
 IsBetweenCharacters text span = IsUtf8 (take span.start text) × IsUtf8 (take span.end text)
 
--- the kept places of any pieces cut out those that are marked, in order, lie in the text, and stand between characters
+-- the kept places of any pieces cut out those that are marked, in order, lie in the text, and are between characters
 -- where each piece is text
 pub record PlacesCutOut (pieces : List Bit) : Type 0 where
   pub cut_out : map (text_at (written_all nothing_kept pieces).text) (written_all nothing_kept pieces).spans ≡ marked_of pieces

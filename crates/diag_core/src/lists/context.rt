@@ -37,7 +37,7 @@ impl<'c> ValidationContext<'c> {
     }
 
     /// Sorts a list, warns for each pair of equal neighbours and takes all but the first of equals out. A
-    /// list of which not all is told stays sorted and whole.
+    /// list of which not all is reported stays sorted and whole.
     pub fn dedup<T: Ord + Drop>(
         &mut self,
         alloc: Global,

@@ -84,7 +84,7 @@ impl Synthetic {
         self.write(TextPiece::Plain("\"\n"))
     }
 
-    /// What stands before the lines of the list.
+    /// What is before the lines of the list.
     pub fn open_list(&mut self) -> Result<(), AllocError>
         ensures ok { OnOk result (self.new ≡ written_all self.old opening_pieces) }
         ensures text { StandsInFront self.old.text self.new.text }
@@ -93,7 +93,7 @@ impl Synthetic {
         self.write(TextPiece::Plain("license-files = [\n"))
     }
 
-    /// What stands behind the lines of the list.
+    /// What is behind the lines of the list.
     pub fn close_list(&mut self) -> Result<(), AllocError>
         ensures ok { OnOk result (self.new ≡ written_all self.old closing_pieces) }
         ensures text { StandsInFront self.old.text self.new.text }

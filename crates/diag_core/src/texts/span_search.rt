@@ -9,7 +9,7 @@ const KEY: &str = "license";
 
 /// The place of the value at the first place of the text where these follow one another: `license`, any white
 /// space, `=`, any white space, a quote (`"` or `'`), a value without quotes, which may be empty, and a
-/// quote, which may be the other one. It is searched as text: nothing has to stand before the key, and a
+/// quote, which may be the other one. It is searched as text: nothing has to be before the key, and a
 /// comment or a key of another name that ends so is found too.
 pub fn license_span(text: &str) -> Option<Span>
     ensures value { result ≡ license_span_of text.now }

@@ -1,4 +1,4 @@
--- What the labels of all findings of a crate cut out, and where they and the expression stand.
+-- What the labels of all findings of a crate cut out, and where they and the expression are.
 use Rattle.std.proofs.Common.{◌≡◌, ◌∙◌, ℕ, length, map, List, [], ◌∷◌, ◌++◌, Option, Some, None, unwrap_or, refl, sym, ap, subst}
 use Rattle.std.specs.List.{All}
 use Rattle.std.specs.Option.{IfSome}
@@ -64,7 +64,7 @@ made files krate folder joined seen lie =
 abbrev marks_of : ℕ → Span → Span → List Span → MarksView
 marks_of id name field more = record { file = id; spans = name ∷ field ∷ more }
 
--- where the field stands: at its location, or at its mark
+-- where the field is: at its location, or at its mark
 record Placed (files : List File) (location mark : Option Coord) (field : List ℕ) : Type 0 where
   place : Coord
   is_place : field_place location mark ≡ Some place

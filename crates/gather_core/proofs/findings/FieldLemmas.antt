@@ -43,7 +43,7 @@ fine_read lists (byte ∷ bytes) found some fine is =
     let read : expression_of_text strict_with_slash lists (byte ∷ bytes) ≡ Some own = is_read strict_with_slash lists (byte ∷ bytes) spelled.0 spelled.1 spelled.2 in
     is ∙ read ∙ sym (strictly_read lists byte bytes own read)
 
--- ---- the faults that are told
+-- ---- the faults that are reported
 
 either_way : (b : Bool) (none : List ParseError) → none ≡ [] → cond b [] none ≡ []
 either_way true none is = refl
@@ -67,7 +67,7 @@ pub empty_faults : (lists : CatalogLists) (field : List ℕ) → eqb (length fie
 empty_faults lists field none =
     ap (λ b. cond b [] (faults_by (first_fault strict_with_slash lists field) (first_fault lax_mode lists field))) none
 
--- ---- where they stand
+-- ---- where they are
 
 two_lie : (field : List ℕ) (strict laxly : Option ParseError) → IfSome strict (λ fault. LiesBetween field fault.span) → IfSome laxly (λ fault. LiesBetween field fault.span)
     → FaultsLie field (faults_by strict laxly)

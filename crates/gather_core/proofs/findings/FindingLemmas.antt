@@ -27,7 +27,7 @@ map_more {A} {B} f front items i d inside =
     append_assoc front (map f (take i items)) (f (get_or items i d) ∷ [])
     ∙ ap (λ (l : List B). front ++ l) (sym (ap (map f) (take_more items i d inside) ∙ map-append f (take i items) (get_or items i d ∷ [])))
 
--- pairs of one more of the items with what stands beside it
+-- pairs of one more of the items with what is beside it
 zip_push : {A B : Type 0} (front : List A) (a : A) (others : List B) → zip (front ++ a ∷ []) others ≡ zip front others ++ option_to_list (option_map (λ b. (a, b)) (slice_get others (length front)))
 zip_push [] a [] = refl
 zip_push [] a (b ∷ others) = refl

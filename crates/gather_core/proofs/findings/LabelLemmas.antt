@@ -42,7 +42,7 @@ pub lie-append : (files : List File) (first second : List Diag) → All (LabelLi
 lie-append files first second one two =
     subst (All (LabelLies files)) (sym (labels_of-append first second)) (All-append (LabelLies files) (labels_of first) (labels_of second) one two)
 
--- ---- the faults of a field that stands in a file
+-- ---- the faults of a field that is in a file
 
 fault_cuts : (files : List File) (at : Coord) (field : List ℕ) → PointsAt files at field → (faults : List ParseError) → FaultsLie field faults
     → map (text_under files) (labels_of (map (field_fault at) faults)) ≡ map (λ (fault : ParseError). text_at field fault.span) faults
@@ -147,7 +147,7 @@ empty_lies files krate (Some at) field located =
     let said = codes "empty field" in
     All-cons (LabelLies files) (label_of at said) [] (points_lie files at field Secondary said located) (All-nil (LabelLies files))
 
--- the findings of a field that stands at a place, and at its location where it has one
+-- the findings of a field that is at a place, and at its location where it has one
 pub field_cuts : (files : List File) (krate : CrateRecord) (location : Option Coord) (faults : List ParseError) (place : Coord) (license : Option (List ℕ))
     → IfSome location (λ at. PointsAt files at (unwrap_or license [])) → PointsAt files place (unwrap_or license []) → FaultsLie (unwrap_or license []) faults
     → map (text_under files) (labels_of (field_findings krate location faults (Some place) license)) ≡ field_texts location faults license

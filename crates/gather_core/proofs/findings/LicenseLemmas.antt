@@ -1,4 +1,4 @@
--- What stands in a table of files stands in each longer one.
+-- What is in a table of files is in each longer one.
 use Rattle.std.proofs.Common.{◌≡◌, ℕ, zero, suc, ◌+◌, length, List, [], ◌∷◌, ◌++◌, Option, None, Some}
 use Rattle.deny_text.specs.declared.span.Span.{Span}
 use Rattle.diag_core.specs.declared.label.Coord.{Coord}

@@ -17,7 +17,7 @@ use Rattle.gather_core.specs.findings.Findings.{fault_place}
 
 -- ---- in a text
 
--- what a place in a field cuts out, where the field stands in a text
+-- what a place in a field cuts out, where the field is in a text
 cut_inside : (text field : List ℕ) (at fault : Span) → text_at text at ≡ field → at.start ≤ at.end → at.end ≤ length text → fault.start ≤ fault.end → fault.end ≤ length field
     → text_at text (record { start = at.start + fault.start; end = at.start + fault.end }) ≡ text_at field fault
 cut_inside text field at fault same ordered inside first last =
@@ -69,7 +69,7 @@ points files id source span bytes is lies same = record {
   cuts = record { ordered = lies.ordered; starts = lies.start_border; ends = lies.end_border; cut_out = same };
 }
 
--- a fault in a field that stands in a file
+-- a fault in a field that is in a file
 pub fault_points : (files : List File) (at : Coord) (field : List ℕ) (fault : Span) → PointsAt files at field → LiesBetween field fault
     → PointsAt files (fault_place at fault) (text_at field fault)
 fault_points files at field fault stands lies =

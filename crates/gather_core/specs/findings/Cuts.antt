@@ -1,4 +1,4 @@
--- What the labels of a crate's findings cut out of their files, and where they stand.
+-- What the labels of a crate's findings cut out of their files, and where they are.
 use Rattle.std.specs.Prelude.{◌≡◌, ℕ, ◌==◌, ◌<◌, ◌≤◌, List, [], ◌∷◌, ◌++◌, length, map, All, Option, Some, None, unwrap_or, if◌then◌else◌, ⊤}
 use Rattle.std.specs.Bool.{OnTrue}
 use Rattle.std.specs.List.{flat_map}
@@ -53,7 +53,7 @@ abbrev pub CutOutBy : UnclarifiedCrateView → List File → ExpressionBasisView
 CutOutBy case files outcome =
     map (text_under (files_for case outcome files)) (labels_of (points_by case (marks_by case outcome files) outcome).findings) ≡ texts_by case outcome
 
--- ---- where they stand
+-- ---- where they are
 
 -- the label's file is there, and its range lies in the file's text, between characters
 pub record LabelLies (files : List File) (label : Label) : Type 0 where
@@ -66,11 +66,11 @@ pub record LabelLies (files : List File) (label : Label) : Type 0 where
 abbrev pub LabelsLieBy : UnclarifiedCrateView → List File → ExpressionBasisView → Type 0
 LabelsLieBy case files outcome = All (LabelLies (files_for case outcome files)) (labels_of (points_by case (marks_by case outcome files) outcome).findings)
 
--- the marks of a synthetic manifest, where it is made, stand between characters of its text
+-- the marks of a synthetic manifest, where it is made, are between characters of its text
 abbrev pub MarksLie : UnclarifiedCrateView → ExpressionBasisView → Type 0
 MarksLie case outcome = OnTrue (is_made case.location outcome) (All (LiesBetween (synthetic_of case outcome).text) (synthetic_of case outcome).spans)
 
--- ---- where the expression stands
+-- ---- where the expression is
 
 -- the text of the expression, where there is one: the field, or the joined names
 abbrev pub expression_text : UnclarifiedCrateView → ExpressionBasisView → Option (List ℕ)

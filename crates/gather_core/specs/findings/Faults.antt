@@ -1,4 +1,4 @@
--- What is wrong with a crate's field, as it is told.
+-- What is wrong with a crate's field, as it is reported.
 use Rattle.std.specs.Prelude.{ℕ, ◌&&◌, ◌==◌, Bool, List, [], ◌∷◌, length, Option, Some, None, if◌then◌else◌}
 use Rattle.deny_text.specs.declared.span.Span.{Span}
 use Rattle.spdx_terms.specs.catalog.Catalog.{CatalogLists}
@@ -9,7 +9,7 @@ use Rattle.gather_license.specs.expression.Taken.{lax_mode, strict_with_slash}
 abbrev pub same_span : Span → Span → Bool
 same_span one other = one.start == other.start && one.end == other.end
 
--- the strict reading's fault, and that of the lax reading, where that has one and it stands elsewhere
+-- the strict reading's fault, and that of the lax reading, where that has one and it is elsewhere
 abbrev pub faults_by : Option ParseError → Option ParseError → List ParseError
 faults_by None other = []
 faults_by (Some fault) None = fault ∷ []

@@ -38,11 +38,11 @@ warning code message labels = record {
 abbrev pub label_of : Coord → List ℕ → Label
 label_of at message = label_at Secondary at.file at.span message
 
--- a file of a clarification is not there; its path stands in the policy's file
+-- a file of a clarification is not there; its path is in the policy's file
 abbrev pub missing_file : Coord → Diag
 missing_file path = warning MissingClarificationFile (codes "unable to locate specified license file") (label_of path [] ∷ [])
 
--- the place of a fault in a field that stands at a place
+-- the place of a fault in a field that is at a place
 abbrev pub fault_place : Coord → Span → Coord
 fault_place field fault = record { file = field.file; span = record { start = field.span.start + fault.start; end = field.span.start + fault.end } }
 
@@ -113,7 +113,7 @@ failure_marks joined marks = drop (first_failure joined) marks.spans
 
 -- ---- all findings
 
--- where the field stands: at its location, or else in the synthetic manifest
+-- where the field is: at its location, or else in the synthetic manifest
 abbrev pub field_place : Option Coord → Option Coord → Option Coord
 field_place (Some location) synthetic = Some location
 field_place None synthetic = synthetic
@@ -122,7 +122,7 @@ abbrev pub empty_findings : CrateRecord → Option Coord → List Diag
 empty_findings krate None = no_field krate ∷ []
 empty_findings krate (Some location) = empty_field location ∷ []
 
--- each fault of a field that stands at a place
+-- each fault of a field that is at a place
 abbrev pub fault_findings : Option Coord → List ParseError → List Diag
 fault_findings place faults = option_map_or (λ at. map (field_fault at) faults) place []
 
@@ -159,12 +159,12 @@ pub record UnclarifiedCrateView : Type 0 where
 abbrev pub field_points : UnclarifiedCrateView → MarksView → List Diag
 field_points case marks = field_findings case.krate case.location case.faults (field_place case.location (field_mark marks)) case.krate.license
 
--- where the expression of joined names stands, where there is one
+-- where the expression of joined names is, where there is one
 abbrev pub joined_place : Option (List ℕ) → MarksView → Option Coord
 joined_place None marks = None
 joined_place (Some text) marks = joined_mark marks
 
--- where the expression's text stands, and the findings in order
+-- where the expression's text is, and the findings in order
 abbrev pub points_by : UnclarifiedCrateView → MarksView → ExpressionBasisView → PlacedFindings
 points_by case marks by_field = record { expression = field_place case.location (field_mark marks); findings = field_points case marks }
 points_by case marks (by_files seen joined) = record {
@@ -191,7 +191,7 @@ marks_by case outcome files = record { file = length files; spans = (synthetic_o
 abbrev pub files_with_synthetic : UnclarifiedCrateView → ExpressionBasisView → List File → List File
 files_with_synthetic case outcome files = files ++ synthetic_file case.krate (synthetic_of case outcome) ∷ []
 
--- where the expression stands, and what is found of the crate
+-- where the expression is, and what is found of the crate
 abbrev pub points_of : UnclarifiedCrateView → List File → PlacedFindings
 points_of case files = points_by case (marks_by case case.outcome files) case.outcome
 

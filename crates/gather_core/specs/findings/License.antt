@@ -1,4 +1,4 @@
--- The expression of a licence, and where it stands.
+-- The expression of a licence, and where it is there.
 use Rattle.std.specs.Prelude.{◌≡◌, ℕ, ◌+◌, ◌≤◌, List, length, Option, Some, None, ⊤}
 use Rattle.std.specs.Str.{IsCharBoundary}
 use Rattle.deny_text.specs.declared.span.Span.{Span}
@@ -14,7 +14,7 @@ abbrev pub expression_of : LicenseInfo → Option ExpressionView
 expression_of Unlicensed = None
 expression_of (SpdxExpression expression nfo) = Some expression
 
--- ---- where it stands
+-- ---- where it is there
 
 -- a place lies in the text of a file of the table, between characters
 pub record PlaceLies (files : List File) (file : ℕ) (span : Span) : Type 0 where
@@ -24,17 +24,17 @@ pub record PlaceLies (files : List File) (file : ℕ) (span : Span) : Type 0 whe
   pub starts : IsCharBoundary source span.start
   pub ends : IsCharBoundary source span.end
 
--- An expression stands in a file: where its string has escapes, the place of that lies there; else its text stands there from
+-- An expression is in a file: where its string has escapes, the place of that lies there; else its text is there from
 -- its offset on.
 abbrev pub StandsIn : List File → ℕ → ℕ → Option Span → List ℕ → Type 0
 StandsIn files file offset (Some place) text = PlaceLies files file place
 StandsIn files file offset None text = PointsAt files (record { file = file; span = record { start = offset; end = offset + length text } }) text
 
--- the text of an expression stands where it is said to
+-- the text of an expression is where it is said to
 abbrev pub Stands : List File → LicenseExprInfo → List ℕ → Type 0
 Stands files nfo text = StandsIn files nfo.file_id nfo.offset nfo.whole text
 
--- the expression of a crate, where there is one, stands in its file
+-- the expression of a crate, where there is one, is in its file
 abbrev pub InfoStands : List File → LicenseInfo → Type 0
 InfoStands files Unlicensed = ⊤
 InfoStands files (SpdxExpression expression nfo) = Stands files nfo expression.text

@@ -1,4 +1,4 @@
--- What is asked of a crate's field: where it stands, and where its faults lie.
+-- What is asked of a crate's field: where it is there, and where its faults lie.
 use Rattle.std.specs.Prelude.{ℕ, List, [], IfSome, All, unwrap_or}
 use Rattle.spdx_terms.specs.declared.error.ParseError.{ParseError}
 use Rattle.diag_core.specs.File.{File}

@@ -67,7 +67,7 @@ fn same_span(one: Span, other: Span) -> bool
     one.start == other.start && one.end == other.end
 }
 
-/// The fault of the lax reading stands behind that of the strict one, but for one at the same place.
+/// The fault of the lax reading is behind that of the strict one, but for one at the same place.
 fn faults(
     alloc: Global,
     strict: ParseError,

@@ -64,7 +64,7 @@ pub fn missing_file(alloc: Global, path: Coord) -> Result<Diag, AllocError>
     )
 }
 
-/// A fault in a field that stands at a place.
+/// A fault in a field that is at a place.
 fn field_fault(alloc: Global, field: Coord, fault: ParseError) -> Result<Diag, AllocError>
     requires { FaultFits field fault }
     ensures { IfOk result (λ finding. finding ≡ spec.field_fault field fault) }
@@ -127,7 +127,7 @@ fn unlicensed(alloc: Global, name: Coord) -> Result<Diag, AllocError>
     )
 }
 
-/// Appends the faults of a field that stands at a place.
+/// Appends the faults of a field that is at a place.
 fn push_faults(
     alloc: Global,
     diags: &mut Diags,
@@ -172,7 +172,7 @@ fn empty_findings(
     }
 }
 
-/// Of the faults of a field that stands at a place.
+/// Of the faults of a field that is at a place.
 fn fault_findings(
     alloc: Global,
     place: Option<Coord>,

@@ -1,4 +1,4 @@
-//! The licence of a crate, and where its expression stands.
+//! The licence of a crate, and where its expression is.
 use deny_text::{Span, Texts};
 use diag_core::FileId;
 use spdx_core::Expression;
@@ -14,10 +14,10 @@ pub enum LicenseExprSource {
     LicenseFiles(Texts),
 }
 
-/// What is told of a licence expression.
+/// What is reported of a licence expression.
 #[derive(Drop)]
 pub struct LicenseExprInfo {
-    /// The file that the expression stands in.
+    /// The file that the expression is in.
     pub file_id: FileId,
     /// Where the expression's text begins there.
     pub offset: usize,

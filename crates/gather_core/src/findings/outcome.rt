@@ -20,7 +20,7 @@ use crate::findings::synthesis::synthesize;
 use diag_core::{Coord, Files};
 use std::alloc::{AllocError, Global};
 
-/// Where the expression of a crate stands, and what is found on the way to it.
+/// Where the expression of a crate is, and what is found on the way to it.
 #[derive(Drop)]
 pub struct PlacedFindings {
     /// None where there is no expression.
@@ -28,7 +28,7 @@ pub struct PlacedFindings {
     pub findings: Diags,
 }
 
-/// By the field, which gives the expression and stands at its location.
+/// By the field, which gives the expression and is at its location.
 fn find_at(
     alloc: Global,
     case: &UnclarifiedCrate<'_>,
@@ -113,7 +113,7 @@ fn there(at: Coord) -> Option<Coord>
     Some(at)
 }
 
-/// Where a field stands: at its location, or else in the synthetic manifest.
+/// Where a field is: at its location, or else in the synthetic manifest.
 fn field_place(location: Option<Coord>, marks: &Marks) -> Option<Coord>
     ensures place { result ≡ field_place location (field_mark marks.now) }
     ensures fits { IfSome result (λ at. at.span.end < 2 ^ 64) }
@@ -173,7 +173,7 @@ fn find_points(
     }
 }
 
-/// What is found of a crate, and where its expression stands. Where something points into it, a manifest is
+/// What is found of a crate, and where its expression is. Where something points into it, a manifest is
 /// written in place of the crate's own, and joins the table under a name that no path finds.
 pub fn find(
     alloc: Global,

@@ -25,7 +25,7 @@ use Rattle.gather_license.specs.files.View.{PackView, file_at, normal_heard, pat
 use Rattle.gather_license.proofs.files.PackLemmas.{file_at-insert, from_cond, none_told, paths_read-push, records-with_file, stays-with_file}
 use Rattle.gather_license.proofs.files.PathLemmas.{parts_of_same}
 
--- ---- fronts
+-- ---- prefixes
 
 pub front_itself : {A : Type 0} (xs : List A) → IsFront xs xs
 front_itself xs = ([], sym (append-nil xs))
@@ -83,7 +83,7 @@ takes_none pack = record {
   made_of = λ earlier is. subst (λ reads. IsMadeOf reads pack) (sym (append-nil earlier)) is;
 }
 
--- ears that agree with a pack agree with what it had before
+-- known reads that agree with a pack agree with what it had before
 pub agrees_before : (reads : List AnsweredRead) (old new : PackView) (known_reads : FolderReads) → TakesIn reads old new → Agrees known_reads new → Agrees known_reads old
 agrees_before reads old new known_reads takes agrees = record {
   listing = agrees.listing ∙ takes.listing;
@@ -372,7 +372,7 @@ starves_with {told} {tells} {before} {after} {old} {new} folder pack wanted is m
     starves_among folder made.reads pack wanted wanted is made.is made.made
     (starves_behind pack pack wanted (goes_itself tells after new pack) front) records (λ known_reads agrees. front_itself (wanted known_reads))
 
--- the records of a listing are by any ears that agree with its pack
+-- the records of a listing are by any known reads that agree with its pack
 pub listing_records : (folder : List ℕ) (heard : ReadResult) (known_reads : FolderReads) → Agrees known_reads (listing_pack folder heard) → (listing_pack folder heard).reads ≡ records_by known_reads folder []
 listing_records folder heard known_reads agrees = sym (ap (λ (one : ReadResult). read_record_of Listing folder one ∷ []) agrees.listing)
 
@@ -385,7 +385,7 @@ begins_with folder license_file heard reads new takes paths = record {
   paths = paths ∙ ap (λ (one : ReadResult). fold with_path [] (license_files_in one license_file)) (sym takes.listing);
 }
 
--- the files that are found, where these are by what is heard of the listing
+-- the files that are found, where these are by what is read of the listing
 front_found : (folder : List ℕ) (heard : ReadResult) (license_file : Option (List ℕ)) (known_reads : FolderReads) → Agrees known_reads (listing_pack folder heard)
     → fold with_path [] (license_files_in heard license_file) ≡ fold with_path [] (license_files_in known_reads.listing license_file)
 front_found folder heard license_file known_reads agrees = ap (λ (one : ReadResult). fold with_path [] (license_files_in one license_file)) (sym agrees.listing)

@@ -20,7 +20,7 @@ use Rattle.gather_license.specs.files.NamedFile.{NamedFileView}
 use Rattle.gather_license.specs.files.KnownReads.{FolderReads, known_reads_by, has_hash, holds, tried_of}
 use Rattle.gather_license.specs.files.Pack.{license_files_in, reads_of, pack_paths}
 
--- ---- what is heard of some files, by their paths; of any other, nothing is there
+-- ---- what is read of some files, by their paths; of any other, nothing is there
 
 abbrev files : List (List ℕ × ReadResult) → List (List ℕ) → ReadResult
 files [] parts = absent

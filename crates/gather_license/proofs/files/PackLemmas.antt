@@ -104,7 +104,7 @@ file_at-insert (file ∷ files) path heard at none =
 pub paths_read-push : (reads : List ReadRecord) (path : List ℕ) (heard : ReadResult) → paths_read (reads ++ read_record_of LicenseFile path heard ∷ []) ≡ paths_read reads ++ path ∷ []
 paths_read-push reads path heard = filter_map-append path_read reads (read_record_of LicenseFile path heard ∷ [])
 
--- ---- what was heard, and its normal form
+-- ---- what was read, and its normal form
 
 pub answer_of-normal : (heard : ReadResult) → read_answer_of (normal_heard heard) ≡ read_answer_of heard
 answer_of-normal (failed before after) = refl
@@ -181,7 +181,7 @@ map_twice : {A B C : Type 0} (g : B → C) (f : A → B) (o : Option A) → opti
 map_twice g f None = refl
 map_twice g f (Some x) = refl
 
--- what is told of what is kept at a path
+-- what is reported of what is kept at a path
 pub told_found : (held : List (List ℕ × Result (List ℕ) BadRead)) (path : List ℕ) (found : Option (Result (List ℕ) BadRead)) → found ≡ lookup (is_at (path_order path)) held
     → option_map file_state (file_at (kept_files held) path) ≡ option_map (λ kept. file_state (heard_file kept)) found
 told_found held path found is =
@@ -194,7 +194,7 @@ read_before : (pack : PackView) (path : List ℕ) → KeepsReadFiles pack → is
 read_before pack path kept =
     has_path pack.files path ∙ ap (list_any (same_path path)) kept.paths ∙ list_any-in_path_order (same_path path) (paths_read pack.reads)
 
--- what is told of a file tells whether that was read
+-- what is reported of a file tells whether that was read
 pub told_read : (pack : PackView) (path : List ℕ) (found : Option (Result (List ℕ) BadRead)) → KeepsReadFiles pack
     → option_map file_state (file_at pack.files path) ≡ option_map (λ kept. file_state (heard_file kept)) found
     → is_some found ≡ list_any (same_path path) (paths_read pack.reads)
@@ -215,7 +215,7 @@ pub there-with_file : (pack : PackView) (path : List ℕ) (heard : ReadResult) �
 there-with_file pack path heard none =
     file_at-insert pack.files path (normal_heard heard) path none ∙ ap (λ b. cond b (Some (normal_heard heard)) (file_at pack.files path)) (same_itself path)
 
--- ---- what is told of a file
+-- ---- what is reported of a file
 
 tells_hash-told : (hash : ℕ) (heard : ReadResult) → tells_hash hash (file_state (normal_heard heard)) ≡ has_hash hash heard
 tells_hash-told hash (failed before after) = refl
@@ -238,7 +238,7 @@ told_by : (there : Option ReadResult) (heard : ReadResult) (is : FileState) → 
 told_by None heard is agrees told = cc
 told_by (Some found) heard is agrees told = let same : file_state found ≡ is = cc in sym same ∙ ap file_state (sym (agrees found refl))
 
--- what is told of a file of the pack is told of it by ears that agree with the pack
+-- what is reported of a file of the pack is reported of it by known reads that agree with the pack
 told_heard : (known_reads : FolderReads) (pack : PackView) (path : List ℕ) (is : FileState) → Agrees known_reads pack → option_map file_state (file_at pack.files path) ≡ Some is
     → is ≡ file_state (normal_heard (known_reads.file (components_of path)))
 told_heard known_reads pack path is agrees told = told_by (file_at pack.files path) (known_reads.file (components_of path)) is (agrees.files path) told

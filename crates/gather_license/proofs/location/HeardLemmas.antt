@@ -1,4 +1,4 @@
--- What is heard of a manifest, and what the table holds of it then.
+-- What is read of a manifest, and what the table holds of it then.
 use Rattle.std.proofs.Common.{◌≡◌, ℕ, List, [], ◌∷◌, ◌++◌, length, Some, None, refl, ap, ◌∙◌, slice_get}
 use Rattle.std.specs.Option.{option_map}
 use Rattle.tree_core.specs.declared.file_reads.bad_read.BadRead.{BadRead}

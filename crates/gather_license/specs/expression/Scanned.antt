@@ -64,7 +64,7 @@ abbrev pub text_scanned : Scanner → List ℕ → FileResult
 text_scanned scanner normal =
     taken_by scanner.lists scanner.threshold (xxh32_of normal) (scanner.match_of normal).score (name_taken normal (scanner.match_of normal))
 
--- of what is heard of a file, a text in its normal form; a file is never heard as entries
+-- of what is read of a file, a text in its normal form; a file is never read as entries
 abbrev pub scanned_of : Scanner → ReadResult → FileResult
 scanned_of scanner (failed before after) = Bad (bad.Failed before after)
 scanned_of scanner absent = Bad bad.Absent
@@ -73,7 +73,7 @@ scanned_of scanner not_utf8 = Bad bad.NotUtf8
 scanned_of scanner (text normal) = text_scanned scanner normal
 scanned_of scanner (entries listed) = Bad bad.WrongKind
 
--- a file and what is heard of it, as what comes of it
+-- a file and what is read of it, as what comes of it
 abbrev pub file_scanned : Scanner → List ℕ × ReadResult → ScannedFile
 file_scanned scanner file = record { path = file.0; scanned = scanned_of scanner file.1 }
 

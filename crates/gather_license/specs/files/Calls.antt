@@ -1,5 +1,5 @@
--- Over any tree, whatever it tells of its content: the calls that the steps of making a pack make, and what their answers let
--- be heard.
+-- Over any tree, whatever it tells of its content: the calls that the steps of making a pack make, and what their
+-- answers let be read.
 use Rattle.std.specs.Prelude.{◌≡◌, ℕ, List, [], ◌++◌, Option, Some}
 use Rattle.std.specs.List.{fold}
 use Rattle.std.specs.Option.{option_map, option_to_list}
@@ -14,7 +14,7 @@ use Rattle.gather_license.specs.files.Pack.{license_files_in}
 use Rattle.gather_license.specs.files.Steps.{Agrees, records_by, with_path}
 use Rattle.gather_license.specs.files.View.{PackView, file_at, paths_read}
 
--- a pack is made of these reads: its records are theirs, and what it has is what their answers let hear
+-- a pack is made of these reads: its records are theirs, and what it has is what their answers say
 pub record IsMadeOf (reads : List AnsweredRead) (pack : PackView) : Type 0 where
   pub records : pack.reads ≡ records_of_reads reads
   pub agrees : Agrees (known_reads_by reads) pack
@@ -51,8 +51,9 @@ IsFront {A} front all = (rest : List A) × (all ≡ front ++ rest)
 abbrev pub unread_file : List ℕ → ReadRecord
 unread_file path = read_record_of LicenseFile path absent
 
--- A pack went on over a tree by some reads, and then memory was wanting, perhaps in the call for one more file. By whatever ears
--- agree with the pack that is lost, the files that were read, and that one, are the first ones of those that are wanted.
+-- A pack went on over a tree by some reads, and then memory was wanting, perhaps in the call for one more file. By
+-- whatever known reads agree with the pack that is lost, the files that were read, and that one, are the first ones of
+-- those that are wanted.
 pub record Starves (told tells : Option Content) (before after : ℕ) (old new : List Call) (pack : PackView) (wanted : FolderReads → List (List ℕ)) : Type 0 where
   pub reads : List AnsweredRead
   pub lost : PackView
@@ -65,8 +66,8 @@ pub record Starves (told tells : Option Content) (before after : ℕ) (old new :
 abbrev pub first_records : FolderReads → List ℕ → Option (List ℕ) → List ReadRecord
 first_records known_reads folder license_file = records_by known_reads folder (fold with_path [] (license_files_in known_reads.listing license_file))
 
--- These reads were made over a tree, and then memory was wanting, perhaps in the call of one more. They, and that one, are the
--- first ones of those that are made by what they let hear.
+-- These reads were made over a tree, and then memory was wanting, perhaps in the call of one more. They, and that one,
+-- are the first ones of those that are made by what they say.
 pub record StarvesAmong (told tells : Option Content) (before after : ℕ) (old new : List Call) (folder : List ℕ) (wanted : FolderReads → List ReadRecord) : Type 0 where
   pub reads : List AnsweredRead
   pub next : Option ReadRecord

@@ -1,4 +1,4 @@
--- What is heard of a crate's files, whatever they are heard by, and which clarification holds by it.
+-- What is read of a crate's files, whatever they are read by, and which clarification holds by it.
 use Rattle.std.specs.Prelude.{ℕ, ◌+◌, ◌==◌, Bool, true, false, List, [], ◌∷◌, Option, Some, None, if◌then◌else◌}
 use Rattle.std.specs.List.{list_all}
 use Rattle.deny_text.specs.Hash.{xxh32_of}
@@ -9,13 +9,13 @@ use Rattle.tree_core.specs.file_reads.Heard.{ReadResult, failed, absent, wrong_k
 use Rattle.tree_core.specs.file_reads.Read.{AnsweredRead, first_heard}
 use Rattle.gather_license.specs.files.NamedFile.{NamedFileView}
 
--- what is heard of the listing of a crate's folder, and of the file at a path of some parts
+-- what is read of the listing of a crate's folder, and of the file at a path of some parts
 pub record FolderReads : Type 0 where
   pub listing : ReadResult
   pub file : List (List ℕ) → ReadResult
 
--- What the answers to a crate's reads let hear: that of the first listing; of a file, that of the first read at a path of these
--- parts. Where none was read, nothing is there.
+-- What the answers to a crate's reads say: that of the first listing; of a file, that of the first read at a path of
+-- these parts. Where none was read, nothing is there.
 abbrev pub known_reads_by : List AnsweredRead → FolderReads
 known_reads_by reads = record {
   listing = first_heard (λ read. is_kind Listing read.kind) reads;
@@ -31,7 +31,7 @@ has_hash hash not_utf8 = false
 has_hash hash (text bytes) = xxh32_of (normal_of bytes) == hash
 has_hash hash (entries listed) = false
 
--- the file is heard as a text whose normal form has the stated hash
+-- the file is read as a text whose normal form has the stated hash
 abbrev pub matches : FolderReads → NamedFileView → Bool
 matches known_reads named = has_hash named.hash (known_reads.file (components_of named.path))
 

@@ -31,8 +31,8 @@ abbrev pub with_license_file : Option (List ℕ) → List (List ℕ) → List (L
 with_license_file None names = names
 with_license_file (Some file) names = if list_any (λ name. ends_with_parts name file) names then names else names ++ file ∷ []
 
--- Of a listing that is heard as entries: the file names that begin `LICENSE` or `COPYING`, and the crate's `license_file`. Of any
--- other listing nothing is found.
+-- Of a listing that is read as entries: the file names that begin `LICENSE` or `COPYING`, and the crate's
+-- `license_file`. Of any other listing nothing is found.
 abbrev pub license_files_in : ReadResult → Option (List ℕ) → List (List ℕ)
 license_files_in (failed before after) license_file = []
 license_files_in absent license_file = []

@@ -1,4 +1,4 @@
--- What the steps of making a pack say by whatever ears agree with the pack that is left.
+-- What the steps of making a pack say by whatever known reads agree with the pack that is left.
 use Rattle.std.specs.Prelude.{◌≡◌, ℕ, List, [], ◌∷◌, ◌++◌, map, Option, Some, if◌then◌else◌}
 use Rattle.std.specs.List.{fold, list_any}
 use Rattle.std.specs.BTreeMap.{insert_entry}
@@ -10,7 +10,7 @@ use Rattle.gather_license.specs.files.KnownReads.{FolderReads}
 use Rattle.gather_license.specs.files.Pack.{first_spellings, license_files_in, same_path}
 use Rattle.gather_license.specs.files.View.{PackView, file_at, normal_heard, paths_read}
 
--- what the pack has was heard by these ears
+-- what the pack has was read by these known reads
 pub record Agrees (known_reads : FolderReads) (pack : PackView) : Type 0 where
   pub listing : known_reads.listing ≡ pack.listing
   pub files : (path : List ℕ) (heard : ReadResult) → file_at pack.files path ≡ Some heard → normal_heard (known_reads.file (components_of path)) ≡ heard

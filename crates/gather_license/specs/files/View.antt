@@ -13,7 +13,7 @@ use Rattle.tree_core.specs.file_reads.Heard.{ReadResult, failed, absent, wrong_k
 use Rattle.tree_core.specs.file_reads.Views.{heard_file}
 use Rattle.gather_license.specs.files.Pack.{in_path_order}
 
--- A crate's folder; what was heard of its listing; the files in path order, each with what was heard of it, a text in its
+-- A crate's folder; what was read of its listing; the files in path order, each with what was read of it, a text in its
 -- normal form; and the records of the reads.
 pub record PackView : Type 0 where
   pub folder : List ℕ
@@ -21,7 +21,7 @@ pub record PackView : Type 0 where
   pub files : List (List ℕ × ReadResult)
   pub reads : List ReadRecord
 
--- a text in its normal form; anything else as it was heard
+-- a text in its normal form; anything else as it was read
 abbrev pub normal_heard : ReadResult → ReadResult
 normal_heard (failed before after) = failed before after
 normal_heard absent = absent
@@ -37,7 +37,7 @@ kept_files held = map (λ file. (file.0, heard_file file.1)) held
 abbrev pub paths_of : List (List ℕ × ReadResult) → List (List ℕ)
 paths_of files = map (λ file. file.0) files
 
--- what was heard of the file at a path
+-- what was read of the file at a path
 abbrev pub file_at : List (List ℕ × ReadResult) → List ℕ → Option ReadResult
 file_at files path = lookup (is_at (path_order path)) files
 
@@ -48,7 +48,7 @@ path_read read = if is_kind LicenseFile read.kind then Some read.path else None
 abbrev pub paths_read : List ReadRecord → List (List ℕ)
 paths_read reads = filter_map path_read reads
 
--- why a listing is not heard as entries; a listing is never heard as a text
+-- why a listing is not read as entries; a listing is never read as a text
 abbrev pub unlisted_of : ReadResult → Option BadRead
 unlisted_of (failed before after) = Some (bad.Failed before after)
 unlisted_of absent = Some bad.Absent

@@ -1,4 +1,4 @@
--- Over any tree, whatever it tells of its content: the calls of locating a field, and what their answers let hear of the
+-- Over any tree, whatever it tells of its content: the calls of locating a field, and what their answers say of the
 -- manifest.
 use Rattle.std.specs.Prelude.{◌≡◌, ℕ, List, ◌++◌, Option}
 use Rattle.std.specs.Option.{option_to_list}
@@ -12,21 +12,22 @@ use Rattle.diag_core.specs.File.{File}
 use Rattle.gather_license.specs.declared.location.location.LocatedField.{LocatedField}
 use Rattle.gather_license.specs.location.Location.{IsLocated, located_of}
 
--- what the answers to a crate's reads let hear of its manifest: that of the first that is read; where none was, nothing is there
+-- what the answers to a crate's reads say of its manifest: that of the first that is read; where none was, nothing is
+-- there
 abbrev pub manifest_by : List AnsweredRead → ReadResult
 manifest_by reads = first_heard (λ read. is_kind Manifest read.kind) reads
 
--- A field was located over a tree by these reads, of which the located one has the records: their calls were made, and no other,
--- and the location and the table are those by what the answers let hear of the manifest. A manifest's call is the same for a crate
--- in any folder.
+-- A field was located over a tree by these reads, of which the located one has the records: their calls were made, and
+-- no other, and the location and the table are those by what the answers say of the manifest. A manifest's call is the
+-- same for a crate in any folder.
 pub record IsLocatedBy (told tells : Option Content) (before after : ℕ) (old new : List Call) (path field : List ℕ) (files : List File) (located : LocatedField) (joined : List File) : Type 0 where
   pub reads : List AnsweredRead
   pub records : records_of_reads reads ≡ option_to_list located.read
   pub made : (folder : List ℕ) → MadeReads told tells before after old new folder reads
   pub is : IsLocated path field files (manifest_by reads) located joined
 
--- These reads were made, and then memory was wanting, perhaps in the call of one more: they, and that one, are the first ones of
--- those that are made by what they let hear.
+-- These reads were made, and then memory was wanting, perhaps in the call of one more: they, and that one, are the
+-- first ones of those that are made by what they say.
 pub record StarvesLocating (told tells : Option Content) (before after : ℕ) (old new : List Call) (path field : List ℕ) (files : List File) : Type 0 where
   pub reads : List AnsweredRead
   pub next : Option ReadRecord

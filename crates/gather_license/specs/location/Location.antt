@@ -1,4 +1,4 @@
--- Where the licence field of a crate stands in its manifest, and which manifests join the file table.
+-- Where the licence field of a crate is in its manifest, and which manifests join the file table.
 use Rattle.std.specs.Prelude.{◌≡◌, ℕ, ◌≤◌, List, [], ◌∷◌, ◌++◌, length, true, Option, Some, None, if◌then◌else◌}
 use Rattle.std.specs.Option.{option_and_then, option_map}
 use Rattle.std.specs.Str.{IsCharBoundary, bytes_eq}
@@ -22,7 +22,7 @@ counted_in field source span = if bytes_eq (text_at source span) field then Some
 abbrev pub span_in : List ℕ → List ℕ → Option Span
 span_in field source = option_and_then (counted_in field source) (license_span_of source)
 
--- in what is heard of a manifest: a text alone has one
+-- in what is read of a manifest: a text alone has one
 abbrev pub span_heard : List ℕ → ReadResult → Option Span
 span_heard field (failed before after) = None
 span_heard field absent = None
@@ -31,7 +31,7 @@ span_heard field not_utf8 = None
 span_heard field (text bytes) = span_in field bytes
 span_heard field (entries listed) = None
 
--- ---- by the file table, and by what is heard
+-- ---- by the file table, and by what is read
 
 abbrev pub coord_at : ℕ → Span → Coord
 coord_at id span = record { file = id; span = span }
@@ -47,7 +47,7 @@ field_in_table field files id = record {
 abbrev pub manifest_record : List ℕ → ReadResult → ReadRecord
 manifest_record path manifest = read_record_of Manifest path manifest
 
--- in what is heard of the manifest, which is then the next file of the table
+-- in what is read of the manifest, which is then the next file of the table
 abbrev pub in_heard : List ℕ → List ℕ → List File → ReadResult → LocatedField
 in_heard path field files manifest = record {
   location = option_map (coord_at (length files)) (span_heard field manifest);
@@ -58,8 +58,8 @@ abbrev pub located_by : List ℕ → List ℕ → List File → ReadResult → O
 located_by path field files manifest None = in_heard path field files manifest
 located_by path field files manifest (Some id) = field_in_table field files id
 
--- The location of a field: in the file of the table that has the manifest's path by parts, also where that is the policy,
--- else in what is heard of the manifest.
+-- The location of a field: in the file of the table that has the manifest's path by parts, also where that is the
+-- policy, else in what is read of the manifest.
 abbrev pub located_of : List ℕ → List ℕ → List File → ReadResult → LocatedField
 located_of path field files manifest = located_by path field files manifest (file_id_at files path)
 
@@ -90,7 +90,7 @@ files_after path field files manifest = files_by path field files manifest (file
 
 -- ---- what locating answers
 
--- the field was located, and the table is what it is then, by what is heard of the manifest
+-- the field was located, and the table is what it is then, by what is read of the manifest
 pub record IsLocated (path field : List ℕ) (old : List File) (manifest : ReadResult) (located : LocatedField) (new : List File) : Type 0 where
   pub located_is : located ≡ located_of path field old manifest
   pub files_are : new ≡ files_after path field old manifest

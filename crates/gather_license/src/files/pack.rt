@@ -74,7 +74,7 @@ pub struct TriedClarification {
     pub missing: Option<usize>,
 }
 
-/// A pack, and what is told of a file of it.
+/// A pack, and what is reported of a file of it.
 #[derive(Drop)]
 struct FileLookUp {
     pack: LicensePack,
@@ -110,7 +110,7 @@ fn number_where(absent: bool, number: usize) -> Option<usize>
 }
 
 impl LicensePack {
-    /// A pack without files, by what was heard of the listing of the folder.
+    /// A pack without files, by what was read of the listing of the folder.
     fn of_listing(
         alloc: Global,
         folder: &str,
@@ -135,7 +135,7 @@ impl LicensePack {
         })
     }
 
-    /// The pack and a further file, which was just read, and what is told of that.
+    /// The pack and a further file, which was just read, and what is reported of that.
     fn with_file(
         self,
         alloc: Global,
@@ -166,7 +166,7 @@ impl LicensePack {
         Ok(FileLookUp { pack, told })
     }
 
-    /// What is told of a file, where one at a path of the same parts was read.
+    /// What is reported of a file, where one at a path of the same parts was read.
     fn told(&self, key: &FileKey) -> Option<FileState>
         ensures told { result ≡ option_map file_state (file_at self.now.files key.now) }
         ensures read { is_some result ≡ list_any (same_path key.now) (paths_read self.now.reads) }
@@ -177,7 +177,8 @@ impl LicensePack {
         }
     }
 
-    /// The pack with the file at a path, which is read where none of the same parts was, and what is told of it.
+    /// The pack with the file at a path, which is read where none of the same parts was, and what is reported
+    /// of it.
     fn look_up<T: Tree>(
         self,
         alloc: Global,
@@ -240,7 +241,7 @@ impl LicensePack {
         tree: &mut T,
         files: &[F],
     ) -> Result<TriedClarification, AllocError>
-        // by whatever ears that agree with the pack that is left, so by those of the crate's own reads
+        // by whatever known reads that agree with the pack that is left, so by those of the crate's own reads
         ensures paths { IfOk result (λ tried. (known_reads : FolderReads) → Agrees known_reads tried.pack
             → paths_read tried.pack.reads
             ≡ fold with_path (paths_read self.reads) (looked_of known_reads (map F.named files.now))) }
@@ -347,7 +348,7 @@ impl LicensePack {
     pub fn into_reads(self) -> Reads
         ensures reads { result ≡ self.reads }
         ensures sorted { paths_of self.files ≡ in_path_order (paths_read result) }
-        // over any tree: what the pack has is what the answers to the reads that it is made of let hear
+        // over any tree: what the pack has is what the answers to the reads that it is made of say
         ensures answered { (reads : List AnsweredRead) → IsMadeOf reads self
             → (records_of_reads reads ≡ result) × Agrees (known_reads_by reads) self }
     {

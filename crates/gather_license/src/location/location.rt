@@ -18,7 +18,7 @@ use std::alloc::{AllocError, Global};
 use tree_core::file_reads::{FileHeard, file_record, read_file};
 use tree_core::{ReadKind, ReadRecord, Tree};
 
-/// Where a field stands, and the record of the read of its manifest, where that was read.
+/// Where a field is, and the record of the read of its manifest, where that was read.
 #[derive(Drop)]
 pub struct LocatedField {
     /// None where the manifest does not write the field.
@@ -57,7 +57,7 @@ fn locate_in(files: &mut Files, id: FileId, field: &str) -> LocatedField
     }
 }
 
-/// What is heard of a manifest. Its path stands by the root, and not by a folder of its own.
+/// What is read of a manifest. Its path is by the root, and not by a folder of its own.
 fn read_manifest<T: Tree>(
     alloc: Global,
     tree: &mut T,
@@ -96,7 +96,7 @@ fn join_where_counted(
     }
 }
 
-/// By what was heard of the manifest.
+/// By what was read of the manifest.
 fn locate_heard(
     alloc: Global,
     files: &mut Files,

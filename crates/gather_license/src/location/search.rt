@@ -19,7 +19,7 @@ fn cuts_out(text: &str, span: Span, field: &str) -> bool
     there == field.as_bytes()
 }
 
-/// The place of a field in the text of a manifest, whose licence field stands at a place, if there is one.
+/// The place of a field in the text of a manifest, whose licence field is at a place, if there is one.
 pub(crate) fn counted_at(text: &str, span: Option<Span>, field: &str) -> Option<Span>
     requires { IsFound text.now span }
     ensures value { result ≡ spec.span_in field.now text.now }

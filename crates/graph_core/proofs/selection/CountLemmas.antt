@@ -92,7 +92,7 @@ some-other test [] some = absurd (true-false (sym some))
 some-other test (x ∷ xs) some = some-one test x xs (test x) refl some (some-other test xs)
 
 module _ (graph : Graph) (choice : Choice) (rising : AreRising (ids_of graph)) where
-  -- the standing of a node's crate stands at the node's place
+  -- the standing of a node's crate is at the node's place
   standing-at : (place : ℕ) (node : CrateNode) → slice_get graph.nodes place ≡ Some node
       → slice_get (standings_in graph choice) place ≡ Some (standing_of graph choice node.krate)
   standing-at place node at =

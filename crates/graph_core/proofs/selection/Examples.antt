@@ -1,4 +1,4 @@
--- Computed examples: each row holds as it stands.
+-- Computed examples: each row holds as it is there.
 use Rattle.std.proofs.Common.{◌≡◌, codes, true, false, Some, None, refl}
 use Rattle.graph_core.specs.selection.Choice.{first_cut, fits, same_version}
 use Rattle.graph_core.specs.selection.Roots.{is_published_nowhere}

@@ -5,7 +5,7 @@ use Rattle.std.specs.Option.{option_to_list}
 use Rattle.deny_text.specs.Fronts.{StandsInFront}
 use Rattle.graph_core.specs.selection.Choice.{ExcludeSpecView, read_one, spec_read}
 
--- what stands in front stays there
+-- what is in front stays there
 pub front_then : {A : Type 0} (first second third : List A) → StandsInFront first second → StandsInFront second third → StandsInFront first third
 front_then first second third (more, is) (others, grown) = (more ++ others, grown ∙ ap (λ items. items ++ others) is ∙ append_assoc first more others)
 

@@ -1,4 +1,4 @@
--- Ids that rise strictly: no id stands at two places, and the crate of an id is one.
+-- Ids that rise strictly: no id is at two places, and the crate of an id is one.
 use Rattle.std.proofs.Common.{◌≡◌, ℕ, zero, suc, ◌<◌, List, [], ◌∷◌, length, slice_get, slice_index_or, Contains, T, is_some, None, Some, option_map, unwrap_or, refl, sym, ◌∙◌, ap, subst, nat_cmp, arith}
 use Rattle.std.specs.List.Sorted.{IsStrictlySortedBy}
 use Rattle.std.specs.declared.cmp.Ordering.TheVariants.{Less, Equal}

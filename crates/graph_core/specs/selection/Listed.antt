@@ -12,7 +12,7 @@ use Rattle.graph_core.specs.selection.Choice.{Choice}
 use Rattle.graph_core.specs.selection.Roots.{crates_of}
 use Rattle.graph_core.specs.selection.Walks.{Reached}
 
--- the ids rise strictly, each has the property, each that has it stands in the list, and each item is the crate of its id
+-- the ids rise strictly, each has the property, each that has it is in the list, and each item is the crate of its id
 pub record IsListOf (graph : Graph) (Has : List ℕ → Type 0) (crates : List CrateRecord) : Type 0 where
   pub rising : AreRising (ids_in crates)
   pub sound : All Has (ids_in crates)
@@ -60,7 +60,7 @@ pub record IsChosen (graph : Graph) (choice : Choice) (chosen : ReachedCrates) :
 
 -- ---- the same of crates in memory
 
--- a crate of which nothing stands beside is reached without no kind
+-- a crate of which nothing is beside is reached without no kind
 abbrev pub listed_crates : List Krate → List Kinds → List ReachedCrate
 listed_crates [] without = []
 listed_crates (krate ∷ crates) [] = record { krate = record_of krate; without = no_kinds } ∷ listed_crates crates []

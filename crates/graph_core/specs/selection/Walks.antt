@@ -17,7 +17,7 @@ pub record Step : Type 0 where
 abbrev pub link_of_step : Step → Link
 link_of_step step = record { to = step.to; kinds = step.kinds }
 
--- an edge of the graph: it stands among those of the node that it begins at
+-- an edge of the graph: it is among those of the node that it begins at
 pub record IsEdge (graph : Graph) (step : Step) : Type 0 where
   pub node : CrateNode
   pub stands : Contains graph.nodes node

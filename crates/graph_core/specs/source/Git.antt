@@ -101,7 +101,7 @@ query_text pairs = join_with_byte 38 (map pair_text pairs)
 abbrev pub text_without_master : List Pair → List ℕ
 text_without_master pairs = query_text (filter is_kept pairs)
 
--- what is left of pairs with `branch=master`; no query where it stands alone
+-- what is left of pairs with `branch=master`; no query where it is alone
 abbrev pub query_without_master : List Pair → Option (List ℕ)
 query_without_master pairs = if length pairs == 1 then None else Some (text_without_master pairs)
 

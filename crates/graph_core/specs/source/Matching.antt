@@ -16,7 +16,7 @@ IsCratesIo address =
     IsAt (codes "github.com") (codes "/rust-lang/crates.io-index") address
     ⊎ IsAt (codes "index.crates.io") (codes "/") address
 
--- the second path is the first, or where it need not be exact a front of it, in bytes
+-- the second path is the first, or where it need not be exact a prefix of it, in bytes
 abbrev pub PathMatches : Bool → List ℕ → List ℕ → Type 0
 PathMatches true own path = own ≡ path
 PathMatches false own path = starts_with (λ x y. x == y) own path ≡ true

@@ -69,7 +69,7 @@ source_of_kind text kind rest is_sparse =
 abbrev pub is_plus : ℕ → Bool
 is_plus byte = byte == 43
 
--- what stands before the first `+`, and what stands behind it; none without one
+-- what is before the first `+`, and what is behind it; none without one
 abbrev pub cut_at_plus : List ℕ → Option (List ℕ × List ℕ)
 cut_at_plus text =
     if nat_lt (position_or_len is_plus text) (length text)
@@ -79,7 +79,7 @@ abbrev pub source_of_cut : List ℕ → Bool → Option (List ℕ × List ℕ) �
 source_of_cut text is_sparse (Some (kind, rest)) = source_of_kind text kind rest is_sparse
 source_of_cut text is_sparse None = Err NoPlus
 
--- The source that a text tells of, for a crate with this manifest. The kind stands before the first `+`, and the
+-- The source that a text tells of, for a crate with this manifest. The kind is before the first `+`, and the
 -- rest behind it.
 unfoldable pub source_of : List ℕ → Option (List ℕ) → List ℕ → SourceReading Source
 source_of text manifest sparse_dir = source_of_cut text (is_sparse_at manifest sparse_dir) (cut_at_plus text)

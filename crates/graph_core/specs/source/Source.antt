@@ -1,4 +1,4 @@
--- Sources of crates: what is told of one, its text, and the order of sources.
+-- Sources of crates: what is reported of one, its text, and the order of sources.
 use Rattle.std.specs.Prelude.{◌≡◌, ℕ, Bool, true, false, not, List, [], ◌++◌, codes, Option, Some, None, bytes_eq}
 use Rattle.std.specs.Ordering.{on, then_cmp, nat_cmp}
 use Rattle.std.specs.Option.{option_cmp}
@@ -73,7 +73,7 @@ rank_of (Git spec address value) = git_rank spec
 rank_of (Registry address) = 6
 rank_of (Sparse address) = 7
 
--- crates.io is told without an address
+-- crates.io is reported without an address
 abbrev pub address_text : Source → List ℕ
 address_text (CratesIo is_sparse) = []
 address_text (Git spec address value) = serialize address

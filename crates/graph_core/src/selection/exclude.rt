@@ -30,7 +30,7 @@ pub struct ExcludeSpec {
 /// Specs, of which each leaves crates out.
 pub type ExcludeSpecs = ListOf<ExcludeSpec>;
 
-/// What stands before the first `@`, or without one before the first `:`, and what stands behind it.
+/// What is before the first `@`, or without one before the first `:`, and what is behind it.
 fn first_cut(text: &str) -> Option<(&str, &str)>
     ensures { option_map (λ cut. (cut.0.now, cut.1.now)) result ≡ spec.first_cut text.now }
 {
@@ -160,7 +160,7 @@ fn compare_versions(version: &Version, other: &Version) -> Ordering
     numbers.then(pre.then(version.build.as_str().cmp(other.build.as_str())))
 }
 
-/// The order of versions, before all of which none stands.
+/// The order of versions, before all of which none is there.
 fn compare_wanted(version: &Option<Version>, other: Option<&Version>) -> Ordering
     ensures { result ≡ key_order (version_key (option_map parts_of version.now))
         (version_key (option_map (λ version. parts_of version.now) other.entry)) }
@@ -173,7 +173,7 @@ fn compare_wanted(version: &Option<Version>, other: Option<&Version>) -> Orderin
     }
 }
 
-/// How a spec stands to one of a name and a version.
+/// How a spec is to one of a name and a version.
 fn compare_to(spec: &ExcludeSpec, name: &str, version: Option<&Version>) -> Ordering
     ensures { result ≡ key_order (key_of (exclude_spec_of spec.now))
         (key_with name.now (option_map (λ version. parts_of version.now) version.entry)) }
@@ -182,7 +182,7 @@ fn compare_to(spec: &ExcludeSpec, name: &str, version: Option<&Version>) -> Orde
     spec.name.as_str().cmp(name).then(wanted)
 }
 
-/// How a spec stands to another.
+/// How a spec is to another.
 fn compare_specs(spec: &ExcludeSpec, other: &ExcludeSpec) -> Ordering
     ensures { result ≡ key_order (key_of (exclude_spec_of spec.now)) (key_of (exclude_spec_of other.now)) }
 {

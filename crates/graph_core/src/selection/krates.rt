@@ -158,7 +158,7 @@ fn left_out(include: Include) -> Kinds
     }
 }
 
-/// What stands at a place; nothing behind the end.
+/// What is at a place; nothing behind the end.
 fn without_at(without: &[Kinds], place: usize) -> Kinds
     ensures { result ≡ spec.without_at without.now place }
 {
@@ -233,7 +233,7 @@ impl Krates {
     }
 
     /// The crates that are checked: those that are reached, where dev is not included also without dev
-    /// dependencies, and where build is not also without build dependencies. They stand in the order of
+    /// dependencies, and where build is not also without build dependencies. They are in the order of
     /// their ids.
     pub fn selected(&self, alloc: Global, include: Include) -> Result<KrateRefs<'_>, AllocError>
         ensures value { IfOk result (λ refs. map record_behind refs ≡ selected_in include self.now) }

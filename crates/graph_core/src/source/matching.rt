@@ -18,7 +18,7 @@ fn is_crates_io(address: &Url) -> bool
         || is_at("index.crates.io", "/", address)
 }
 
-/// Whether one path is the other, or where it need not be exact a front of it.
+/// Whether one path is the other, or where it need not be exact a prefix of it.
 fn has_path(exact: bool, own: &str, path: &str) -> bool
     ensures { IsTrue result ↔ PathMatches exact own.now path.now }
 {
@@ -36,7 +36,7 @@ fn address_matches(exact: bool, own: &Url, address: &Url) -> bool
 }
 
 /// Whether a source matches an address: crates.io by the host and the path of its two addresses, another
-/// source by equal hosts and, where it is to be exact, equal paths, else an address whose path is a front of
+/// source by equal hosts and, where it is to be exact, equal paths, else an address whose path is a prefix of
 /// the source's.
 pub fn matches_address(source: &Source, address: &Url, exact: bool) -> bool
     ensures { IsTrue result ↔ Matches exact source.now address.now }

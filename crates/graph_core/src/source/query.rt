@@ -79,7 +79,7 @@ fn last_spec(pairs: &[(Text, Text)]) -> Option<&(Text, Text)>
     found
 }
 
-/// Appends `name=value`, behind an `&` where text stands before it.
+/// Appends `name=value`, behind an `&` where text is before it.
 fn push_pair(text: &mut String, pair: &(Text, Text)) -> Result<(), AllocError>
     ensures { OnOk result (string_bytes text.new ≡ spec.with_pair (string_bytes text.old) pair.now) }
 {

@@ -76,7 +76,7 @@ fn git_source(alloc: Global, rest: &str) -> Result<Source, SourceError>
     })
 }
 
-/// What stands before the first `+`, and what stands behind it.
+/// What is before the first `+`, and what is behind it.
 fn cut_at_plus(text: &str) -> Option<(&str, &str)>
     ensures { option_map (λ cut. (cut.0.now, cut.1.now)) result ≡ spec.cut_at_plus text.now }
 {
@@ -84,7 +84,7 @@ fn cut_at_plus(text: &str) -> Option<(&str, &str)>
 }
 
 impl Source {
-    /// Reads a source as cargo writes it. A sparse crates.io is told by the folder of the manifest:
+    /// Reads a source as cargo writes it. A sparse crates.io is reported by the folder of the manifest:
     /// `sparse_dir` is the name of the folder that cargo keeps crates of the sparse index in.
     #[tactic(auto, unfolding(crate::specs::source::Reading::source_of))]
     pub fn from_metadata(

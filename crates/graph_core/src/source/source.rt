@@ -41,7 +41,7 @@ pub enum Source {
 pub enum SourceError {
     /// The text has no `+`.
     NoPlus,
-    /// What stands before the first `+` is none of `registry`, `sparse` and `git`.
+    /// What is before the first `+` is none of `registry`, `sparse` and `git`.
     UnknownKind,
     /// The address is over 65,536 bytes, or is none.
     BadUrl,

@@ -1,4 +1,4 @@
--- Places of a string, as places of the text that it stands in.
+-- Places of a string, as places of the text that it is in.
 use Rattle.std.proofs.Common.{◌≡◌, ◌∙◌, sym, subst, ℕ, Bool, true, ◌+◌, ◌-◌, ◌<◌, ◌≤◌, ◌⊎◌, inl, inr, List, length, drop, get_or, arith}
 use Rattle.std.specs.Prelude.{◌^◌, min, slice_range}
 use Rattle.std.specs.List.{position_or_len}

@@ -44,7 +44,7 @@ spelled_string text expected value placed = string_by text expected value.span v
 
 -- ---- the part behind the split
 
--- it is what stands behind a border of the string
+-- it is what is behind a border of the string
 abbrev CutStands : List ℕ → Option (List ℕ × List ℕ) → Type 0
 CutStands said None = ⊤
 CutStands said (Some cut) = (i : ℕ) × IsCharBoundary said i × (cut.1 ≡ drop i said)
@@ -79,7 +79,7 @@ split_stands : (said : List ℕ) → IsUtf8 said → SplitStands said (split_of 
 split_stands said utf8 = split_by_cut said (cut_at is_at_sign said) utf8 (cut_stands said is_at_sign at_sign_low utf8)
 
 module _ (text : List ℕ) (utf8 : IsUtf8 text) where
-  -- as many bytes at the end of a place as stand behind a border
+  -- as many bytes at the end of a place as are behind a border
   end_lies : (span : Span) (rest : List ℕ) → LiesBetween text span → (i : ℕ) → IsCharBoundary (slice_range text span.start span.end) i
       → rest ≡ drop i (slice_range text span.start span.end) → LiesBetween text (end_of span rest)
   end_lies span rest lies i border is =

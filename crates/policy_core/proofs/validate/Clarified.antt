@@ -44,7 +44,7 @@ pub judged_good : (lists : CatalogLists) (file : ℕ) (clarification : Clarifica
 judged_good lists file clarification read sorted is puts =
     subst (λ (judged : ItemOrFinding ValidClarification). PutsJudgedInOrder judged (Ok sorted)) (sym (good lists file clarification read is)) puts
 
--- a fault was told
+-- a fault was reported
 pub judged_bad : (lists : CatalogLists) (file : ℕ) (clarification : Clarification) (fault : ParseError) (told : Diagnostic)
     → first_fault strict_mode lists clarification.expression.value ≡ Some fault
     → told ≡ no_expression file clarification fault

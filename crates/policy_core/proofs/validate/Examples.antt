@@ -55,7 +55,7 @@ empty = refl
 escaped : clarification_judged lists 3 (clarification (codes "MIT AND") true) ≡ Err (told (at 10 17) (codes "unexpected term"))
 escaped = refl
 
--- the others are told, each in its place
+-- the others are reported, each in its place
 one_of_three : findings_by_each (clarification_judged lists 3)
     (clarification [] false ∷ clarification (codes "ISC") false ∷ clarification (codes "x") false ∷ [])
     ≡ told (at 10 10) (codes "expression is empty") ∷ told (at 10 11) (codes "unknown term") ∷ []

@@ -40,7 +40,7 @@ held_more judge items item judged before after is added so_far =
     ∙ ap (λ j. kept_by judge items ++ option_to_list (result_ok j)) is
     ∙ sym (kept_more judge items item)
 
--- what is told of items so far, and of one more
+-- what is reported of items so far, and of one more
 pub mapped_more : {A B : Type 0} (f : A → B) (items : List A) (item : A) (first before after : List B)
     → after ≡ before ++ f item ∷ [] → before ≡ first ++ map f items → after ≡ first ++ map f (items ++ item ∷ [])
 mapped_more f items item first before after added so_far =

@@ -1,4 +1,4 @@
--- What is read from a value that stands in a text: each place that it keeps or tells lies in that text, between
+-- What is read from a value that is in a text: each place that it keeps or tells lies in that text, between
 -- characters.
 use Rattle.std.specs.Prelude.{ℕ, List, Option, Some, None, Ok, Err, ⊤}
 use Rattle.std.specs.List.{AllByRecursion}
@@ -12,7 +12,7 @@ use Rattle.toml_subset.specs.Data.{Toml}
 abbrev pub IsToldIn : List ℕ → ShapeFault → Type 0
 IsToldIn text fault = LiesBetween text fault.span
 
--- the places that a thing keeps are in the text, or those at which its faults are told
+-- the places that a thing keeps are in the text, or those at which its faults are reported
 abbrev pub StaysIn : {A : Type 0} → (List ℕ → A → Type 0) → List ℕ → ShapeReading A → Type 0
 StaysIn keeps text (Ok x) = keeps text x
 StaysIn keeps text (Err faults) = AllByRecursion (IsToldIn text) faults

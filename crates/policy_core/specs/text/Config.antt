@@ -17,7 +17,7 @@ use Rattle.policy_core.specs.declared.text.error.ConfigError.{ConfigError}
 use Rattle.policy_core.specs.declared.text.error.ConfigError.TheVariants.{Memory, ConfigRead, ConfigSyntax}
 use Rattle.policy_core.specs.declared.text.error.ConfigError.TheVariants.{ConfigShape, NotCarried}
 
--- ---- what is told
+-- ---- what is reported
 
 -- the next step, where the one before was not refused
 abbrev pub then_config : {X Y : Type 0} → (X → Result Y ConfigError) → Result X ConfigError
@@ -52,7 +52,7 @@ config_of_text lists text = then_config (λ value. then_config if_carried (confi
 
 -- ---- what is answered
 
--- a call answers what is told, or for want of memory
+-- a call answers what is reported, or for want of memory
 abbrev pub AnswersConfigBy : {X Y : Type 0} → (Y → X) → Result X ConfigError → Result Y ConfigError → Type 0
 AnswersConfigBy view told (Ok value) = told ≡ Ok (view value)
 AnswersConfigBy view told (Err Memory) = ⊤

@@ -16,8 +16,9 @@ pub record Grant : Type 0 where
   pub spec : Spec
   pub allowed : List LicenseReq
 
--- What verdicts hang on: whether private crates are passed over, the registries and addresses that make one private, the
--- licensees that are allowed, in sorted order, and all exceptions, those of the policy and then those of its exceptions file.
+-- What verdicts depend on: whether private crates are passed over, the registries and addresses that make one private,
+-- the licensees that are allowed, in sorted order, and all exceptions, those of the policy and then those of its
+-- exceptions file.
 pub record Policy : Type 0 where
   pub ignores : Bool
   pub registries : List (List ℕ)

@@ -1,4 +1,4 @@
--- What of a valid policy verdicts hang on.
+-- What of a valid policy verdicts depend on.
 use Rattle.std.specs.Prelude.{map}
 use Rattle.spdx_terms.specs.declared.term.LicenseReq.{LicenseReq}
 use Rattle.policy_parts.specs.declared.entries.licensee.Licensee.{Licensee}

@@ -11,7 +11,7 @@ use Rattle.diag_core.specs.declared.diagnostic.Diagnostic.{Diagnostic}
 use Rattle.policy_core.specs.declared.valid.policy.ValidClarification.{ValidClarification}
 use Rattle.policy_core.specs.declared.valid.policy.ValidConfig.{ValidConfig}
 
--- the same items, none more and none less, in order; those that tie stand as they stood
+-- the same items, none more and none less, in order; those that tie are as they stood
 pub record PutsInOrder {T : Type 0} (cmp : T → T → Ordering) (written sorted : List T) : Type 0 where
   pub same : IsPermutation written sorted
   pub rises : IsSorted cmp sorted
@@ -37,7 +37,7 @@ pub record PutsPolicyInOrder (written sorted : ValidConfig) : Type 0 where
   pub allowed : PutsInOrder by_printed written.allowed sorted.allowed
   pub clarifications : AllZip PutsFilesInOrder written.clarifications sorted.clarifications
 
--- the same where it is kept; what is told stays
+-- the same where it is kept; what is reported stays
 abbrev pub PutsJudgedInOrder : Result ValidClarification Diagnostic → Result ValidClarification Diagnostic → Type 0
 PutsJudgedInOrder (Ok written) (Ok sorted) = PutsFilesInOrder written sorted
 PutsJudgedInOrder (Ok written) (Err told) = ⊥

@@ -30,7 +30,7 @@ use Rattle.policy_core.specs.declared.valid.policy.ValidException.{ValidExceptio
 
 -- ---- items that are kept, or are found wrong
 
--- an item as it is kept, or what is told of it
+-- an item as it is kept, or what is reported of it
 abbrev pub ItemOrFinding : Type 0 → Type 0
 ItemOrFinding T = Result T Diagnostic
 

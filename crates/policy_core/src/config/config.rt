@@ -30,7 +30,7 @@ pub struct Config {
     pub include_dev: bool,
     /// Whether the crates are checked that serve building alone.
     pub include_build: bool,
-    /// Where keys stand that were removed, in the order of the table of keys.
+    /// Where keys are that were removed, in the order of the table of keys.
     pub deprecated_spans: Spans,
 }
 

@@ -25,14 +25,14 @@ use toml_value::refuse_kind;
 pub struct RootConfig {
     /// What it says of licences, if it says anything.
     pub licenses: Option<Config>,
-    /// Which crates are looked at. A key that was moved here and stands at the root of the file has its value
+    /// Which crates are looked at. A key that was moved here and is at the root of the file has its value
     /// in place of the one in the table `graph`.
     pub graph: GraphConfig,
     /// How findings are printed, `feature-depth` at the root in place of the one in the table `output`.
     pub output: OutputConfig,
-    /// Where keys stand at the root that were moved to `graph`, in the order of the table of keys.
+    /// Where keys are at the root that were moved to `graph`, in the order of the table of keys.
     pub graph_deprecated: Spans,
-    /// Where the key stands at the root that was moved to `output`.
+    /// Where the key is at the root that was moved to `output`.
     pub output_deprecated: Option<Span>,
 }
 
@@ -119,7 +119,7 @@ fn read_moved(
     })
 }
 
-/// The graph of a policy, and where keys of it stand at the root.
+/// The graph of a policy, and where keys of it are at the root.
 #[derive(Drop)]
 struct RootGraph {
     graph: GraphConfig,

@@ -10,8 +10,9 @@ ghost use Rattle.policy_core.specs.place_laws.Entries.{KeepsPlacesOfTexts, spec_
 ghost use Rattle.policy_core.specs.place_laws.Entries.{ExceptionKeeps, exceptions_file_keeps, ClarificationKeeps};
 ghost use Rattle.policy_core.specs.place_laws.Policies.{ConfigKeeps, RootKeeps};
 
-/// What was read from a text keeps places of that text alone, between characters, and so does what is told of
-/// a value that was refused. A clarification's expression without escapes is the text at its place.
+/// What was read from a text keeps places of that text alone, between characters, and so does what is
+/// reported of a value that was refused. A clarification's expression without escapes is the text at its
+/// place.
 pub fn entries_keep_places()
     ensures spec { KeepsPlacesOfTexts spec_keeps spec_of }
     ensures licensee { (lists : CatalogLists) → IsCatalog lists

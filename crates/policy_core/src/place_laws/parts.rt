@@ -6,8 +6,8 @@ ghost use Rattle.policy_core.specs.place_laws.Places.{KeepsPlaces, keeps_nothing
 ghost use Rattle.policy_core.specs.place_laws.Parts.{private_keeps, graph_keeps, target_keeps};
 ghost use Rattle.policy_core.specs.place_laws.Parts.{file_source_keeps, reason_keeps};
 
-/// What was read from a text keeps places of that text alone, between characters, and so does what is told of
-/// a value that was refused.
+/// What was read from a text keeps places of that text alone, between characters, and so does what is
+/// reported of a value that was refused.
 pub fn parts_keep_places()
     ensures private { KeepsPlaces private_keeps private_of }
     ensures graph { KeepsPlaces graph_keeps graph_config_of }

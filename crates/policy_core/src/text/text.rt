@@ -17,7 +17,7 @@ pub struct ConfigText {
 }
 
 impl ConfigText {
-    /// The text, from what was heard of the policy's file. Where nothing is there it is empty.
+    /// The text, from what was read of the policy's file. Where nothing is there it is empty.
     ///
     /// It is refused where the file is a folder or no UTF-8, and where its read failed.
     pub fn from_heard(alloc: Global, heard: TextHeard) -> Result<ConfigText, ConfigError>

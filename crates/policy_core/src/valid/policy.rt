@@ -27,7 +27,7 @@ pub struct ValidClarification {
     /// The place of the expression's string, where that has escapes; the offset means nothing then.
     pub whole: Option<Span>,
     pub expression: Expression,
-    /// The files by their paths; those of equal paths as they stand in the policy.
+    /// The files by their paths; those of equal paths as they are in the policy.
     pub license_files: FileSources,
 }
 
@@ -37,16 +37,16 @@ pub struct ValidClarification {
 pub struct ValidException {
     /// The crates that it is for.
     pub spec: PackageSpec,
-    /// What they may have, as it stands in the file.
+    /// What they may have, as it is in the file.
     pub allowed: Licensees,
-    /// The file that it stands in: the policy's, or that of its exceptions.
+    /// The file that it is in: the policy's, or that of its exceptions.
     pub file_id: FileId,
 }
 
-/// Clarifications as they stand in the policy.
+/// Clarifications as they are in the policy.
 pub type ValidClarifications = ListOf<ValidClarification>;
 
-/// The exceptions of the policy, as they stand there, and then those of its exceptions file.
+/// The exceptions of the policy, as they are there, and then those of its exceptions file.
 pub type ValidExceptions = ListOf<ValidException>;
 
 /// A policy of licences, without what was found wrong with it.
@@ -61,7 +61,7 @@ pub struct ValidConfig {
     pub unused_license_exception: LintLevel,
     /// The least score of a text that is taken as a licence, in hundredths.
     pub confidence_threshold: i64,
-    /// What each crate may have, by printed bytes; equals as they stand in the policy.
+    /// What each crate may have, by printed bytes; equals as they are in the policy.
     pub allowed: Licensees,
     pub clarifications: ValidClarifications,
     pub exceptions: ValidExceptions,

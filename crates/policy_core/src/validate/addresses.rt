@@ -52,7 +52,7 @@ fn judge_address(
     }
 }
 
-/// The addresses that can be read, in normal form; each other one is told.
+/// The addresses that can be read, in normal form; each other one is reported.
 pub(crate) fn judge_addresses(
     alloc: Global,
     file: FileId,

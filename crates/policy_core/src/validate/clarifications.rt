@@ -89,7 +89,7 @@ fn judge_clarification<C: Catalog>(
     }
 }
 
-/// The clarifications whose expressions are read, each with its files in order; each other one is told.
+/// The clarifications whose expressions are read, each with its files in order; each other one is reported.
 pub(crate) fn judge_clarifications<C: Catalog>(
     alloc: Global,
     file: FileId,

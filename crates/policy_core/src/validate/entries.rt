@@ -1,4 +1,4 @@
-//! Exceptions, with the file that they stand in.
+//! Exceptions, with the file that they are in.
 ghost use Rattle.std.specs.Prelude.{◌≡◌, ◌++◌, OnOk, map};
 ghost use Rattle.deny_text.specs.Fronts.{StandsInFront};
 ghost use Rattle.policy_core.specs.validate.Valid.{exception_in};
@@ -8,7 +8,7 @@ use diag_core::FileId;
 use policy_parts::entries::Exceptions;
 use std::alloc::AllocError;
 
-/// Puts the exceptions of a file behind the others, as they stand there. Where memory is wanted those so far
+/// Puts the exceptions of a file behind the others, as they are there. Where memory is wanted those so far
 /// stay, in front of what was added.
 pub fn add_exceptions(
     file: FileId,

@@ -9,10 +9,10 @@ use diag_core::lists::Diagnostics;
 use diag_core::{Deprecated, DeprecationReason, Diagnostic, FileId, Label, Severity};
 use std::alloc::{AllocError, Global};
 
-/// An item as it is kept, or what is told of it.
+/// An item as it is kept, or what is reported of it.
 pub type ItemOrFinding<T> = Result<T, Diagnostic>;
 
-/// Where it is told why keys were removed.
+/// Where it is reported why keys were removed.
 const MIGRATION: &str = "https://github.com/EmbarkStudios/cargo-deny/pull/611";
 
 /// An error at a place of a file, and what is said there.
@@ -31,7 +31,7 @@ pub fn error_at(
         .with_label(label)
 }
 
-/// Puts an item behind those that are kept, or what is told of it behind the findings so far.
+/// Puts an item behind those that are kept, or what is reported of it behind the findings so far.
 pub(crate) fn push_judged<T: Drop>(
     judged: ItemOrFinding<T>,
     kept: &mut ListOf<T>,

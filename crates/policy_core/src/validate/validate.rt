@@ -19,7 +19,7 @@ use std::alloc::{AllocError, Global};
 
 /// A configuration that has its shape, and may still be wrong.
 pub trait UnvalidatedConfig<X> {
-    /// What is left once the findings are told.
+    /// What is left once the findings are reported.
     type ValidCfg;
 
     /// What is valid of it, in the file of this number.
@@ -78,8 +78,8 @@ fn validate_config<C: Catalog>(
 }
 
 /// Addresses that can be read are kept in normal form, and clarifications whose expressions are read in
-/// strict mode; the others are told, and then each key that was removed. What is allowed is sorted by printed
-/// bytes, and no entry is lost.
+/// strict mode; the others are reported, and then each key that was removed. What is allowed is sorted by
+/// printed bytes, and no entry is lost.
 impl<C: Catalog> UnvalidatedConfig<C> for Config {
     type ValidCfg = ValidConfig;
 

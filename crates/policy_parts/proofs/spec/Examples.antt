@@ -67,7 +67,7 @@ nothing_behind : read (codes "a@") ≡ Err (bad_requirement (at 12 12))
 unfolding digits_from req_from scan strip_spaces
 nothing_behind = refl
 
--- with escapes the fault is told at the whole string
+-- with escapes the fault is reported at the whole string
 escapes : spec_of_string (record { text = codes "a@1@2"; escaped = true }) (at 10 30) ≡ Err (bad_requirement (at 10 30))
 unfolding digits_from req_from scan strip_spaces
 escapes = refl

@@ -24,7 +24,7 @@ place_from start place = min (start + place) (2 ^ 64 - 1)
 abbrev pub span_from : ℕ → Span → Span
 span_from start span = record { start = place_from start span.start; end = place_from start span.end }
 
--- A place in a string's text, in the text where the string stands. With escapes it is the whole string.
+-- A place in a string's text, in the text where the string is. With escapes it is the whole string.
 abbrev pub place_in : WrittenString → Span → Span → Span
 place_in string whole span = if string.escaped then whole else span_from whole.start span
 

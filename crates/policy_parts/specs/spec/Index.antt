@@ -94,7 +94,7 @@ abbrev pub union : List ℕ → List ℕ → List ℕ
 union [] = λ others. others
 union (place ∷ places) = put_before place (union places)
 
--- the places at which a spec may stand that matches a crate: those of its name, and those of its name and version
+-- the places at which a spec may be that matches a crate: those of its name, and those of its name and version
 abbrev pub candidates : CrateRecord → List ℕ → List ℕ
 candidates krate numbers =
     union (places_of (name_number krate.name) numbers)

@@ -11,7 +11,7 @@ use Rattle.semver.specs.declared.Op.{Op}
 use Rattle.semver.specs.declared.Op.TheVariants as op
 use Rattle.policy_parts.specs.spec.Spec.{Spec}
 
--- where an operator stands among the others
+-- where an operator is among the others
 abbrev pub operator_place : Op → ℕ
 operator_place op.Exact = 0
 operator_place op.Greater = 1

@@ -17,7 +17,7 @@ pub struct Clarification {
     pub spec: PackageSpec,
     /// A licence expression as it is written, read by the policy's validation.
     pub expression: Spanned<Text>,
-    /// Whether the expression's string has escapes. Without them the text stands at the expression's place.
+    /// Whether the expression's string has escapes. Without them the text is at the expression's place.
     pub escapes: bool,
     pub license_files: FileSources,
 }

@@ -23,7 +23,7 @@ pub struct Exception {
 /// Exceptions in order.
 pub type Exceptions = ListOf<Exception>;
 
-/// A file of exceptions that stands beside the policy.
+/// A file of exceptions that is beside the policy.
 #[derive(Drop)]
 pub struct ExceptionsFile {
     pub exceptions: Exceptions,

@@ -14,8 +14,8 @@ use spdx_terms::{ExprError, ParseError, ParseMode};
 use std::alloc::Global;
 use toml_subset::shapes::one_fault;
 
-/// A licensee at the place of its string. Licensees are told apart and ordered by what they print; the place
-/// does not count.
+/// A licensee at the place of its string. Licensees are distinguished and ordered by what they print; the
+/// place does not count.
 #[derive(Drop, PartialEq, Eq, PartialOrd, Ord)]
 pub struct Licensee(pub Spanned<spdx_terms::Licensee>);
 
@@ -65,7 +65,7 @@ fn read_licensee<C: Catalog>(
     }
 }
 
-/// A place in a string, as a place of the text in which the string stands at `whole`. With escapes the two do
+/// A place in a string, as a place of the text in which the string is at `whole`. With escapes the two do
 /// not go together, and it is the whole string.
 fn place_in(string: &Str<'_>, whole: Span, span: Span) -> Span
     ensures { result ≡ spec.place_in string.now whole span }

@@ -13,7 +13,7 @@ use graph_core::Krate;
 use std::alloc::{AllocError, Global};
 use std::marker::Model;
 
-/// What is told by a package spec which crates it is about.
+/// What is reported by a package spec which crates it is about.
 pub trait HasSpec {
     /// The spec, as contracts see it.
     ghost spec_of: { Self → Spec };
@@ -122,7 +122,7 @@ impl SpecIndex {
         Ok(SpecIndex { numbers })
     }
 
-    /// The places at which a spec may stand that matches a crate.
+    /// The places at which a spec may be that matches a crate.
     fn candidates(&self, krate: &Krate) -> PlacesLeft<'_>
         ensures { result ≡ candidates (record_of krate.now) self.now }
     {

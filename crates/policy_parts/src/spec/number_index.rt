@@ -87,7 +87,7 @@ impl NumberIndex {
         Ok(NumberIndex { numbers, places })
     }
 
-    /// The places at which a number stands, from 0 and rising.
+    /// The places at which a number is, from 0 and rising.
     pub fn places(&self, number: u64) -> &[usize]
         ensures { result.now ≡ places_of number self.now }
     {

@@ -11,7 +11,7 @@ use crate::spec::package_spec::PackageSpec;
 use semver::{Comparator, Op, VersionReq};
 use std::cmp::Ordering;
 
-/// Where an operator stands among the others.
+/// Where an operator is among the others.
 pub(crate) fn operator_place(operator: Op) -> u8
     ensures { result ≡ spec.operator_place operator }
 {

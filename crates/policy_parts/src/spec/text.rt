@@ -64,7 +64,7 @@ fn rest_span(string: &Str<'_>, span: Span, rest: &str) -> Span
     }
 }
 
-/// Reads a requirement. What is wrong with it is told at the place.
+/// Reads a requirement. What is wrong with it is reported at the place.
 pub(crate) fn read_requirement(
     alloc: Global,
     text: &str,

@@ -83,7 +83,7 @@ abbrev pub is_besides : List ℕ → List (List ℕ) → Bool
 is_besides name [] = true
 is_besides name (other ∷ more) = not (bytes_eq name other) && is_besides name more
 
--- no name stands there twice
+-- no name is there twice
 abbrev pub are_apart : List (List ℕ) → Bool
 are_apart [] = true
 are_apart (name ∷ names) = is_besides name names && are_apart names

@@ -16,7 +16,7 @@ use Rattle.run_found.specs.own_names.Found.{AnswersBy, AnswersHeard, FindsLists,
 use Rattle.run_found.specs.own_names.Given.{ListsAsked, ListsGiven, lists_asked}
 use Rattle.run_found.specs.own_names.Heard.{ListsHearing, catalog_by, due_behind, given_behind, given_by, lists_calls, lists_heard, store_calls, store_due, texts_by, texts_heard, with_texts}
 
--- a catalogue that was had took no failed call
+-- a catalogue that was found took no failed call
 pub quiet : (given lists : CatalogLists) (path : Option (List ℕ)) (begun after : ℕ) (answer : Option CallAnswer) → catalog_by given path begun after answer ≡ Some (Ok lists) → faults_after begun (read_calls path answer) ≡ begun
 quiet given lists None begun after answer is = refl
 quiet given lists (Some path) begun after None is = refl
@@ -69,7 +69,7 @@ module _ (given : ListsGiven) (path folder : Option (List ℕ)) where
         answers = without_by (lists_heard given asked hearing) (texts_heard given asked hearing) error (cause_of error) heard;
       }
 
-  -- it was had, and then the texts were read
+  -- it was found, and then the texts were read
   module _ {told mid : Option Content} {begun middle : ℕ} {old between : List Call} (lists : CatalogLists)
       (had : HasCatalog given.lists path begun middle old between (Ok lists))
       (some : MadeSome told mid begun middle old between)

@@ -1,4 +1,4 @@
--- What is heard of a catalogue's file and of a folder of texts, by what was answered.
+-- What is read of a catalogue's file and of a folder of texts, by what was answered.
 use Rattle.std.proofs.Common.{◌≡◌, ℕ, List, [], ◌∷◌, ◌++◌, Option, Some, Result, Ok, Err, refl, sym, ap, subst, ◌∙◌}
 use Rattle.tree_core.specs.Call as call
 use Rattle.tree_core.specs.Call.{CallAnswer, Call}

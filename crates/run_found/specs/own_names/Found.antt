@@ -21,7 +21,7 @@ abbrev pub AnswersBy : {X : Type 0} → Cause → Option (Result X Error) → Er
 AnswersBy no_memory heard error = Unit {0}
 AnswersBy _ heard error = heard ≡ Some (Err error)
 
--- what is heard is answered
+-- what is read is answered
 abbrev pub AnswersHeard : {X : Type 0} → Option (Result X Error) → Result X Error → Type 0
 AnswersHeard heard (Ok value) = heard ≡ Some (Ok value)
 AnswersHeard heard (Err error) = AnswersBy (cause_of error) heard error

@@ -1,5 +1,5 @@
--- What is heard of a catalogue's file and of a folder of licence texts: which lists and which texts count, and which calls
--- that takes.
+-- What is read of a catalogue's file and of a folder of licence texts: which lists and which texts count, and which
+-- calls that takes.
 use Rattle.std.specs.Prelude.{ℕ, List, [], ◌∷◌, ◌++◌, Option, Some, None, Result, Ok, Err}
 use Rattle.tree_core.specs.Call as call
 use Rattle.tree_core.specs.Call.{CallAnswer, Call}
@@ -33,7 +33,7 @@ catalog_told (Some line) lists = Err (CatalogSyntax line)
 abbrev pub catalog_in : List ℕ → Result CatalogLists Error
 catalog_in bytes = catalog_told (first_fault bytes) (lists_of (lines_of bytes))
 
--- by the answer to the read of the file, between two counts of faults; for want of memory nothing is heard
+-- by the answer to the read of the file, between two counts of faults; for want of memory nothing is read
 abbrev pub catalog_answered : ℕ → ℕ → CallAnswer → Option (Result CatalogLists Error)
 catalog_answered begun after (call.bytes items) = Some (catalog_in items)
 catalog_answered begun after (call.entries items) = None
@@ -84,7 +84,7 @@ count_catalog asked hearing = faults_after hearing.begun (read_calls asked.catal
 abbrev pub lists_heard : ListsGiven → ListsAsked → ListsHearing → Option (Result CatalogLists Error)
 lists_heard given asked hearing = catalog_by given.lists asked.catalog hearing.begun (count_catalog asked hearing) hearing.catalog
 
--- a folder is listed where no catalogue is asked for, and where that was had
+-- a folder is listed where no catalogue is asked for, and where that was found
 abbrev pub due_behind : Option (List ℕ) → Option (Result CatalogLists Error) → Option (List ℕ)
 due_behind path None = None
 due_behind path (Some (Ok lists)) = path
@@ -114,7 +114,7 @@ given_by None texts = None
 given_by (Some (Ok lists)) texts = given_behind lists texts
 given_by (Some (Err error)) texts = Some (Err error)
 
--- What takes the place of what is given, or the first refusal: of the catalogue, and then of the texts. Nothing is heard where
--- memory was wanting, and where a call that is due was not made.
+-- What takes the place of what is given, or the first refusal: of the catalogue, and then of the texts. Nothing is read
+-- where memory was wanting, and where a call that is due was not made.
 abbrev pub given_heard : ListsGiven → ListsAsked → ListsHearing → Option (Result ListsGiven Error)
 given_heard given asked hearing = given_by (lists_heard given asked hearing) (texts_heard given asked hearing)

@@ -120,8 +120,8 @@ pub fn lists_found<'g, T: Tree, C: Catalog, I: Identifier>(
     catalog: &'g C,
     identifier: &'g I,
 ) -> Result<ListsFound<'g, C, I>, Error>
-    // By what was heard: the calls that were due were made, and no other; each refusal is the first one, by its
-    // cause.
+    // By what was read: the calls that were due were made, and no other; each refusal is the first one, by
+    // its cause.
     ensures found { FindsLists (lists_given (C.lists catalog.now) (I.match_of identifier.now))
         (lists_asked (option_copied catalog_path.entry) (option_copied store_path.entry))
         (seen_between T.content T.fault_count T.trace tree.old tree.new)

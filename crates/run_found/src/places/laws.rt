@@ -1,8 +1,8 @@
 //! What holds of the places of all policies. These functions do nothing: their contracts are the laws.
 ghost use Rattle.run_found.specs.places.Laws.{ClarificationsArePlaced, EntriesLieOn};
 
-/// Where each place of a policy lies in its file, as after its load, its clarifications are placed as gathering
-/// asks: their expressions and their paths stand in the policy's file.
+/// Where each place of a policy lies in its file, as after its load, its clarifications are placed as
+/// gathering asks: their expressions and their paths are in the policy's file.
 pub fn clarifications_are_placed()
     ensures { ClarificationsArePlaced }
 {}

@@ -1,4 +1,4 @@
--- Names in the order in which they are looked up: what stands before and behind one of them.
+-- Names in the order in which they are looked up: what is before and behind one of them.
 use Rattle.std.proofs.Common.{◌≡◌, ◌∙◌, refl, sym, ap, subst, T, Bool, true, false, cond, ℕ, List, [], ◌∷◌, ◌++◌, length, Some, None}
 use Rattle.std.specs.List.{AllByRecursion}
 use Rattle.std.specs.List.Sorted.{IsStrictlySortedBy}
@@ -29,7 +29,7 @@ last_ties Greater last ties = absurd (subst T (sym (ap is_eq ties)) tt)
 pub same_name : (a b : List ℕ) → name_order a b ≡ Equal → a ≡ b
 same_name a b ties = exact_bytes a b (last_ties (nat_cmp (length a) (length b)) (slice_cmp nat_cmp a b) ties)
 
--- other names are told apart
+-- other names are distinguished
 pub apart : (a b : List ℕ) (order : Ordering) → name_order a b ≡ order → is_eq order ≡ false → bytes_eq a b ≡ false
 apart a b order is other = by (bytes_eq a b) refl
   where
@@ -62,13 +62,13 @@ module _ {X : Type 0} (q : List ℕ) where
   none_behind name (x ∷ es) all less = lookup_tail (bytes_eq q) x es (apart q x.0 Less (name_order_total.trans q name x.0 less all.0) refl) ∙ none_behind name es all.1 less
 
 module _ {X : Type 0} (e : List ℕ × X) (behind : List (List ℕ × X)) where
-  -- what stands before one is in order
+  -- what is before one is in order
   pub sorted_front : (front : List (List ℕ × X)) → IsStrictlySortedBy name_order (names_of (front ++ e ∷ behind)) → IsStrictlySortedBy name_order (names_of front)
   unfolding IsStrictlySortedBy
   sorted_front [] sorted = tt
   sorted_front (x ∷ front) sorted = (all_front (λ y. name_order x.0 y ≡ Less) e behind front sorted.0, sorted_front front sorted.1)
 
-  -- and so is what stands behind it
+  -- and so is what is behind it
   pub sorted_behind : (front : List (List ℕ × X)) → IsStrictlySortedBy name_order (names_of (front ++ e ∷ behind)) → IsStrictlySortedBy name_order (names_of behind)
   unfolding IsStrictlySortedBy
   sorted_behind [] sorted = sorted.1

@@ -7,7 +7,7 @@ use Rattle.std.specs.Char.{is_ascii_alphanumeric}
 use Rattle.std.specs.List.{slice_split, onto_first, position_or_len}
 use Rattle.spdx_terms.specs.catalog.TextWords.{has_some, is_between, runs_of}
 
--- what stands before the first letter or digit holds no run
+-- what is before the first letter or digit holds no run
 skip_at : (x : ℕ) (xs : List ℕ) (b : Bool) → is_ascii_alphanumeric x ≡ b → runs_of xs ≡ runs_of (drop (position_or_len is_ascii_alphanumeric xs) xs) → runs_of (x ∷ xs) ≡ runs_of (drop (position_or_len is_ascii_alphanumeric (x ∷ xs)) (x ∷ xs))
 skip_at x xs true e skipped = rw (e, e) refl
 skip_at x xs false e skipped = rw e (skipped ∙ ap (λ n. runs_of (drop n (x ∷ xs))) (sym (one-add (position_or_len is_ascii_alphanumeric xs))))
@@ -53,7 +53,7 @@ pub runs_of-run : (line : List ℕ) → position_or_len is_ascii_alphanumeric li
 runs_of-run [] starts some = absurd (omega (arith, some))
 runs_of-run (x ∷ xs) starts some = run_at x xs (starts_at x xs (is_ascii_alphanumeric x) refl starts) (splits_first (x ∷ xs))
 
--- what is left where the first letter or digit stands begins with it
+-- what is left where the first letter or digit is begins with it
 starts_after : (x : ℕ) (xs : List ℕ) (b : Bool) → is_ascii_alphanumeric x ≡ b → position_or_len is_ascii_alphanumeric (drop (position_or_len is_ascii_alphanumeric xs) xs) ≡ 0 → position_or_len is_ascii_alphanumeric (drop (position_or_len is_ascii_alphanumeric (x ∷ xs)) (x ∷ xs)) ≡ 0
 starts_after x xs true e rest = rw (e, e) refl
 starts_after x xs false e rest = rw e (ap (λ n. position_or_len is_ascii_alphanumeric (drop n (x ∷ xs))) (one-add (position_or_len is_ascii_alphanumeric xs)) ∙ rest)

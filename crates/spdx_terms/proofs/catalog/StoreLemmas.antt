@@ -48,11 +48,11 @@ none_stored texts text words is none =
     ap (λ words. find (λ (stored : StoreText). same_words (words_of stored.body) words) texts) (no_words (words_of text) (ap (λ (bytes : List ℕ). length bytes) (sym is) ∙ none))
     ∙ nothing_stored texts
 
--- no text stands behind the last one
+-- no text is behind the last one
 pub none_behind : (texts : List StoreText) (n : ℕ) → n ≡ length (all_spelled texts) → slice_get texts n ≡ None
 none_behind texts n is = slice_get_past texts n (omega (arith, is, length-map texts (λ (stored : StoreText). words_with_spaces (words_of stored.body))))
 
--- what stands at a place
+-- what is at a place
 pub item_at : (texts : List StoreText) (i : ℕ) (r : Option (Bor StoreText)) → IsItemAt texts i r → option_copied r ≡ slice_get texts i
 item_at texts i None item = sym (slice_get_past texts i (ltb-false i (length texts) (sym item.0)))
 item_at texts i (Some x) item = sym (slice_get_read texts (length texts) i x.now refl (ltb-true i (length texts) (sym item.0)) item.1)

@@ -1,4 +1,4 @@
--- Lists of families, and where a family stands in them, worked out by hand from the rules.
+-- Lists of families, and where a family is in them, worked out by hand from the rules.
 use Rattle.std.proofs.Common.{◌≡◌, List, [], ◌∷◌, refl}
 use Rattle.spdx_terms.specs.declared.term.Family.{Family}
 use Rattle.spdx_terms.specs.declared.term.Family.TheVariants.{Spdx as of_licenses, Reference as of_references}

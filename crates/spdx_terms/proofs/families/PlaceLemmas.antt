@@ -69,7 +69,7 @@ there_later x xs y there = let below : there.0 < length xs = there.1 in (suc the
 there_first : (x : ℕ) (xs : List ℕ) (y : ℕ) → x ≡ y → Contains (x ∷ xs) y
 there_first x xs y is = (0, omega arith, is)
 
--- a family stands somewhere, and the number is its place, counted from another on
+-- a family is somewhere, and the number is its place, counted from another on
 abbrev StandsAt : ℕ → Family → List Family → ℕ → Type 0
 StandsAt n family families place = (i : ℕ) × (place ≡ n + i) × (slice_get families i ≡ Some family)
 
@@ -111,7 +111,7 @@ found_from n family (here ∷ more) (suc i) is =
 at_place : (family : Family) (families : List Family) (place : ℕ) → StandsAt 0 family families place → slice_get families place ≡ Some family
 at_place family families place at = ap (λ (m : ℕ). slice_get families m) (at.1 ∙ from_zero at.0) ∙ at.2
 
--- a number is among the places exactly where the family stands there
+-- a number is among the places exactly where the family is there
 pub stands : (family : Family) (families : List Family) (place : ℕ) → Contains (places_in family families) place ↔ (slice_get families place ≡ Some family)
 stands family families place = (
   λ there. at_place family families place (stands_from 0 family families place there),

@@ -44,7 +44,7 @@ all_distinct same [] = true
 all_distinct same (text ∷ texts) = not (list_any (same text) texts) && all_distinct same texts
 
 -- What holds of every catalogue. Licences and exceptions have names, each of them once. An imprecise text is made of
--- words, stands once in whatever case, and means a licence of the catalogue.
+-- words, is there once in whatever case, and means a licence of the catalogue.
 pub record IsCatalog (lists : CatalogLists) : Type 0 where
   pub license_names : IsTrue (list_all is_name (names_of lists.licenses))
   pub licenses_once : IsTrue (all_distinct bytes_eq (names_of lists.licenses))

@@ -8,11 +8,11 @@ use Rattle.spdx_terms.specs.declared.catalog.catalog.LicenseEntry.{LicenseEntry}
 use Rattle.spdx_terms.specs.declared.catalog.table.TableLicense.{TableLicense}
 use Rattle.spdx_terms.specs.catalog.Catalog.{names_of}
 
--- a shorter name is before a longer one, and those of one length stand in byte order
+-- a shorter name is before a longer one, and those of one length are in byte order
 abbrev pub name_order : List ℕ → List ℕ → Ordering
 name_order = then_cmp (on length nat_cmp) (slice_cmp nat_cmp)
 
--- each licence stands before those with later names
+-- each licence is before those with later names
 abbrev pub AreInOrder : List (List ℕ × LicenseEntry) → Type 0
 AreInOrder licenses = IsStrictlySortedBy name_order (names_of licenses)
 

@@ -32,7 +32,7 @@ is_space b = b == byte " "
 abbrev pub is_imprecise : List ℕ → Bool
 is_imprecise text = list_all is_word (slice_split is_space text) && not (is_operator (before_first is_space text))
 
--- what stands here goes on no word: the end, or a byte that is no part of a word and no colon
+-- what is here goes on no word: the end, or a byte that is no part of a word and no colon
 abbrev pub ends_word : List ℕ → Bool
 ends_word [] = true
 ends_word (b ∷ bs) = not (is_word_byte b || b == byte ":")

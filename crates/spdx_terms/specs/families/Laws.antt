@@ -11,7 +11,7 @@ TestIsSameness = (one other : Family) → IsTrue (same_family one other) ↔ (on
 abbrev pub PlacesStand : Type 0
 PlacesStand = (family : Family) (families : List Family) (place : ℕ) → Contains (places_in family families) place ↔ (slice_get families place ≡ Some family)
 
--- there are as many places as the family stands in the list
+-- there are as many places as the family is in the list
 abbrev pub AsManyPlaces : Type 0
 AsManyPlaces = (family : Family) (families : List Family) → length (places_in family families) ≡ length (filter (same_family family) families)
 

@@ -6,7 +6,7 @@ use crate::catalog::store::{StoreText, StoreTexts};
 use deny_text::Text;
 use std::alloc::{AllocError, Global};
 
-/// A licence's name, the first line that stands before its body, or nothing, and the body.
+/// A licence's name, the first line that is before its body, or nothing, and the body.
 pub(crate) struct BuiltIn {
     pub(crate) name: &'static str,
     pub(crate) heading: &'static str,

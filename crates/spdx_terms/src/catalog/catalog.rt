@@ -31,7 +31,7 @@ pub struct Imprecise<'c> {
 pub trait Catalog {
     ghost lists: { Self → CatalogLists };
 
-    /// What is known of a licence name, which is told apart by its letters' case.
+    /// What is known of a licence name, which is distinguished by its letters' case.
     fn license(&self, name: &str) -> Option<LicenseEntry>
         ensures { result ≡ entry_of (lists self.now).licenses name.now };
 

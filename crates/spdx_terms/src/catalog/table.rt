@@ -213,7 +213,7 @@ fn name_order(name: &[u8], other: &[u8]) -> Ordering
     }
 }
 
-/// What is known of a name among licences, which stand in the order of their names.
+/// What is known of a name among licences, which are in the order of their names.
 fn entry_among(licenses: &[TableLicense], name: &[u8]) -> Option<LicenseEntry>
     requires { AreInOrder (named_entries licenses.now) }
     ensures { result ≡ entry_of (named_entries licenses.now) name.now }
@@ -236,7 +236,7 @@ fn is_listed(names: &[&str], name: &str) -> bool
     names.iter().any(|listed| name == *listed)
 }
 
-/// Whether nothing stands here that goes on a word.
+/// Whether nothing is here that goes on a word.
 fn ends_word(rest: &[u8]) -> bool
     ensures { result ≡ ends_word rest.now }
 {

@@ -1,4 +1,4 @@
-//! The words of a text, by which texts are told apart.
+//! The words of a text, by which texts are distinguished.
 ghost use Rattle.std.specs.Prelude.{◌≡◌, ◌<◌, ◌∷◌, ◌++◌, [], IfOk, OnOk, IfSome, MatchOption, length};
 ghost use Rattle.std.specs.Prelude.{position};
 ghost use Rattle.std.specs.Char.{is_ascii_alphanumeric, is_ascii_digit};

@@ -116,7 +116,7 @@ impl FamilyIndex {
         Ok(())
     }
 
-    /// The places at which a family stands, from 0 and rising.
+    /// The places at which a family is, from 0 and rising.
     pub fn places(&self, family: Family) -> &[usize]
         ensures { result.now ≡ places_in family self.now }
     {

@@ -11,7 +11,7 @@ pub fn places_stand()
     ensures { PlacesStand }
 {}
 
-/// A family has as many places as it stands in the list.
+/// A family has as many places as it is in the list.
 pub fn as_many_places()
     ensures { AsManyPlaces }
 {}

@@ -32,7 +32,7 @@ quoted : IsText (codes "'b c' = \"\"\"\nx\"\"\"\n") quoted_value
 unfolding quoted_value
 quoted = text_sound (codes "'b c' = \"\"\"\nx\"\"\"\n") quoted_value refl
 
--- a dotted table stands at the key part that made it, an inline table from brace to brace, an array from bracket to bracket
+-- a dotted table is at the key part that made it, an inline table from brace to brace, an array from bracket to bracket
 inline_value : Toml
 inline_value =
     root (data.entry (key (codes "a") 0 1) (from_to 0 1) (data.table
@@ -46,7 +46,7 @@ unfolding inline_value
 inline = text_sound (codes "a.b = { c.d=[1,] }") inline_value refl
 
 -- An implicit table takes the header that turns it into its own; its entry keeps the key part that first made it. A
--- header table stands at its header with brackets.
+-- header table is at its header with brackets.
 header_value : Toml
 header_value =
     root (data.entry (key (codes "a") 1 2) (from_to 6 9) (data.table
@@ -57,7 +57,7 @@ headers : IsText (codes "[a.b]\n[a]\nc=true") header_value
 unfolding header_value
 headers = text_sound (codes "[a.b]\n[a]\nc=true") header_value refl
 
--- an array of tables stands at its first header, and each table at its own
+-- an array of tables is at its first header, and each table at its own
 array_value : Toml
 array_value =
     root (data.entry (key (codes "t") 2 3) (from_to 0 5) (data.array

@@ -84,7 +84,7 @@ word_other = refl
 key : List ℕ → ℕ → Key
 key s i = record { name = record { text = s; escaped = false }; span = from_to i (i + 1) }
 
--- one entry `p`, whose table stands at it
+-- one entry `p`, whose table is at it
 dotted_entries : value_at (codes "{p.q=[1,],p.r={}}") 0 0 ≡ Ok (
   from_to 0 17,
   data.table

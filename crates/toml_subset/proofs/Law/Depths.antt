@@ -1,4 +1,4 @@
--- How deep the values of a tree stand, and what edits make of it.
+-- How deep the values of a tree are, and what edits make of it.
 use Rattle.std.proofs.Common.{◌≡◌, ℕ, ◌+◌, ◌≤◌, ⊎_elim, true, false, max, Option, Some, None, option_map, true≢false, refl, ap, sym, subst, ◌∙◌, arith}
 use Rattle.deny_text.specs.declared.span.Span.{Span}
 use Rattle.toml_subset.specs.Data.{depth_of, items_depth, entries_depth}

@@ -1,4 +1,4 @@
--- What stands at a place ends behind it.
+-- What is at a place ends behind it.
 use Rattle.std.proofs.Common.{◌≡◌, ℕ, zero, suc, ◌+◌, ◌<◌, ◌≤◌, ◌⊎◌, inl, inr, ⊎_elim, Bool, true, false, cond, eqb, ◌&&◌, ◌||◌, nat_le, List, [], ◌∷◌, length, take, drop, Option, Some, None, is_some as option_is_some, unwrap_or, slice_get, refl, subst, eqb-true, arith}
 use Rattle.deny_text.specs.declared.span.Span.{Span}
 use Rattle.toml_subset.specs.Bytes.{quote, apostrophe, backslash, may_stand, is_run, begins_run, line_feed, carriage_return, hash}

@@ -16,11 +16,11 @@ pub front_other : (p q : ℕ → Bool) → ((c : ℕ) → p c ≡ true → q c �
 front_other p q other [] h = refl
 front_other p q other (c ∷ cs) h = other c h
 
--- where a byte stands, no test passes that fails at it
+-- where a byte is, no test passes that fails at it
 pub stands_other : (q : ℕ → Bool) (a : ℕ) → q a ≡ false → (text : List ℕ) (i : ℕ) → stands text i a ≡ true → passes_at q text i ≡ false
 stands_other q a fails text i h = front_other (λ b. eqb b a) q (λ c same. ap q (eqb-true c a same) ∙ fails) (drop i text) h
 
--- where a test passes, no byte stands at which it fails
+-- where a test passes, no byte is at which it fails
 pub passes_other : (p : ℕ → Bool) (a : ℕ) → p a ≡ false → (text : List ℕ) (i : ℕ) → passes_at p text i ≡ true → stands text i a ≡ false
 passes_other p a fails text i h =
     front_other p (λ b. eqb b a) (λ c yes. false_from (eqb c a) (λ same. true≢false (sym yes ∙ ap p (eqb-true c a same) ∙ fails))) (drop i text) h
@@ -29,7 +29,7 @@ front_none : (p : ℕ → Bool) (s : List ℕ) → front_is p s ≡ false → pr
 front_none p [] h = refl
 front_none p (c ∷ cs) h = ap (λ b. cond b (1 + prefix_len p cs) 0) h
 
--- a run ends where it begins if nothing of it stands there
+-- a run ends where it begins if nothing of it is there
 pub run_none : (p : ℕ → Bool) (text : List ℕ) (i : ℕ) → passes_at p text i ≡ false → run_end p text i ≡ i
 run_none p text i h = let none = front_none p (drop i text) h in omega arith
 
@@ -41,7 +41,7 @@ front_some p (c ∷ cs) h =
 pub run_some : (p : ℕ → Bool) (text : List ℕ) (i : ℕ) → i < run_end p text i → passes_at p text i ≡ true
 run_some p text i h = front_some p (drop i text) (omega arith)
 
--- a byte stands within the text
+-- a byte is within the text
 front_inside : (p : ℕ → Bool) (s : List ℕ) → front_is p s ≡ true → 0 < length s
 front_inside p [] h = absurd (true≢false (sym h))
 front_inside p (c ∷ cs) h = omega arith
@@ -73,7 +73,7 @@ word_front_by false (c ∷ cs) e = let same : c ≡ 102 = cc in eq-eqb c 102 sam
 pub word_front : (b : Bool) (text : List ℕ) (i : ℕ) → take (length (word_of b)) (drop i text) ≡ word_of b → stands text i (letter_of b) ≡ true
 word_front b text i e = word_front_by b (drop i text) e
 
--- a byte that begins a key or a header stands at a place, and so no line ends there
+-- a byte that begins a key or a header is at a place, and so no line ends there
 pub record BeginsLine (text : List ℕ) (i : ℕ) : Type 0 where
   pub blank : passes_at is_blank text i ≡ false
   pub comment : stands text i hash ≡ false

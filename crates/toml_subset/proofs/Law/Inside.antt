@@ -1,4 +1,4 @@
--- A value that stands in a text ends in it.
+-- A value that is in a text ends in it.
 use Rattle.std.proofs.Common.{◌≡◌, ℕ, zero, suc, ◌+◌, ◌≤◌, inl, inr, Bool, true, false, cond, eqb, nat_le, ◌&&◌, ◌||◌, List, [], ◌∷◌, length, take, drop, Some, None, is_some as option_is_some, slice_get, refl, ap, subst, arith, length-drop, eqb-true}
 use Rattle.std.proofs.lemmas.List.Sums.{prefix_len-le-length}
 use Rattle.deny_text.specs.declared.span.Span.{Span}

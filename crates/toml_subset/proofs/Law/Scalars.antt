@@ -1,4 +1,4 @@
--- Numbers, words and strings are read exactly where they stand as values.
+-- Numbers, words and strings are read exactly where they are as values.
 use Rattle.std.proofs.Common.{◌≡◌, ℕ, zero, suc, ◌+◌, ◌≤◌, ⊎_elim, Bool, true, false, cond, eqb, ◌||◌, List, [], ◌∷◌, length, take, drop, Some, Ok, Err, true≢false, refl, ap, sym, subst, ◌∙◌, eqb-true, eq-eqb, arith}
 use Rattle.std.specs.List.{prefix_len}
 use Rattle.deny_text.specs.declared.span.Span.{Span}
@@ -120,7 +120,7 @@ scalar_sound text i r e =
     (if_is (stands text i quote || stands text i apostrophe) (string_value text i) (true_from text i) (Ok r) h.1))
     (if_is (begins_number text i) (number_from text i) (string_from text i) (Ok r) e)
 
--- what stands at the front
+-- what is at the front
 
 front_cons : (c : ℕ) (s : List ℕ) → front_is (λ b. eqb b c) s ≡ true → (cs : List ℕ) × (s ≡ c ∷ cs)
 front_cons c [] h = absurd (true≢false (sym h))

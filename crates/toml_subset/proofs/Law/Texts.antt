@@ -1,4 +1,4 @@
--- Strings and keys are read exactly where they stand.
+-- Strings and keys are read exactly where they are.
 use Rattle.std.proofs.Common.{◌≡◌, ℕ, zero, suc, ◌+◌, ◌<◌, ◌≤◌, ◌⊎◌, inl, inr, ⊎_elim, Bool, true, false, cond, eqb, ◌||◌, nat_le, List, [], ◌∷◌, length, drop, Option, Some, None, Ok, Err, unwrap_or, true≢false, refl, ap, sym, subst, ◌∙◌, arith}
 use Rattle.std.proofs.lemmas.Bool.Decides.{nat_tests}
 use Rattle.std.specs.List.{prefix_len}
@@ -40,7 +40,7 @@ string_step : (text : List ℕ) (i : ℕ) → read_string text i ≡ string_by t
 string_step text i =
     elim (opening text i) as (λ o. elim o [ Some first ↦ string_from text first | None ↦ Err (stop_error text i) ] ≡ string_by text i o) [ Some first ↦ refl | None ↦ refl ]
 
--- a string that stands at a place, with its kind
+-- a string that is at a place, with its kind
 abbrev pub StringAt : List ℕ → ℕ → StringFound → Type 0
 StringAt text i r = (first : Quoting × ℕ) × (opening text i ≡ Some first) × IsString text i first.0 r.0 r.1 r.2
 

@@ -1,4 +1,4 @@
--- Values are read exactly where they stand, keep the table rules, and are not too deep.
+-- Values are read exactly where they are, keep the table rules, and are not too deep.
 use Rattle.std.proofs.Common.{◌≡◌, ℕ, zero, suc, ◌+◌, ◌-◌, ◌*◌, ◌≤◌, inl, inr, ⊎_elim, Bool, true, false, cond, eqb, nat_lt, ◌||◌, ◌&&◌, List, [], ◌∷◌, length, drop, Some, Ok, Err, option_map, option_and_then, true≢false, refl, ap, sym, subst, ◌∙◌, eqb-true, arith}
 use Rattle.std.proofs.lemmas.Bool.Decides.{nat_tests}
 use Rattle.std.proofs.lemmas.List.{drop-drop}
@@ -25,7 +25,7 @@ use Rattle.toml_subset.proofs.Law.Scalars.{scalar_sound, text_read, boolean_read
 use Rattle.toml_subset.proofs.Law.Texts.{left_sound, left_read, keys_other}
 use Rattle.toml_subset.proofs.Law.Ways.{put_below, put_free, put_grows, put_room}
 
--- what is read stands there
+-- what is read is there
 
 abbrev pub ValueAt : ℕ → List ℕ → ℕ → ValueFound → Type 0
 ValueAt above text i r = (raw : Raw) × IsValue text i r.0 raw r.2 × (meant raw ≡ Some r.1) × (above + depth_of r.1 ≤ depth_limit)
@@ -211,7 +211,7 @@ mutual
       entries_from_sound above text (read_value n text) (read_entries n text above) (λ high k x room is. value_sound n text high k x room is)
       (λ bs k x room is. entries_sound n text above bs k x room is) r i branches low e
 
--- what stands there is read
+-- what is there is read
 
 front_stops : (p : ℕ → Bool) (s : List ℕ) → front_is p (drop (prefix_len p s) s) ≡ false
 front_stops p [] = refl
@@ -228,7 +228,7 @@ comment_stops : (b : Bool) (text : List ℕ) (i : ℕ) → passes_at may_stand t
 comment_stops true text i h = absurd (true≢false (sym h ∙ run_stops may_stand text (i + 1)))
 comment_stops false text i h = refl
 
--- the space of an array does not end in a comment where a token stands behind it
+-- the space of an array does not end in a comment where a token is behind it
 pub uncut : (text : List ℕ) (i : ℕ) → passes_at may_stand text (after_space text i) ≡ true → cut_in_comment text i ≡ false
 uncut text i h =
     let line = after_lines_of after_blanks_and_comment text i in

@@ -1,4 +1,4 @@
--- Where no part of a way is refused, the edit at its end is made and no value stands too deep; and the other way round.
+-- Where no part of a way is refused, the edit at its end is made and no value is too deep; and the other way round.
 use Rattle.std.proofs.Common.{◌≡◌, ℕ, ◌+◌, ◌-◌, ◌<◌, ◌≤◌, ⊎_elim, Bool, true, false, cond, eqb, max, List, [], ◌∷◌, length, Option, Some, None, option_map, refl, ap, sym, ◌∙◌, arith}
 use Rattle.std.proofs.lemmas.Bool.Decides.{nat_tests}
 use Rattle.toml_subset.specs.Data.{depth_limit}

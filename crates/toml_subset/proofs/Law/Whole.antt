@@ -25,7 +25,7 @@ use Rattle.toml_subset.proofs.Law.Texts.{left_sound, left_read, keys_sound, keys
 use Rattle.toml_subset.proofs.Law.Values.{value_sound, value_read, run_stops}
 use Rattle.toml_subset.proofs.Law.Ways.{put_below, put_free, put_grows, put_room}
 
--- lines that are read stand there
+-- lines that are read are there
 
 abbrev rest_by : List ℕ → ℕ → Document → Option ℕ → TomlReading LineFound
 rest_by text i document (Some next) = Ok (document, next)
@@ -213,7 +213,7 @@ text_sound text value e =
       is = sym (is_ok _ value found.2);
     }
 
--- lines that stand there are read
+-- lines that are there are read
 
 and_none : (a b : Bool) → a ≡ false → (a && b) ≡ false
 and_none a b h = ap (λ x. x && b) h

@@ -122,7 +122,7 @@ in_last_to : (f : Branches → Option Branches) (before : List (Span × Branches
 in_last_to f [] at inner = refl
 in_last_to f (x ∷ xs) at inner = ap (option_map (body x.0 x.1)) (in_last_to f xs at inner) ∙ map_twice (body x.0 x.1) (bodies_to xs at) (f inner)
 
--- the table that was taken out stands within what it was taken out of
+-- the table that was taken out is within what it was taken out of
 
 pub inside_around : (around : Around) (inner : Branches) → inside_any (around_node around inner) ≡ Some (inner, steps_in around)
 inside_around (alone span mark) inner = refl
@@ -200,7 +200,7 @@ end_edit Through key branches = None
 end_edit (Table at) key branches = open_table at key branches
 end_edit (Array at) key branches = open_array at key branches
 
--- of a node that stands there, and where none does
+-- of a node that is there, and where none does
 abbrev node_end : HeaderPart → Key → Node → Option SyntaxError
 node_end Through key node = None
 node_end (Table at) key node = taken_over_fault key node
@@ -578,7 +578,7 @@ fresh_room (Array at) key above around low e =
     (λ h. let never : None ≡ Some around = h.1 in absurd (cc))
     (if_is (nat_lt (above + 1) depth_limit) (Some (behind at [] at)) None (Some around) e)
 
--- a table that stands there has room for what a part opens in it
+-- a table that is there has room for what a part opens in it
 pub old_room : (part : HeaderPart) (key : Key) (c : Cursor) (i : ℕ) (node : Node) (found : Around × Branches) → c.above + depth c.here ≤ depth_limit
     → found_at key c.here ≡ Some (i, node) → header_branches part node ≡ Some found → c.above + (steps_in found.0 + depth found.1) ≤ depth_limit
 old_room part key c i node found low there e =

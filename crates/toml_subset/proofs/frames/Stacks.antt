@@ -1,4 +1,4 @@
--- Frames that stand in one another, and one more of them.
+-- Frames that are in one another, and one more of them.
 use Rattle.std.proofs.Common.{◌≡◌, ℕ, ◌+◌, ◌≤◌, List, [], ◌∷◌, ◌++◌, length, Ok, Err, refl, ap, sym, ◌∙◌, arith}
 use Rattle.toml_subset.specs.Answer.{TomlReading, then_read}
 use Rattle.toml_subset.specs.Data.{depth_of, depth_limit}

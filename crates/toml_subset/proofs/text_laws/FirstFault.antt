@@ -1,4 +1,4 @@
--- The first fault of a text: no front of whole lines that ends behind its beginning has a value.
+-- The first fault of a text: no prefix of whole lines that ends behind its beginning has a value.
 use Rattle.std.proofs.Common.{◌≡◌, ℕ, zero, suc, ◌+◌, ◌<◌, ◌≤◌, ⊎_elim, true, eqb, nat_lt, List, [], ◌∷◌, length, take, Some, Ok, Err, ap, sym, subst, ◌∙◌, arith, length-take}
 use Rattle.std.proofs.lemmas.Bool.Decides.{nat_tests}
 use Rattle.std.specs.Str.{IsCharBoundary, IsUtf8}

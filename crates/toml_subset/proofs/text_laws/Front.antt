@@ -1,4 +1,4 @@
--- What a front of whole lines spells, the text spells too.
+-- What a prefix of whole lines spells, the text spells too.
 use Rattle.std.proofs.Common.{◌≡◌, ℕ, zero, suc, ◌+◌, ◌-◌, ◌<◌, ◌≤◌, ⊎_elim, inl, inr, Bool, true, false, cond, eqb, nat_le, min, ◌&&◌, ◌||◌, List, [], ◌∷◌, length, get_or, slice_get, take, drop, Option, Some, None, true≢false, refl, ap, sym, subst, ◌∙◌, eqb-true, eq-eqb, arith, length-drop, length-take}
 use Rattle.std.proofs.lemmas.Bool.Decides.{nat_tests}
 use Rattle.std.specs.List.{prefix_len}
@@ -18,7 +18,7 @@ use Rattle.toml_subset.proofs.Law.Fronts.{passes_inside}
 use Rattle.toml_subset.proofs.PlainRuns.{prefix_take}
 use Rattle.toml_subset.proofs.Runs.{run_end_passes, byte_passes}
 
--- fronts of lists
+-- prefixes of lists
 
 drop_none : (i n : ℕ) → ◌≡◌ {A = List ℕ} (drop (suc i) (take n [])) (take (n - suc i) (drop (suc i) []))
 drop_none i zero = let none : 0 - suc i ≡ 0 = omega arith in rw none refl
@@ -111,7 +111,7 @@ module _ (text : List ℕ) (m : ℕ) (ends : Ends text m) where
   pub byte_same : (p : ℕ → Bool) (i : ℕ) → i ≤ m → passes_at p front i ≡ passes_at p text i
   byte_same p i le = ap (front_is p) (drop_take i n text) ∙ front_take p (n - i) (drop i text) (omega arith)
 
-  -- a byte that is no line feed stands before the front's last
+  -- a byte that is no line feed is before the front's last
   pub before_last : (p : ℕ → Bool) (i : ℕ) → p line_feed ≡ false → passes_at p front i ≡ true → i < m
   before_last p i fails h =
       let inside = passes_inside p front i h in
@@ -285,7 +285,7 @@ module _ (text : List ℕ) (m : ℕ) (ends : Ends text m) where
       ap (λ o. elim o [ Some c ↦ cond (may_stand c || (is_long kind && option_is_some (behind_line_end front i))) (plain_piece (c ∷ []) (i + 1)) broken | None ↦ broken ]) (get_same n i text (omega arith))
       ∙ ap (λ (l : Option ℕ). elim (slice_get text i) [ Some c ↦ cond (may_stand c || (is_long kind && option_is_some l)) (plain_piece (c ∷ []) (i + 1)) broken | None ↦ broken ]) (line_same i le)
 
-  -- what a part of the front ends at before the front's last byte stands in the text as well
+  -- what a part of the front ends at before the front's last byte is in the text as well
   abbrev PartSame : StringPart → StringPart → Type 0
   PartSame (piece p k) other = k ≤ m → other ≡ piece p k
   PartSame (closing k) other = k ≤ m → other ≡ closing k
@@ -541,7 +541,7 @@ module _ (text : List ℕ) (m : ℕ) (ends : Ends text m) where
           ),
         )
 
-  -- what stands in the front ends before its last byte, a line feed, does
+  -- what is in the front ends before its last byte, a line feed, does
 
   abbrev ClosesBefore : StringPart → Type 0
   ClosesBefore (piece p k) = Unit {0}

@@ -1,4 +1,4 @@
--- Faults of tokens: where they are, and what stands there.
+-- Faults of tokens: where they are, and what is there.
 use Rattle.std.proofs.Common.{◌≡◌, ℕ, zero, suc, ◌+◌, ◌-◌, ◌<◌, ◌≤◌, ⊎_elim, inl, Bool, true, false, cond, eqb, nat_lt, nat_le, not, ◌&&◌, ◌||◌, List, [], ◌∷◌, ◌++◌, length, get_or, slice_get, take, drop, Option, Some, None, Ok, Err, true≢false, refl, ap, sym, subst, ◌∙◌, eqb-true, arith, length-drop}
 use Rattle.std.proofs.lemmas.Bool.Decides.{nat_tests}
 use Rattle.std.proofs.lemmas.List.Sums.{prefix_len-le-length}
@@ -185,7 +185,7 @@ module _ (text : List ℕ) (utf8 : IsUtf8 text) where
         (sym (if_false (stands text (i + 1) 117) (digits_end 4 text (i + 2)) (cond (stands text (i + 1) 85) (digits_end 8 text (i + 2)) (char_end text (i + 1))) h
         ∙ if_false (stands text (i + 1) 85) (digits_end 8 text (i + 2)) (char_end text (i + 1)) k)))))
 
-    -- a byte that may not stand in a string
+    -- a byte that may not are in a string
     cannot_stand : stands text i (mark_of kind) ≡ false → (has_escapes kind && stands text i backslash) ≡ false → i < length text → may_stand (get_or text i 0) ≡ false
     cannot_stand mark escape inside =
         let c = get_or text i 0 in

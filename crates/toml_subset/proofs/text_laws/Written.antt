@@ -36,7 +36,7 @@ module _ (text : List ℕ) (utf8 : IsUtf8 text) where
   pub from_places : (i next : ℕ) (span : Span) → i ≤ next → IsCharBoundary text i → IsCharBoundary text next → span ≡ from_to i next → LiesBetween text span
   from_places i next span le start end is = subst (LiesBetween text) (sym is) (record { ordered = le; start_border = start; end_border = end })
 
-  -- where an ASCII byte stands
+  -- where an ASCII byte is
   pub at_byte : (i c : ℕ) → c < 128 → stands text i c ≡ true → IsCharBoundary text i
   at_byte i c low h =
       let inside = passes_inside (λ b. eqb b c) text i h in

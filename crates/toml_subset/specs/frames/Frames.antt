@@ -1,4 +1,4 @@
--- What stands open while a value is read, and what reading still owes of it.
+-- What is open while a value is read, and what reading still owes of it.
 use Rattle.std.specs.Prelude.{◌≡◌, ℕ, ◌+◌, ◌-◌, ◌≤◌, List, [], ◌∷◌, None, Ok, length}
 use Rattle.toml_subset.specs.Answer.{TomlReading, then_read, fault_or}
 use Rattle.toml_subset.specs.Data as «data»
@@ -12,18 +12,18 @@ use Rattle.toml_subset.specs.declared.string.Key.{Key}
 use Rattle.toml_subset.specs.declared.frames.between.Next.{Next}
 use Rattle.toml_subset.specs.declared.frames.between.Next.TheVariants.{Closed, Further}
 
--- An array or an inline table that a value is being read for: the place of its opening, how many tables and arrays stand
+-- An array or an inline table that a value is being read for: the place of its opening, how many tables and arrays are
 -- around it, and what was read of it. An inline table has a key whose `=` was read.
 pub data Frame : Type 0 where
   in_array : ℕ → ℕ → Items → Frame
   in_table : ℕ → ℕ → Branches → List Key → Frame
 
--- how many tables and arrays stand around it
+-- how many tables and arrays are around it
 abbrev pub depth_around : Frame → ℕ
 depth_around (in_array start above items) = above
 depth_around (in_table start above branches keys) = above
 
--- how many stand around its value, those of a dotted key too
+-- how many are around its value, those of a dotted key too
 abbrev pub depth_within : Frame → ℕ
 depth_within (in_array start above items) = above + 1
 depth_within (in_table start above branches keys) = above + 1 + (length keys - 1)
@@ -60,17 +60,17 @@ on_with text (in_array start above items) v =
 on_with text (in_table start above branches keys) v =
     then_read (table_read start) (entry_put (entries_at text (above + 1)) text keys branches v)
 
--- what a value leads to in all that stands open around it, the outermost first
+-- what a value leads to in all that is open around it, the outermost first
 abbrev pub resume : List ℕ → List Frame → TomlReading ValueFound → TomlReading ValueFound
 resume text [] answer = answer
 resume text (frame ∷ more) answer = then_read (on_with text frame) (resume text more answer)
 
--- they stand in one another, a value in the last of them
+-- they are in one another, a value in the last of them
 abbrev pub AreNested : ℕ → List Frame → ℕ → Type 0
 AreNested above [] last = above ≡ last
 AreNested above (frame ∷ more) last = (depth_around frame ≡ above) × IsShallowFrame frame × AreNested (depth_within frame) more last
 
--- a value that was read, or a frame whose value stands at a place
+-- a value that was read, or a frame whose value is at a place
 pub data ValueStep : Type 0 where
   read : ValueFound → ValueStep
   waits : Frame → ℕ → ValueStep

@@ -15,13 +15,13 @@ use Rattle.toml_subset.specs.declared.string.Key.{Key}
 use Rattle.toml_subset.specs.declared.frames.part.HeaderPart.{HeaderPart}
 use Rattle.toml_subset.specs.declared.frames.part.HeaderPart.TheVariants.{Through, Table, Array}
 
--- What a table that was taken out is where it stands: a table of its own, or the last one of an array of tables, with the
--- array's place, the tables before and its own place.
+-- What a table that was taken out is where it is there: a table of its own, or the last one of an array of tables, with
+-- the array's place, the tables before and its own place.
 pub data Around : Type 0 where
   alone : Span → Mark → Around
   behind : Span → List (Span × Branches) → Span → Around
 
--- how many tables and arrays it puts around what stands in it
+-- how many tables and arrays it puts around what is in it
 abbrev pub steps_in : Around → ℕ
 steps_in (alone span mark) = 1
 steps_in (behind span before at) = 2
@@ -31,7 +31,7 @@ abbrev pub bodies_to : List (Span × Branches) → Span → Branches → Bodies
 bodies_to [] span inner = last span inner
 bodies_to (x ∷ xs) span inner = body x.0 x.1 (bodies_to xs span inner)
 
--- what stands there with the table put back
+-- what is there with the table put back
 abbrev pub around_node : Around → Branches → Node
 around_node (alone span mark) inner = growing span mark inner
 around_node (behind span before at) inner = tables span (bodies_to before at inner)
@@ -42,7 +42,7 @@ pub record TableLevel : Type 0 where
   pub place : ℕ
   pub around : Around
 
--- what stands at the place of a table that was taken out
+-- what is at the place of a table that was taken out
 abbrev pub hole : Key → Node
 hole key = closed key.span (data.boolean false)
 
@@ -52,7 +52,7 @@ branches_with_node i node unbranched = unbranched
 branches_with_node zero node (branch key old more) = branch key node more
 branches_with_node (suc i) node (branch key old more) = branch key old (branches_with_node i node more)
 
--- the place of a key, and what stands there
+-- the place of a key, and what is there
 abbrev pub found_at : Key → Branches → Option (ℕ × Node)
 found_at key unbranched = None
 found_at key (branch other node more) =
@@ -75,7 +75,7 @@ abbrev pub steps : List TableLevel → ℕ
 steps [] = 0
 steps (level ∷ more) = steps_in level.around + steps more
 
--- the open table, what it was taken out of, and how many tables and arrays stand around its entries
+-- the open table, what it was taken out of, and how many tables and arrays are around its entries
 pub record Cursor : Type 0 where
   pub around : List TableLevel
   pub here : Branches
@@ -101,7 +101,7 @@ abbrev pub all_of : Bodies → List (Span × Branches)
 all_of (last span branches) = (span, branches) ∷ []
 all_of (body span branches more) = (span, branches) ∷ all_of more
 
--- What a part of a header opens of what stands at it. A part before the last goes into any table but an inline one, and
+-- What a part of a header opens of what is at it. A part before the last goes into any table but an inline one, and
 -- into the last table of an array; the last one takes over an implicit table, or goes behind the tables of an array.
 abbrev pub header_branches : HeaderPart → Node → Option (Around × Branches)
 header_branches Through (closed span content) = None
@@ -116,7 +116,7 @@ header_branches (Array at) (closed span content) = None
 header_branches (Array at) (growing span mark inner) = None
 header_branches (Array at) (tables span bodies) = Some (behind span (all_of bodies) at, unbranched)
 
--- what it makes where nothing stands, unless that is too deep
+-- what it makes where nothing is there, unless that is too deep
 abbrev pub new_around : HeaderPart → Key → ℕ → Option Around
 new_around Through key above = if above == depth_limit then None else Some (alone key.span implicit)
 new_around (Table at) key above = if above == depth_limit then None else Some (alone at by_header)
@@ -167,7 +167,7 @@ Lead (key ∷ keys) [] = ⊥
 Lead (key ∷ keys) (level ∷ levels) = ((node : Node) × (found_at key level.table ≡ Some (level.place, node))) × Lead keys levels
 
 -- A way as it stands for a document: put together it is the document's tree, its section leads along it, and no value
--- stands too deep.
+-- is too deep.
 pub record IsWay (document : Document) (c : Cursor) : Type 0 where
   pub root : document.root ≡ all_plugged c.around c.here
   pub leads : Lead document.section c.around

@@ -1,4 +1,4 @@
--- Where values and keys stand in a text.
+-- Where values and keys are in a text.
 use Rattle.std.specs.Prelude.{◌≡◌, ℕ, false, List, slice_range, ⊤}
 use Rattle.deny_text.specs.Spans.{LiesBetween}
 use Rattle.deny_text.specs.declared.span.Span.{Span}
@@ -13,7 +13,7 @@ IsSpelled text span written = written.escaped ≡ false → written.text ≡ sli
 abbrev pub IsKeyPlaced : List ℕ → Key → Type 0
 IsKeyPlaced text key = LiesBetween text key.span × IsSpelled text key.span key.name
 
--- all that stands in a value of a span: items, keys and the values of entries, down to the last
+-- all that is in a value of a span: items, keys and the values of entries, down to the last
 abbrev mutual
   pub IsContentPlaced : List ℕ → Span → TomlContent → Type 0
   IsContentPlaced text span (string written) = IsSpelled text span written
@@ -33,6 +33,6 @@ abbrev mutual
   AreEntriesPlaced text (entry key span content more) =
       IsKeyPlaced text key × LiesBetween text span × IsContentPlaced text span content × AreEntriesPlaced text more
 
--- a value and all that stands in it
+-- a value and all that is in it
 abbrev pub IsPlaced : List ℕ → Toml → Type 0
 IsPlaced text value = LiesBetween text value.span × IsContentPlaced text value.span value.content

@@ -11,18 +11,18 @@ use crate::{Space, SyntaxError, after_blanks, control_character, space_from, sta
 pub enum Next {
     /// It is closed, up to a place.
     Closed(usize),
-    /// A further item or entry stands at a place.
+    /// A further item or entry is at a place.
     Further(usize),
 }
 
-/// Whether a space in an array ends in a comment, at a character that may not stand there.
+/// Whether a space in an array ends in a comment, at a character that may not are there.
 fn is_cut(text: &str, space: Space) -> bool
     ensures { result ≡ (space.in_comment && nat_lt space.end (length text.now)) }
 {
     space.in_comment && space.end < text.len()
 }
 
-/// What is wrong behind a space in an array, where no token stands.
+/// What is wrong behind a space in an array, where no token is.
 fn space_fault(text: &str, place: usize) -> SyntaxError
     requires { place ≤ length text.now }
     ensures { result ≡ fault_of_space text.now place }

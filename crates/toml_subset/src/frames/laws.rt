@@ -1,4 +1,4 @@
-//! Laws of what stands open, as contracts of functions that do nothing.
+//! Laws of what is open, as contracts of functions that do nothing.
 ghost use Rattle.std.specs.Prelude.{◌≡◌, ◌+◌, ◌<◌, ◌≤◌, ℕ, List, Option, Some, length, option_map};
 ghost use Rattle.deny_text.specs.declared.span.Span.{Span};
 ghost use Rattle.toml_subset.specs.Answer.{then_read};

@@ -5,7 +5,7 @@ use deny_text::Span;
 /// What a part of a header opens.
 #[derive(Clone, Copy)]
 pub enum HeaderPart {
-    /// A part before the last: the table that the next part stands in.
+    /// A part before the last: the table that the next part is in.
     Through,
     /// The last part of a header with this place: its table.
     Table(Span),

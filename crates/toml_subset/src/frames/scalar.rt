@@ -17,7 +17,7 @@ pub enum Scalar<'de> {
     Boolean(bool),
 }
 
-/// How many bytes of a word stand at the front of a text.
+/// How many bytes of a word are at the front of a text.
 fn shared_len(word: &[u8], text: &[u8]) -> usize
     ensures count { result ≡ shared_count word.now text.now }
     ensures within { result ≤ length word.now }

@@ -48,7 +48,7 @@ pub enum ErrorKind {
     },
     /// The table lacks a key that has to be there.
     MissingField(&'static str),
-    /// The table has keys that nothing asked for, told in the order in which they first appear.
+    /// The table has keys that nothing asked for, reported in the order in which they first appear.
     UnexpectedKeys(Texts),
     /// The string is none of these names.
     UnexpectedValue(Texts),
@@ -58,7 +58,7 @@ pub enum ErrorKind {
     OutOfRange(&'static str),
 }
 
-/// A fault of a shape and where it stands in the text.
+/// A fault of a shape and where it is in the text.
 #[derive(Drop)]
 pub struct ShapeError {
     pub kind: ErrorKind,

@@ -23,7 +23,7 @@ use toml_subset::{Key, Keys, SyntaxError, SyntaxReason, TomlError};
 pub(crate) struct Document<'de> {
     around: Vec<TableLevel<'de>>,
     body: TableTree<'de>,
-    /// How many tables and arrays stand around its entries.
+    /// How many tables and arrays are around its entries.
     above: usize,
 }
 
@@ -273,7 +273,7 @@ impl<'de> Pending<'de> {
     ghost use Rattle.toml_value.specs.BranchViews.{closed_node};
     ghost use Rattle.toml_value.specs.LevelViews.{cursor_view, pending_view};
 
-    /// How many tables and arrays stand around the value.
+    /// How many tables and arrays are around the value.
     pub(crate) fn inside(&self) -> usize
         ensures { result ≡ self.now.above + (length self.now.awaiting.keys - 1) }
     {

@@ -7,7 +7,7 @@ ghost use Rattle.toml_value.specs.BranchViews.{branches_view, is_whole};
 use super::{Branches, Mark, Node};
 use toml_subset::{Key, SyntaxError, SyntaxReason};
 
-/// How many tables and arrays may stand around a value.
+/// How many tables and arrays may be around a value.
 pub(crate) const DEPTH_LIMIT: usize = 128;
 
 /// The fault at a part of a key.

@@ -12,7 +12,7 @@ use deny_text::Span;
 use std::alloc::{AllocError, Global};
 use toml_subset::key_index::KeyParts;
 
-/// What stands at a key, as a value.
+/// What is at a key, as a value.
 #[cycle(finish)]
 fn into_value<'de>(alloc: Global, node: Node<'de>) -> Result<Value<'de>, AllocError>
     ensures { IfOk result (λ value. value_view value ≡ node_value (node_view node.entry)) }

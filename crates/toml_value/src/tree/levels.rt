@@ -12,7 +12,7 @@ use std::alloc::{AllocError, Global};
 use toml_subset::Key;
 use toml_subset::frames::HeaderPart;
 
-/// What a table that was taken out is where it stands.
+/// What a table that was taken out is where it is there.
 #[derive(Drop)]
 pub(crate) enum Around<'de> {
     /// A table of its own.
@@ -32,11 +32,11 @@ pub(crate) struct TableLevel<'de> {
     ghost around_whole: { IsTrue (is_whole_around around) },
 }
 
-/// What a part of a header opens of what stands at it.
+/// What a part of a header opens of what is at it.
 type OpenedTable<'de> = Option<(Around<'de>, Branches<'de>)>;
 
 impl<'de> Around<'de> {
-    /// How many tables and arrays it puts around what stands in it.
+    /// How many tables and arrays it puts around what is in it.
     pub(crate) fn steps(&self) -> usize
         ensures { result ≡ steps_in (around_view self.now) }
     {
@@ -46,10 +46,10 @@ impl<'de> Around<'de> {
         }
     }
 
-    /// Lets go what stands around the table.
+    /// Lets go what is around the table.
     pub(crate) fn let_go(self) {}
 
-    /// What stands there with the table put back.
+    /// What is there with the table put back.
     fn with(self, inner: Branches<'de>) -> Node<'de>
         requires around { IsTrue (is_whole_around self) }
         requires inner { IsTrue (is_whole inner) }
@@ -153,7 +153,7 @@ fn appended(alloc: Global, node: Node<'_>, at: Span) -> Result<OpenedTable<'_>, 
     }
 }
 
-/// What a part of a header opens of what stands at it. Where memory ends, nothing is left.
+/// What a part of a header opens of what is at it. Where memory ends, nothing is left.
 pub(crate) fn opened(
     alloc: Global,
     part: HeaderPart,
@@ -172,7 +172,7 @@ pub(crate) fn opened(
     }
 }
 
-/// What a part of a header makes where nothing stands, unless that is too deep.
+/// What a part of a header makes where nothing is there, unless that is too deep.
 pub(crate) fn fresh<'de>(
     alloc: Global,
     part: HeaderPart,

@@ -31,7 +31,7 @@ fn dotted_parts(node: Node<'_>) -> Option<(Span, Branches<'_>)>
     }
 }
 
-/// What stands below a key that has further parts: the key's place, where its table has it, and the table there
+/// What is below a key that has further parts: the key's place, where its table has it, and the table there
 /// with its own place.
 struct Below<'de> {
     place: Option<usize>,
@@ -39,7 +39,7 @@ struct Below<'de> {
     table: Branches<'de>,
 }
 
-/// Takes the table below a key out, or makes one where nothing stands.
+/// Takes the table below a key out, or makes one where nothing is there.
 fn take_below<'de>(alloc: Global, table: &mut Branches<'de>, key: &Key<'_>) -> Below<'de>
     requires whole { IsTrue (is_whole table.old) }
     requires leads { LeadsOn (found_at key.now (branches_view table.old)) }
@@ -117,7 +117,7 @@ fn let_go(table: Branches<'_>, _key: Key<'_>) {
     table.let_go();
 }
 
-/// Puts a value at a key of which `rest` are the further parts, where the table rules let it stand.
+/// Puts a value at a key of which `rest` are the further parts, where the table rules let it are.
 pub(crate) fn put_along<'de>(
     alloc: Global,
     table: Branches<'de>,

@@ -1,4 +1,4 @@
--- What is heard by the one call that was made.
+-- What is read by the one call that was made.
 use Rattle.std.proofs.Common.{◌≡◌, ℕ, List, [], ◌∷◌, ◌++◌, map, Some, Ok, Err, refl, sym, ap, ◌∙◌}
 use Rattle.tree_core.specs.Answer.{listed_entry}
 use Rattle.tree_core.specs.Call as call

@@ -1,4 +1,4 @@
--- What is heard, worked out by hand from the rules.
+-- What is read, worked out by hand from the rules.
 use Rattle.std.proofs.Common.{◌≡◌, ap, ◌∙◌, ℕ, List, [], ◌∷◌, true, false, codes, refl}
 use Rattle.std.specs.FinMap as map
 use Rattle.std.specs.List.{filter_map}
@@ -33,7 +33,7 @@ tree = map.from_sorted stored
 abbrev there : List ℕ → ReadResult
 there path = there_heard LicenseFile tree (read_place LicenseFile (resolve (codes "/w")) (components_of path))
 
--- what stands there is what is stored
+-- what is there is what is stored
 looks : (path : List ℕ) → there path ≡ file_heard (map.find place_cmp (read_place LicenseFile (resolve (codes "/w")) (components_of path)) stored)
 looks path = ap file_heard (map.get-from_sorted place_cmp stored (read_place LicenseFile (resolve (codes "/w")) (components_of path)) tt)
 
@@ -42,7 +42,7 @@ a_text : there (codes "LICENSE") ≡ text (10 ∷ [])
 unfolding path_components path_names is_utf8 chars encode file_heard
 a_text = looks (codes "LICENSE")
 
--- FF stands in no UTF-8
+-- FF is in no UTF-8
 no_utf8 : there (codes "COPYING") ≡ not_utf8
 unfolding path_components path_names is_utf8 chars encode file_heard
 no_utf8 = looks (codes "COPYING")
@@ -94,7 +94,7 @@ their_calls : calls_in (codes "/w") (listing_read (call.entries []) ∷ file_rea
 unfolding path_join
 their_calls = refl
 
--- what the answers let hear
+-- what the answers say
 heard_text : read_heard (file_read (call.bytes (10 ∷ []))) ≡ text (10 ∷ [])
 unfolding is_utf8 chars encode file_heard
 heard_text = refl

@@ -62,7 +62,7 @@ lacked_behind folder reads made = record { made = made_as (sym (append-nil (call
 
 -- ---- one read
 
--- what is heard by an answer is what its record and the answer let hear
+-- what is read by an answer is what its record and the answer say
 file_recorded : (kind : ReadKind) (path : List ℕ) (before after : ℕ) (answer : CallAnswer) (heard : ReadResult) → file_answered before after answer ≡ Some heard
     → unwrap_or (file_answered (counts_carried (read_answer_of heard)).0 (counts_carried (read_answer_of heard)).1 answer) absent ≡ heard
 file_recorded kind path before after (call.bytes items) heard is = let same : file_heard (Some (file items)) ≡ heard = cc in same
@@ -118,7 +118,7 @@ first_heard-skip is_asked (first ∷ reads) read is =
 not_less : (a b : ℕ) → ltb a b ≡ false → b ≤ a
 not_less a b is = grind (arith, Decides-ltb a b)
 
--- a count that is counted on rose, or stands at the last number
+-- a count that is counted on rose, or is at the last number
 pub rose_counted : (count after : ℕ) → next_count count ≤ after → Rose count after
 rose_counted count after later = elim (ltb count (2 ^ 64 - 1)) as (λ b. ltb count (2 ^ 64 - 1) ≡ b → Rose count after) [
   | true ↦ λ below. let less : count < 2 ^ 64 - 1 = (Decides-ltb count (2 ^ 64 - 1)).0 below in inl (omega arith)

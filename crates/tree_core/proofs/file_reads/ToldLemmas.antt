@@ -1,4 +1,4 @@
--- What the answers to reads let hear, where content is told: what the content has there, but for a failure.
+-- What the answers to reads say, where content is reported: what the content has there, but for a failure.
 use Rattle.std.proofs.Common.{◌≡◌, ◌∙◌, ℕ, Bool, List, [], ◌∷◌, Option, None, Some, refl, sym, ap, subst}
 use Rattle.std.specs.FinMap as finite
 use Rattle.std.specs.Prelude.{unwrap_or}
@@ -21,7 +21,7 @@ use Rattle.tree_core.proofs.file_reads.ReadLemmas.{heard_recorded}
 
 -- ---- one answer
 
--- what is heard is what is there, where the read did not fail
+-- what is read is what is there, where the read did not fail
 abbrev IsHeardOf : ReadResult → ReadResult → Type 0
 IsHeardOf there (failed before after) = Unit {0}
 IsHeardOf there absent = there ≡ absent
@@ -49,7 +49,7 @@ heard_folder : file_heard (Some tree.folder) ≡ wrong_kind
 unfolding file_heard
 heard_folder = refl
 
--- what stands there, by the answer to a read
+-- what is there, by the answer to a read
 bytes_there : (node : Option TreeNode) (items : List ℕ) → call.bytes items ≡ read_answer node → node ≡ Some (tree.file items)
 bytes_there None items says = cc
 bytes_there (Some tree.folder) items says = cc
@@ -82,7 +82,7 @@ listing_is : (content : Content) (place : Place) → listing_heard content place
 unfolding listing_heard
 listing_is content place = refl
 
--- what stands there, by the answer to a listing
+-- what is there, by the answer to a listing
 module _ (content : Content) (place : Place) where
   listed_there : (node : Option TreeNode) (items : List (List ℕ × Bool)) → call.entries items ≡ list_answer (entries_in content place) node → listing_by content place node ≡ entries items
   listed_there None items says = cc
@@ -123,7 +123,7 @@ kind_told LicenseFile content base path before after answer heard is says =
     subst (λ (place : Place). IsHeardOf (file_heard (finite.get content place)) heard) (resolve-join joins_by_parts base path)
     (file_told (node_at content (join_of base path)) before after answer heard is says)
 
--- what is heard of what is there, but for a failure
+-- what is read of what is there, but for a failure
 or_failed : (there heard : ReadResult) → IsHeardOf there heard → or_there (counts_in (read_answer_of heard)) there ≡ heard
 or_failed there (failed before after) is = refl
 or_failed there absent is = is
@@ -132,7 +132,7 @@ or_failed there not_utf8 is = is
 or_failed there (text bytes) is = is
 or_failed there (entries listed) is = is
 
--- where the content says what a read was answered, the read lets hear what the content has there, but for its failure
+-- where the content says what a read was answered, the read says what the content has there, but for its failure
 read_told : (content : Content) (base : List ℕ) (before : ℕ) (read : AnsweredRead) → IsRecorded before read → Says content (call_for base read.recorded read.answer)
     → read_heard read
     ≡ or_there (counts_in read.recorded.answer) (there_heard read.recorded.kind content (read_place read.recorded.kind (resolve base) (components_of read.recorded.path)))

@@ -1,4 +1,4 @@
--- What is heard of a file, by what a tree answers and what its bytes are.
+-- What is read of a file, by what a tree answers and what its bytes are.
 use Rattle.std.proofs.Common.{◌≡◌, ℕ, List, [], ◌∷◌, ◌++◌, Some, Result, Ok, Err, Bool, true, false, cond, refl, sym, ap, ◌∙◌}
 use Rattle.std.specs.Str.{IsUtf8, is_utf8}
 use Rattle.std.specs.Str.Lossy.{utf8_valid_len}
@@ -50,7 +50,7 @@ module _ (begun after : ℕ) (old new : List Call) (path : List ℕ) where
   pub file_read : (bytes : List ℕ) (heard : Result (List ℕ) ReadFault) → new ≡ old ++ read_call path (Ok bytes) ∷ [] → heard ≡ heard_of (Some (file bytes)) → IsTextRead begun after old new path heard
   file_read bytes heard made is = record { answer = call.bytes bytes; made = made; hears = ap Some (sym is) }
 
-  -- what a refusal lets hear
+  -- what a refusal says
   refused_read : (error : TreeError) (fault : ReadFault) → new ≡ old ++ read_call path (Err error) ∷ [] → text_answered begun after (refusal_answer error) ≡ Some (Err fault) → IsTextRead begun after old new path (Err fault)
   refused_read error fault made hears = record { answer = refusal_answer error; made = made; hears = hears }
 

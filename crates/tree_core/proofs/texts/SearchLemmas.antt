@@ -25,12 +25,12 @@ pub misses-append : (paths more : List (List ℕ)) → absent_looks (paths ++ mo
 misses-append [] more = refl
 misses-append (path ∷ paths) more = ap (λ calls. look_of path (told false) ∷ calls) (misses-append paths more)
 
--- one path more was looked at, or several, and nothing stands there
+-- one path more was looked at, or several, and nothing is there
 pub looked_on : (old mid new : List Call) (before : List (List ℕ)) (more : List (List ℕ)) → mid ≡ old ++ absent_looks before → new ≡ mid ++ absent_looks more → new ≡ old ++ absent_looks (before ++ more)
 looked_on old mid new before more first then =
     then ∙ ap (λ calls. calls ++ absent_looks more) first ∙ append_assoc old (absent_looks before) (absent_looks more) ∙ ap (λ calls. old ++ calls) (sym (misses-append before more))
 
--- something stands at the next of the paths
+-- something is at the next of the paths
 pub looked_hit : (old mid new : List Call) (paths before rest : List (List ℕ)) (found : List ℕ) → mid ≡ old ++ absent_looks before → new ≡ mid ++ look_of found (told true) ∷ [] → paths ≡ before ++ found ∷ rest → IsHit paths old new found
 looked_hit old mid new paths before rest found first then parts = record {
   before = before;
@@ -44,7 +44,7 @@ split_here g f [] i d lt = absurd (omega arith)
 split_here g f (x ∷ xs) zero d lt = refl
 split_here g f (x ∷ xs) (suc i) d lt = ap (λ l. g (f x) ∷ l) (split_here g f xs i d (omega arith))
 
--- the hit of some paths is one of more paths, behind those at which nothing stands
+-- the hit of some paths is one of more paths, behind those at which nothing is there
 hit_behind : (old mid new : List Call) (before paths rest : List (List ℕ)) (found : List ℕ) → mid ≡ old ++ absent_looks before → IsHit paths mid new found → IsHit (before ++ paths ++ rest) old new found
 hit_behind old mid new before paths rest found first hit = record {
   before = before ++ hit.before;
@@ -95,7 +95,7 @@ front_behind old mid new before paths rest first front = record {
   made = looked_on old mid new before front.before first front.made;
 }
 
--- a search of some paths was given up, behind those at which nothing stands
+-- a search of some paths was given up, behind those at which nothing is there
 behind_until : (old mid new : List Call) (before paths rest : List (List ℕ)) (error : SearchError) → mid ≡ old ++ absent_looks before → LookedUntil paths mid new error → LookedUntil (before ++ paths ++ rest) old new error
 behind_until old mid new before paths rest (Failed low high) first until = last_behind old mid new before paths rest _ first until
 behind_until old mid new before paths rest Memory first (inl front) = inl (front_behind old mid new before paths rest first front)
@@ -124,7 +124,7 @@ taken_next g f [] i d lt = absurd (omega arith)
 taken_next g f (x ∷ xs) zero d lt = refl
 taken_next g f (x ∷ xs) (suc i) d lt = ap (λ l. g (f x) ∷ l) (taken_next g f xs i d (omega arith))
 
--- nor does anything stand at the path of the next name
+-- nor does anything are at the path of the next name
 pub missed_on : {X : Type 0} (old mid new : List Call) (folder : List ℕ) (f : X → List ℕ) (xs : List X) (i : ℕ) (d : X) (path : List ℕ) → i < length xs → path ≡ join_of folder (f (get_or xs i d)) → mid ≡ old ++ absent_looks (paths_in_folder (map f (take i xs)) folder) →
     new ≡ mid ++ look_of path (told false) ∷ [] → new ≡ old ++ absent_looks (paths_in_folder (map f (take (i + 1) xs)) folder)
 missed_on old mid new folder f xs i d path lt is first then =

@@ -1,4 +1,4 @@
--- What is heard of a crate's files, and what a content has of them.
+-- What is read of a crate's files, and what a content has of them.
 use Rattle.std.specs.Prelude.{ℕ, Bool, true, false, ◌&&◌, List, [], Option, Some, None, if◌then◌else◌}
 use Rattle.std.specs.FinMap as map
 use Rattle.std.specs.List.{fold}
@@ -13,9 +13,9 @@ use Rattle.tree_core.specs.declared.reads.ReadKind.{ReadKind}
 use Rattle.tree_core.specs.declared.reads.ReadKind.TheVariants.{Manifest, Listing, LicenseFile}
 use Rattle.tree_core.specs.declared.reads.ReadRecord.{ReadRecord}
 
--- What is heard by a read: that it failed, with the tree's counts of faults right before and right after it; that nothing
--- is there, or a folder in place of a file and the other way round; that the bytes are no UTF-8; a text; or, of a listing,
--- the entries in byte order of their names.
+-- What is read by a read: that it failed, with the tree's counts of faults right before and right after it; that
+-- nothing is there, or a folder in place of a file and the other way round; that the bytes are no UTF-8; a text; or, of
+-- a listing, the entries in byte order of their names.
 pub data ReadResult : Type 0 where
   failed : ℕ → ℕ → ReadResult
   absent : ReadResult
@@ -24,19 +24,19 @@ pub data ReadResult : Type 0 where
   text : List ℕ → ReadResult
   entries : List ListedEntry → ReadResult
 
--- ---- what stands in a tree
+-- ---- what is in a tree
 
 -- bytes as a text
 abbrev pub text_heard : List ℕ → ReadResult
 text_heard bytes = if is_utf8 bytes then text bytes else not_utf8
 
--- of what stands there, read as a text
+-- of what is there, read as a text
 unfoldable pub file_heard : Option TreeNode → ReadResult
 file_heard None = absent
 file_heard (Some folder) = wrong_kind
 file_heard (Some (file bytes)) = text_heard bytes
 
--- of what stands at a place, listed
+-- of what is at a place, listed
 abbrev pub listing_by : Content → Place → Option TreeNode → ReadResult
 listing_by content place None = absent
 listing_by content place (Some folder) = entries (entries_in content place)
@@ -69,9 +69,9 @@ counts_in answer.WrongKind = None
 counts_in answer.NotUtf8 = None
 counts_in (answer.Failed before after) = Some (before, after)
 
--- ---- what stands where a read looks
+-- ---- what is where a read looks
 
--- where a read looks: a licence file stands by the crate's folder, a manifest and a listing by the root
+-- where a read looks: a licence file is by the crate's folder, a manifest and a listing by the root
 abbrev pub read_place : ReadKind → Place → List (List ℕ) → Place
 read_place Manifest base parts = fold step [] parts
 read_place Listing base parts = fold step [] parts
@@ -83,7 +83,7 @@ there_heard Manifest content place = file_heard (map.get content place)
 there_heard Listing content place = listing_heard content place
 there_heard LicenseFile content place = file_heard (map.get content place)
 
--- what stands there, but for a failure
+-- what is there, but for a failure
 abbrev pub or_there : Option (ℕ × ℕ) → ReadResult → ReadResult
 or_there None there = there
 or_there (Some counts) there = failed counts.0 counts.1

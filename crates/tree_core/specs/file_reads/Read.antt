@@ -50,9 +50,9 @@ abbrev pub call_lost : List ℕ → Option ReadRecord → List Call
 call_lost folder None = []
 call_lost folder (Some read) = call_for folder read call.no_memory ∷ []
 
--- ---- what they let hear
+-- ---- what they say
 
--- what the answer of a read of this kind lets hear, between these counts of faults
+-- what the answer of a read of this kind says, between these counts of faults
 abbrev pub kind_answered : ReadKind → ℕ → ℕ → CallAnswer → Option ReadResult
 kind_answered Manifest before after answer = file_answered before after answer
 kind_answered Listing before after answer = folder_answered before after answer
@@ -62,50 +62,50 @@ kind_answered LicenseFile before after answer = file_answered before after answe
 abbrev pub counts_carried : ReadAnswer → ℕ × ℕ
 counts_carried answer = unwrap_or (counts_in answer) (0, 0)
 
--- What a read lets hear: what its answer does, between the counts that its record carries. An answer by which nothing is
--- heard stands for a read that was not made.
+-- What a read says: what its answer does, between the counts that its record carries. An answer by which nothing is
+-- read stands for a read that was not made.
 abbrev pub read_heard : AnsweredRead → ReadResult
 read_heard read =
     unwrap_or (kind_answered read.recorded.kind (counts_carried read.recorded.answer).0 (counts_carried read.recorded.answer).1 read.answer) absent
 
--- what the first read of those that are asked for lets hear; where there is none, nothing is there
+-- what the first read of those that are asked for says; where there is none, nothing is there
 abbrev pub first_heard : (ReadRecord → Bool) → List AnsweredRead → ReadResult
 first_heard is_asked [] = absent
 first_heard is_asked (read ∷ reads) = if is_asked read.recorded then read_heard read else first_heard is_asked reads
 
 -- ---- their records
 
--- The record of a read tells what its answer lets hear; where the call failed, with the tree's count of faults before it and
+-- The record of a read tells what its answer says; where the call failed, with the tree's count of faults before it and
 -- the one behind it.
 pub record IsRecorded (before : ℕ) (read : AnsweredRead) : Type 0 where
   pub heard : ReadResult
   pub hears : kind_answered read.recorded.kind before (fault_behind before read.answer) read.answer ≡ Some heard
   pub tells : read.recorded.answer ≡ read_answer_of heard
 
--- the records tell what the answers let hear, one after the other from this count of faults on
+-- the records tell what the answers say, one after the other from this count of faults on
 abbrev pub AreReads : ℕ → List AnsweredRead → Type 0
 AreReads before [] = Unit {0}
 AreReads before (read ∷ reads) = IsRecorded before read × AreReads (fault_behind before read.answer) reads
 
--- reads whose records tell what their answers let hear rise one after the other, up to the count behind their calls
+-- reads whose records tell what their answers say rise one after the other, up to the count behind their calls
 abbrev pub ReadsRise : Type 0
 ReadsRise = (folder : List ℕ) (before : ℕ) (reads : List AnsweredRead) → AreReads before reads → RiseInOrder before (records_of_reads reads) (faults_after before (calls_in folder reads))
 
--- ---- where content is told
+-- ---- where content is reported
 
--- what the content has where a read looks is what the read lets hear, but for its failure
+-- what the content has where a read looks is what the read says, but for its failure
 abbrev pub HearsContent : Content → List ℕ → AnsweredRead → Type 0
 HearsContent content folder read =
     read_heard read ≡ or_there (counts_in read.recorded.answer) (there_heard read.recorded.kind content (read_place read.recorded.kind (resolve folder) (components_of read.recorded.path)))
 
--- where each call says what a content has, and the records tell what the answers let hear, so does each read
+-- where each call says what a content has, and the records tell what the answers say, so does each read
 abbrev pub ReadsTellContent : Type 0
 ReadsTellContent = (content : Content) (folder : List ℕ) (before : ℕ) (reads : List AnsweredRead) → AreReads before reads → All (Says content) (calls_in folder reads) → All (HearsContent content folder) reads
 
 -- ---- over a tree
 
--- These reads were made for a crate in this folder: their calls were made, and no other, and their records tell what the
--- answers let hear.
+-- These reads were made for a crate in this folder: their calls were made, and no other, and their records tell what
+-- the answers say.
 pub record MadeReads (told tells : Option Content) (before after : ℕ) (old new : List Call) (folder : List ℕ) (reads : List AnsweredRead) : Type 0 where
   pub made : Made told tells before after old new (calls_in folder reads)
   pub are : AreReads before reads

@@ -1,4 +1,4 @@
--- What was heard, as the values of the code stand for it.
+-- What was read, as the values of the code stand for it.
 use Rattle.std.specs.Prelude.{ℕ, List, map, Result, Ok, Err}
 use Rattle.tree_core.specs.Answer.{listed_entry}
 use Rattle.tree_core.specs.declared.tree.Entry.{Entry}

@@ -1,4 +1,4 @@
--- What is heard of a file as a text.
+-- What is read of a file as a text.
 use Rattle.std.specs.Prelude.{◌≡◌, ℕ, List, [], ◌∷◌, ◌++◌, Option, Some, None, Result, Ok, Err, if◌then◌else◌}
 use Rattle.std.specs.Str.{is_utf8}
 use Rattle.std.specs.Str.Lossy.{utf8_valid_len}
@@ -16,8 +16,8 @@ heard_of (Some (file bytes)) = if is_utf8 bytes then Ok bytes else Err (NotUtf8 
 
 -- ---- by what a tree answered
 
--- What is heard by the answer of a read, where the tree's count of faults was the first number when the run began, and is the
--- second behind the read. For want of memory nothing is heard, and a look or a listing answers no read.
+-- What is read by the answer of a read, where the tree's count of faults was the first number when the run began, and
+-- is the second behind the read. For want of memory nothing is read, and a look or a listing answers no read.
 abbrev pub text_answered : ℕ → ℕ → CallAnswer → Option (Result (List ℕ) ReadFault)
 text_answered begun after (call.bytes items) = Some (heard_of (Some (file items)))
 text_answered begun after (call.entries items) = None
@@ -30,7 +30,7 @@ text_answered begun after call.no_memory = None
 abbrev pub read_of : List ℕ → CallAnswer → Call
 read_of path answer = record { asked = call.read; path = path; answer = answer }
 
--- one call was made, the read of this path, and this is heard by its answer
+-- one call was made, the read of this path, and this is read by its answer
 pub record IsTextRead (begun after : ℕ) (old new : List Call) (path : List ℕ) (heard : Result (List ℕ) ReadFault) : Type 0 where
   pub answer : CallAnswer
   pub made : new ≡ old ++ read_of path answer ∷ []

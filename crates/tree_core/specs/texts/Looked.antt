@@ -8,19 +8,19 @@ use Rattle.tree_core.specs.declared.texts.search.SearchError.TheVariants.{Failed
 abbrev pub look_of : List ℕ → CallAnswer → Call
 look_of path answer = record { asked = call.exists; path = path; answer = answer }
 
--- looks that were told that nothing stands there
+-- looks that were reported that nothing is there
 abbrev pub absent_looks : List (List ℕ) → List Call
 absent_looks paths = map (λ path. look_of path (call.told false)) paths
 
--- one path was looked at last: there something stands
+-- one path was looked at last: there something is there
 pub record IsHit (paths : List (List ℕ)) (old new : List Call) (found : List ℕ) : Type 0 where
   pub before : List (List ℕ)
   pub rest : List (List ℕ)
   pub parts : paths ≡ before ++ found ∷ rest
   pub made : new ≡ old ++ absent_looks before ++ look_of found (call.told true) ∷ []
 
--- What a search of paths in order found: at all of them nothing stands, or at the first ones, and then something; none behind it
--- was looked at.
+-- What a search of paths in order found: at all of them nothing is there, or at the first ones, and then something;
+-- none behind it was looked at.
 abbrev pub FindsByLooks : List (List ℕ) → List Call → List Call → Option (List ℕ) → Type 0
 FindsByLooks paths old new None = new ≡ old ++ absent_looks paths
 FindsByLooks paths old new (Some found) = IsHit paths old new found
@@ -32,7 +32,7 @@ abbrev pub failed_look : SearchError → CallAnswer
 failed_look (Failed before after) = call.failed
 failed_look Memory = call.no_memory
 
--- one path was looked at last, behind those at which nothing stands, and this was answered
+-- one path was looked at last, behind those at which nothing is there, and this was answered
 pub record IsLast (paths : List (List ℕ)) (old new : List Call) (answer : CallAnswer) : Type 0 where
   pub before : List (List ℕ)
   pub last : List ℕ
@@ -40,7 +40,7 @@ pub record IsLast (paths : List (List ℕ)) (old new : List Call) (answer : Call
   pub parts : paths ≡ before ++ last ∷ rest
   pub made : new ≡ old ++ absent_looks before ++ look_of last answer ∷ []
 
--- the first of the paths were looked at, or none of them, and at these nothing stands
+-- the first of the paths were looked at, or none of them, and at these nothing is there
 pub record AreFirstLooks (paths : List (List ℕ)) (old new : List Call) : Type 0 where
   pub before : List (List ℕ)
   pub rest : List (List ℕ)

@@ -12,12 +12,13 @@ pub fn rises_widen()
     ensures { RisesWiden }
 {}
 
-/// Reads whose records tell what their answers let hear rise, up to the count behind their calls.
+/// Reads whose records tell what their answers say rise, up to the count behind their calls.
 pub fn reads_rise()
     ensures { ReadsRise }
 {}
 
-/// Where the calls say what a content has, each read lets hear what the content has at its path, but for a failure.
+/// Where the calls say what a content has, each read says what the content has at its path, but for a
+/// failure.
 pub fn reads_tell_content()
     ensures { ReadsTellContent }
 {}

@@ -31,7 +31,7 @@ fn text_of(bytes: Bytes) -> FileHeard
     }
 }
 
-/// What is heard of the file at a path.
+/// What is read of the file at a path.
 fn read_at<T: Tree>(alloc: Global, tree: &mut T, path: &str) -> Result<FileHeard, AllocError>
     ensures read { IfOk result (λ heard. IsFileRead (T.fault_count tree.old) (T.fault_count tree.new)
         (T.trace tree.old) (T.trace tree.new) path.now (heard_file heard)) }
@@ -53,7 +53,7 @@ fn read_at<T: Tree>(alloc: Global, tree: &mut T, path: &str) -> Result<FileHeard
     }
 }
 
-/// What is heard of a file of a crate, by its path from the crate's folder.
+/// What is read of a file of a crate, by its path from the crate's folder.
 pub fn read_file<T: Tree>(
     alloc: Global,
     tree: &mut T,
@@ -72,7 +72,7 @@ pub fn read_file<T: Tree>(
     read_at(alloc, tree, joined.as_path())
 }
 
-/// What is heard of the listing of a folder.
+/// What is read of the listing of a folder.
 pub fn list_folder<T: Tree>(
     alloc: Global,
     tree: &mut T,

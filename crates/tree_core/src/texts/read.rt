@@ -26,7 +26,7 @@ fn text_of(bytes: Bytes) -> TextHeard
     }
 }
 
-/// What is heard of the file at a path, by the answer of the one call that is made, the read of that path.
+/// What is read of the file at a path, by the answer of the one call that is made, the read of that path.
 /// `before` is the tree's count of faults when the run began.
 pub fn read_file_text<T: Tree>(
     alloc: Global,

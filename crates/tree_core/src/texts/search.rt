@@ -55,7 +55,7 @@ impl SoughtFile {
     }
 }
 
-/// Whether something stands at a path.
+/// Whether something is at a path.
 fn look<T: Tree>(alloc: Global, tree: &mut T, path: &str, begun: u64) -> Result<bool, SearchError>
     requires { begun ≤ T.fault_count tree.old }
     ensures looked { IfOk result (λ there.
@@ -77,7 +77,7 @@ fn look<T: Tree>(alloc: Global, tree: &mut T, path: &str, begun: u64) -> Result<
     }
 }
 
-/// The first of the names in a folder at which something stands.
+/// The first of the names in a folder at which something is there.
 fn first_in<T: Tree>(
     alloc: Global,
     tree: &mut T,
@@ -105,7 +105,7 @@ fn first_in<T: Tree>(
 }
 
 /// The first of the paths at which a policy or an exceptions file is looked for, in the manifest's folder and
-/// each folder above, at which something stands. `begun` is the tree's count of faults when the run began.
+/// each folder above, at which something is there. `begun` is the tree's count of faults when the run began.
 ///
 /// It is refused where a look fails, and for want of memory.
 pub fn find_upwards<T: Tree>(

@@ -5,7 +5,7 @@ use Rattle.deny_text.specs.Fronts.{StandsInFront}
 use Rattle.check_record.specs.Spelling.{chosen_text}
 use Rattle.check_record.proofs.encode_parts.put_chosen.Given as goal
 
--- what was written, with the places that are left, is all; what stood stays in front
+-- what was written, with the places that are left, is all; what was there stays in front
 abbrev pub invariant-terms : goal.invariant-terms
 invariant-terms l =
     (l.out.items ++ chosen_text (iter_rest (zip_first l.place-iterator)) (iter_rest (zip_second l.place-iterator)) ≡ l.fn.out.items ++ chosen_text l.choice l.hits)

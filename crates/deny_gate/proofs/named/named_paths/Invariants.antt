@@ -1,4 +1,4 @@
--- The paths of the words so far stand there.
+-- The paths of the words so far are there.
 use Rattle.std.proofs.Common.{◌≡◌, take}
 use Rattle.std.specs.List.{flat_map}
 use Rattle.run_request.specs.Given.{texts}

@@ -1,4 +1,4 @@
--- What is shown or told where words have no request.
+-- What is shown or reported where words have no request.
 use Rattle.std.proofs.Common.{[], refl, subst}
 use Rattle.tree_core.proofs.MadeLemmas.{made_none}
 use Rattle.run_request.specs.Given.{IsGiven}

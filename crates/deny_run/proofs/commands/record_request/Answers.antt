@@ -1,4 +1,4 @@
--- The command is refused before it begins, or it runs by the names and texts that are had.
+-- The command is refused before it begins, or it runs by the names and texts that are found.
 use Rattle.std.proofs.Common.{refl, sym, subst, ℕ, IfErr}
 use Rattle.tree_core.specs.texts.Cause.{ReadCounts}
 use Rattle.run_found.specs.Error.{cause_of}

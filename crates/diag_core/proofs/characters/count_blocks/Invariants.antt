@@ -3,7 +3,7 @@ use Rattle.std.specs.List.{count_by, slice_index}
 use Rattle.diag_core.specs.Position.{begins_character}
 use Rattle.diag_core.proofs.characters.count_blocks.Given as goal
 
--- so many characters stand before each block so far
+-- so many characters are before each block so far
 abbrev pub invariant-counted : goal.invariant-counted
 invariant-counted l =
     (length l.counts.items ≡ l.block-index + 1)

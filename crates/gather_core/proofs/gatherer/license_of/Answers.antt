@@ -19,7 +19,7 @@ use Rattle.gather_core.proofs.ToldLemmas.{text_settles}
 use Rattle.gather_core.proofs.TurnCalls.{license_answered}
 use Rattle.gather_core.proofs.gatherer.license_of.Goals as goal
 
--- where the policy's places stand in its file
+-- where the policy's places are in its file
 pub returns-clause-placed : goal.returns-clause-placed
 returns-clause-placed g c = λ placed.
     let policy = c.args.policy in

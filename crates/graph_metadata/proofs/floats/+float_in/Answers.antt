@@ -1,4 +1,4 @@
--- A value without a float is passed over; in the first that holds one stands the first float.
+-- A value without a float is passed over; in the first that holds one is the first float.
 use Rattle.std.proofs.Common.{◌≡◌, IfOk, sym, ap, subst, ◌∙◌}
 use Rattle.serde_json.specs.View.{view}
 use Rattle.graph_metadata.specs.Floats as spec

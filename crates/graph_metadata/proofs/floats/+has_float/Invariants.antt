@@ -1,4 +1,4 @@
--- A float stands in all exactly where one stands in what is left.
+-- A float is in all exactly where one is in what is left.
 use Rattle.std.proofs.Common.{◌≡◌, drop}
 use Rattle.serde_json.specs.View.{items_view, members_view}
 use Rattle.serde_json.specs.Written.{items_have_float, members_have_float}

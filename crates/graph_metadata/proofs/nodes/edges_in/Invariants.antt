@@ -1,4 +1,4 @@
--- What is told of all is what is told of the rest, behind what was told before.
+-- What is reported of all is what is reported of the rest, behind what was reported before.
 use Rattle.std.proofs.Common.{◌≡◌, map, drop}
 use Rattle.graph_metadata.specs.NodeRows.{dep_of}
 use Rattle.graph_metadata.specs.Nodes.{edge_row, edges_in}

@@ -1,4 +1,4 @@
--- What is told of all is what is told of the rest, behind what was told before.
+-- What is reported of all is what is reported of the rest, behind what was reported before.
 use Rattle.std.proofs.Common.{◌≡◌, map, drop}
 use Rattle.serde_json.specs.View.{view, items_view}
 use Rattle.graph_metadata.specs.NodeRows.{member_of}

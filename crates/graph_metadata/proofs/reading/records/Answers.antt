@@ -1,4 +1,4 @@
--- The rows that were told are those of the text.
+-- The rows that were reported are those of the text.
 use Rattle.serde_json.specs.View.{view}
 use Rattle.graph_metadata.specs.AllRows.{rows_view}
 use Rattle.graph_metadata.proofs.SoundLemmas.{sound}

@@ -1,4 +1,4 @@
--- What is told of all items is what is told of the rest, behind the texts so far.
+-- What is reported of all items is what is reported of the rest, behind the texts so far.
 use Rattle.std.proofs.Common.{◌≡◌, drop}
 use Rattle.serde_json.specs.View.{view, items_view}
 use Rattle.graph_metadata.specs.Shape.{text_here, texts_in}

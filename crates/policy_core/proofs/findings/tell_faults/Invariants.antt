@@ -1,4 +1,4 @@
--- what was told so far
+-- what was reported so far
 use Rattle.std.proofs.Common.{◌≡◌, ◌++◌, map, take}
 use Rattle.toml_subset.specs.shapes.ShapeViews.{fault_of}
 use Rattle.policy_core.specs.Exceptions.{shape_diagnostic}

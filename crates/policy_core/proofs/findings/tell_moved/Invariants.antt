@@ -1,4 +1,4 @@
--- what was told so far
+-- what was reported so far
 use Rattle.std.proofs.Common.{◌≡◌, ◌++◌, codes, map, take}
 use Rattle.policy_core.specs.Findings.{moved_key_finding}
 use Rattle.policy_core.proofs.findings.tell_moved.Given as goal

@@ -1,4 +1,4 @@
--- what was told so far
+-- what was reported so far
 use Rattle.std.proofs.Common.{◌≡◌, ◌++◌, map, take}
 use Rattle.policy_core.specs.Findings.{target_finding}
 use Rattle.policy_core.proofs.findings.tell_targets.Given as goal

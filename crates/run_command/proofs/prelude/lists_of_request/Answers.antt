@@ -1,4 +1,4 @@
--- A part is not carried, the manifest is not there, names and texts are not had, or they are.
+-- A part is not carried, the manifest is not there, names and texts are not found, or they are.
 use Rattle.std.proofs.Common.{◌∙◌, refl, sym, subst, ℕ, List, Ok, Err}
 use Rattle.tree_core.proofs.MadeLemmas.{made_none}
 use Rattle.tree_core.specs.texts.Cause.{ReadCounts}
@@ -21,7 +21,7 @@ returns-in-Err-clause-comes g c options is =
     (g.T.Tree.trace c.args.tree.now) (g.T.Tree.trace c.look_at_manifest.new.tree) in
     no_manifest (is ∙ c.in-None.is) c.in-Err.error (subst (λ (at : List ℕ). LooksAtManifest at look (Err c.in-Err.error)) c.as_path.ensures c.in-Err.ensures.looked) refl
 
--- ---- names and texts are not had
+-- ---- names and texts are not found
 
 pub returns-in-Err-own_lists-clause-counts : goal.returns-in-Err-own_lists-clause-counts
 returns-in-Err-own_lists-clause-counts g c =

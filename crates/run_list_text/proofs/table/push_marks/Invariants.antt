@@ -1,4 +1,5 @@
--- what was appended, and the columns that are left beside the licences that are left, are the whole; what stood stays in front
+-- what was appended, and the columns that are left beside the licences that are left, are the whole; what was there
+-- stays in front
 use Rattle.std.proofs.Common.{◌≡◌, ◌++◌, drop}
 use Rattle.deny_text.specs.Fronts.{StandsInFront}
 use Rattle.run_list_text.specs.Marks.{column_marks}

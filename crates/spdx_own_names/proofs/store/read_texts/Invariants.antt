@@ -1,4 +1,4 @@
--- the texts among the entries so far were had
+-- the texts among the entries so far were found
 use Rattle.std.proofs.Common.{◌≤◌, map, take, Ok}
 use Rattle.tree_core.specs.Answer.{listed_entry}
 use Rattle.tree_core.specs.Hearing.{MadeSome}

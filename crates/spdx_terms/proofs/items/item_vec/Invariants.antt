@@ -4,7 +4,7 @@ use Rattle.spdx_terms.specs.Items.{items_of}
 use Rattle.spdx_terms.specs.NextItem.{items_behind}
 use Rattle.spdx_terms.proofs.items.item_vec.Given as goal
 
--- the items so far stand before those of the rest
+-- the items so far are before those of the rest
 abbrev pub invariant-items : goal.invariant-items
 invariant-items g l = record {
   border : IsCharBoundary l.text l.place;

@@ -1,4 +1,4 @@
--- Each path so far stands behind the first.
+-- Each path so far is behind the first.
 use Rattle.std.proofs.Common.{◌≡◌, ◌++◌, string_bytes, take}
 use Rattle.std.specs.List.{flat_map}
 use Rattle.check_core.specs.findings.Sources.{behind_comma}

@@ -1,4 +1,4 @@
--- What was told so far, and what the pairs from here on tell, are all that is told.
+-- What was reported so far, and what the pairs from here on tell, are all that is reported.
 use Rattle.std.proofs.Common.{◌≡◌, ◌-◌, ◌++◌, List, drop}
 use Rattle.diag_core.specs.declared.diagnostic.Diagnostic.{Diagnostic}
 use Rattle.diag_core.specs.lists.Dedup.{warnings_of}

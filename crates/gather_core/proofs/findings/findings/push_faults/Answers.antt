@@ -8,7 +8,7 @@ use Rattle.gather_core.specs.findings.Findings.{FaultFits}
 use Rattle.gather_core.proofs.findings.FindingLemmas.{map_more}
 use Rattle.gather_core.proofs.findings.findings.push_faults.Goals as goal
 
--- what would stand past the last fault
+-- what would be past the last fault
 abbrev past : ParseError
 past = record { reason = Empty; span = record { start = 0; end = 0 } }
 

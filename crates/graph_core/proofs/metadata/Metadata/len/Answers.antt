@@ -1,4 +1,4 @@
--- As many as crates stand in the list.
+-- As many as crates are in the list.
 use Rattle.std.proofs.Common.{◌≡◌, length, sym, subst, ◌∙◌}
 use Rattle.graph_core.proofs.GraphLemmas.{length-nodes}
 use Rattle.graph_core.proofs.metadata.Metadata.len.Goals as goal

@@ -1,4 +1,4 @@
--- Each key is read as if it were the first, and the places stand one after another.
+-- Each key is read as if it were the first, and the places are one after another.
 use Rattle.std.proofs.Common.{[], ◌∷◌, ◌++◌, refl, ap, ◌∙◌}
 use Rattle.std.specs.Prelude.{codes, option_to_list}
 use Rattle.toml_subset.specs.Data.{Entries}

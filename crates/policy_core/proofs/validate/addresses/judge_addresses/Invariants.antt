@@ -1,4 +1,4 @@
--- the addresses that are kept so far, and what was told
+-- the addresses that are kept so far, and what was reported
 use Rattle.std.proofs.Common.{◌≡◌, ◌++◌, take}
 use Rattle.policy_core.specs.validate.Valid.{address_judged, kept_by, findings_by_each}
 use Rattle.policy_core.proofs.validate.addresses.judge_addresses.Given as goal

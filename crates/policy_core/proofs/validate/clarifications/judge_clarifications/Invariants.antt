@@ -1,4 +1,4 @@
--- the clarifications that are kept so far, and what was told
+-- the clarifications that are kept so far, and what was reported
 use Rattle.std.proofs.Common.{◌≡◌, ◌++◌}
 use Rattle.std.specs.List.{AllZip}
 use Rattle.policy_core.specs.validate.Order.{PutsFilesInOrder}

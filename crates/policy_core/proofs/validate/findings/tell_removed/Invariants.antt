@@ -1,4 +1,4 @@
--- what was told so far
+-- what was reported so far
 use Rattle.std.proofs.Common.{◌≡◌, ◌++◌, map, take}
 use Rattle.policy_core.specs.validate.Valid.{removed_key}
 use Rattle.policy_core.proofs.validate.findings.tell_removed.Given as goal

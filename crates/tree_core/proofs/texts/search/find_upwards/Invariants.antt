@@ -1,4 +1,4 @@
--- nothing stands at the paths of the folders before this one
+-- nothing is at the paths of the folders before this one
 use Rattle.std.proofs.Common.{◌≡◌, ◌≤◌, ℕ, List, ◌++◌, length}
 use Rattle.std.specs.List.{flat_map}
 use Rattle.std.specs.Option.{option_copied}

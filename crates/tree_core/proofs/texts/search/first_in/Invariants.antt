@@ -1,4 +1,4 @@
--- nothing stands at the paths before this one
+-- nothing is at the paths before this one
 use Rattle.std.proofs.Common.{◌≡◌, ◌≤◌, ◌++◌, map, take}
 use Rattle.tree_core.specs.Hearing.{MadeSome}
 use Rattle.tree_core.specs.texts.Looked.{absent_looks}

@@ -20,7 +20,7 @@ invariant_of-self-in-Marked c =
     (IsUtf8-string_bytes c.self.inside.text) (IsUtf8-string_bytes c.push_str-in-Marked.new.self) c.in_ok-push_str-in-Marked.ensures.bytes
     starts ends c.in_ok-try_reserve-in-Marked.ensures.items c.in_ok-push-in-Marked.ensures.items c.self.invariant
 
--- what stood stays in front
+-- what was there stays in front
 
 pub returns-in_ok-push_str-in-Plain-clause-text : goal.returns-in_ok-push_str-in-Plain-clause-text
 returns-in_ok-push_str-in-Plain-clause-text c =
