@@ -17,23 +17,27 @@ use Rattle.check_core.specs.Verdicts.{IsVerdict, is_skipped}
 
 -- each crate has its verdict, in order
 abbrev pub AreVerdicts : Policy → List GatheredCrate → List Verdict → Type 0
-AreVerdicts policy asked verdicts = AllZip (λ (one : GatheredCrate) verdict. IsVerdict policy one.krate (expression_of one.info) verdict) asked verdicts
+AreVerdicts policy asked verdicts =
+    AllZip (λ (one : GatheredCrate) verdict. IsVerdict policy one.krate (expression_of one.info) verdict) asked verdicts
 
 -- the packs of the crates, in order
 abbrev pub packs_of : Policy → List GatheredCrate → List Verdict → List PackOf
 packs_of policy [] verdicts = []
 packs_of policy (asked ∷ more) [] = []
-packs_of policy (asked ∷ more) (verdict ∷ verdicts) = pack_by (is_skipped verdict) policy asked ∷ packs_of policy more verdicts
+packs_of policy (asked ∷ more) (verdict ∷ verdicts) =
+    pack_by (is_skipped verdict) policy asked ∷ packs_of policy more verdicts
 
 -- the hits of all terms of the crates that are not skipped
 abbrev pub all_hits : Policy → List GatheredCrate → List Verdict → List Hit
 all_hits policy [] verdicts = []
 all_hits policy (asked ∷ more) [] = []
-all_hits policy (asked ∷ more) (verdict ∷ verdicts) = hits_by (is_skipped verdict) policy asked ++ all_hits policy more verdicts
+all_hits policy (asked ∷ more) (verdict ∷ verdicts) =
+    hits_by (is_skipped verdict) policy asked ++ all_hits policy more verdicts
 
 -- All packs of the check: one a crate, and then always one about the policy, which may be empty.
 abbrev pub findings_of : ValidConfig → List GatheredCrate → List Verdict → List PackOf
-findings_of policy asked verdicts = packs_of (policy_of policy) asked verdicts ++ last_pack policy (all_hits (policy_of policy) asked verdicts) ∷ []
+findings_of policy asked verdicts =
+    packs_of (policy_of policy) asked verdicts ++ last_pack policy (all_hits (policy_of policy) asked verdicts) ∷ []
 
 -- ---- what a sink has gained
 

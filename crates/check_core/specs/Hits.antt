@@ -23,14 +23,16 @@ use Rattle.check_core.specs.Verdicts.{is_skipped}
 -- each term of a crate's expression is reported at its own place by what allows it
 abbrev pub TermsAreTold : Type 0
 TermsAreTold = (policy : Policy) (krate : CrateRecord) (nfo : LicenseExprInfo) (terms : List ExpressionReq)
-    → AllZip (λ term label. label ≡ term_label nfo term.span (hit_of policy krate term.req)) terms (term_labels nfo terms (term_hits policy krate terms))
+    → AllZip (λ term label. label ≡ term_label nfo term.span (hit_of policy krate term.req)) terms
+    (term_labels nfo terms (term_hits policy krate terms))
 
 -- ---- hits of crates
 
 -- a crate's expression has a term that this allows
 abbrev pub HasTerm : Policy → CrateRecord → Hit → LicenseInfo → Type 0
 HasTerm policy krate hit Unlicensed = ⊥
-HasTerm policy krate hit (SpdxExpression expression nfo) = Any (λ (term : ExpressionReq). hit_of policy krate term.req ≡ Some hit) expression.terms
+HasTerm policy krate hit (SpdxExpression expression nfo) =
+    Any (λ (term : ExpressionReq). hit_of policy krate term.req ≡ Some hit) expression.terms
 
 -- so has a crate that is not skipped
 pub record Needs (policy : Policy) (hit : Hit) (asked : GatheredCrate) (verdict : Verdict) : Type 0 where
@@ -41,16 +43,22 @@ pub record Needs (policy : Policy) (hit : Hit) (asked : GatheredCrate) (verdict 
 abbrev pub IsNeeded : Policy → List GatheredCrate → List Verdict → Hit → Type 0
 IsNeeded policy [] verdicts hit = ⊥
 IsNeeded policy (asked ∷ more) [] hit = ⊥
-IsNeeded policy (asked ∷ more) (verdict ∷ verdicts) hit = Needs policy hit asked verdict ⊎ IsNeeded policy more verdicts hit
+IsNeeded policy (asked ∷ more) (verdict ∷ verdicts) hit =
+    Needs policy hit asked verdict ⊎ IsNeeded policy more verdicts hit
 
 -- After these crates the entries are reported that no crate needs: an allowed licensee is a hit just where some crate
 -- that is not skipped has a term that it allows, whether or not the crate is accepted and a choice takes the term; an
 -- exception, where one of its entries is.
 pub record TellUnneeded (policy : ValidConfig) (asked : List GatheredCrate) (verdicts : List Verdict) : Type 0 where
-  pub told : TellUnused policy (all_hits (policy_of policy) asked verdicts) (unused_findings policy (all_hits (policy_of policy) asked verdicts))
-  pub licenses : (place : ℕ) → LicenseIsHit (all_hits (policy_of policy) asked verdicts) place ↔ IsNeeded (policy_of policy) asked verdicts (Allowed place)
+  pub told : TellUnused policy (all_hits (policy_of policy) asked verdicts)
+      (unused_findings policy (all_hits (policy_of policy) asked verdicts))
+  pub licenses : (place : ℕ)
+      → LicenseIsHit (all_hits (policy_of policy) asked verdicts) place
+      ↔ IsNeeded (policy_of policy) asked verdicts (Allowed place)
   pub exceptions : (place : ℕ)
-      → ExceptionIsHit (all_hits (policy_of policy) asked verdicts) place ↔ ((entry : ℕ) × IsNeeded (policy_of policy) asked verdicts (Exception place entry))
+      → ExceptionIsHit (all_hits (policy_of policy) asked verdicts) place
+      ↔ ((entry : ℕ) × IsNeeded (policy_of policy) asked verdicts (Exception place entry))
 
 abbrev pub TellsTheUnneeded : Type 0
-TellsTheUnneeded = (policy : ValidConfig) (asked : List GatheredCrate) (verdicts : List Verdict) → TellUnneeded policy asked verdicts
+TellsTheUnneeded =
+    (policy : ValidConfig) (asked : List GatheredCrate) (verdicts : List Verdict) → TellUnneeded policy asked verdicts

@@ -24,11 +24,12 @@ PackLies files pack = All (FindingLies files) pack.findings
 abbrev pub GainLies : List File → ErrorSink → ErrorSink → Type 0
 GainLies files old new = (packs : List PackOf) × (new.packs ≡ old.packs ++ packs) × All (PackLies files) packs
 
--- the labels of a verdict: the first cuts out the expression, and each further one just its own term, or where the text was
--- written with escapes each is the whole string
+-- the labels of a verdict: the first cuts out the expression, and each further one just its own term, or where the text
+-- was written with escapes each is the whole string
 abbrev pub InfoPoints : List File → Policy → CrateRecord → LicenseInfo → Type 0
 InfoPoints files policy krate Unlicensed = ⊤
-InfoPoints files policy krate (SpdxExpression expression nfo) = LabelsPoint files expression nfo (term_hits policy krate expression.terms)
+InfoPoints files policy krate (SpdxExpression expression nfo) =
+    LabelsPoint files expression nfo (term_hits policy krate expression.terms)
 
 abbrev pub VerdictPoints : List File → Policy → GatheredCrate → Type 0
 VerdictPoints files policy asked = InfoPoints files policy asked.krate asked.info

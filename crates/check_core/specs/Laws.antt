@@ -16,10 +16,16 @@ IsAsGood rejected after = (after ≡ rejected) ⊎ (after ≡ accepted)
 
 -- one more allowed licensee, at any place of the sorted list
 abbrev pub MoreAllowedIsAsGood : Type 0
-MoreAllowedIsAsGood = (policy : Policy) (krate : CrateRecord) (expression : Option ExpressionView) (place : ℕ) (licensee : LicenseReq) (before after : Judgement)
-    → IsJudged policy krate expression before → IsJudged (with_allowed policy place licensee) krate expression after → IsAsGood before after
+MoreAllowedIsAsGood =
+    (policy : Policy) (krate : CrateRecord) (expression : Option ExpressionView) (place : ℕ) (licensee : LicenseReq)
+    (before after : Judgement)
+    → IsJudged policy krate expression before → IsJudged (with_allowed policy place licensee) krate expression after
+    → IsAsGood before after
 
 -- one more exception behind all others
 abbrev pub MoreExceptionsAreAsGood : Type 0
-MoreExceptionsAreAsGood = (policy : Policy) (krate : CrateRecord) (expression : Option ExpressionView) (grant : Grant) (before after : Judgement)
-    → IsJudged policy krate expression before → IsJudged (with_exception policy grant) krate expression after → IsAsGood before after
+MoreExceptionsAreAsGood =
+    (policy : Policy) (krate : CrateRecord) (expression : Option ExpressionView) (grant : Grant)
+    (before after : Judgement)
+    → IsJudged policy krate expression before → IsJudged (with_exception policy grant) krate expression after
+    → IsAsGood before after

@@ -21,22 +21,26 @@ use Rattle.check_core.specs.Verdicts.{IsVerdict}
 -- the expression of a crate, by what is read
 abbrev pub expression_by : Scanner → ValidConfig → CrateRecord → FolderReads → Option ExpressionView
 expression_by scanner policy krate known_reads =
-    option_map (λ answer. answer.expression) (priority_of scanner (clarifications_of krate (entries_of policy)) krate known_reads)
+    option_map (λ answer. answer.expression)
+    (priority_of scanner (clarifications_of krate (entries_of policy)) krate known_reads)
 
 -- ---- the files of a crate
 
 abbrev pub clarified_paths : ClarificationView → List (List ℕ)
 clarified_paths one = map (λ named. named.path) (named_in one)
 
--- at most these are read: the licence files of its folder and the file that its record names, by the listing, and the files
--- that clarifications name
+-- at most these are read: the licence files of its folder and the file that its record names, by the listing, and the
+-- files that clarifications name
 abbrev pub paths_around : ReadResult → List ClarificationView → CrateRecord → List (List ℕ)
-paths_around listing clarifications krate = license_files_in listing krate.license_file ++ flat_map clarified_paths clarifications
+paths_around listing clarifications krate =
+    license_files_in listing krate.license_file ++ flat_map clarified_paths clarifications
 
 -- the same is read of its folder and of its files
-pub record HearTheSame (clarifications : List ClarificationView) (krate : CrateRecord) (one other : FolderReads) : Type 0 where
+pub record HearTheSame (clarifications : List ClarificationView) (krate : CrateRecord)
+    (one other : FolderReads) : Type 0 where
   pub listing : one.listing ≡ other.listing
-  pub files : All (λ path. one.file (components_of path) ≡ other.file (components_of path)) (paths_around one.listing clarifications krate)
+  pub files : All (λ path. one.file (components_of path) ≡ other.file (components_of path))
+      (paths_around one.listing clarifications krate)
 
 -- what a content has of a crate's folder and of its files, so what reads of them say that do not fail
 abbrev pub known_reads_there : CrateRecord → Content → FolderReads
@@ -49,14 +53,18 @@ known_reads_there krate content = record {
 
 -- equal known reads, equal verdicts with equal certificates
 abbrev pub VerdictIsByKnownReads : Type 0
-VerdictIsByKnownReads = (scanner : Scanner) (policy : ValidConfig) (krate : CrateRecord) (one other : FolderReads) (first second : Verdict)
+VerdictIsByKnownReads =
+    (scanner : Scanner) (policy : ValidConfig) (krate : CrateRecord) (one other : FolderReads) (first second : Verdict)
     → HearTheSame (clarifications_of krate (entries_of policy)) krate one other
     → IsVerdict (policy_of policy) krate (expression_by scanner policy krate one) first
     → IsVerdict (policy_of policy) krate (expression_by scanner policy krate other) second → first ≡ second
 
 -- contents that hold the same there give equal verdicts
 abbrev pub VerdictIsOwn : Type 0
-VerdictIsOwn = (scanner : Scanner) (policy : ValidConfig) (krate : CrateRecord) (one other : Content) (first second : Verdict)
-    → HearTheSame (clarifications_of krate (entries_of policy)) krate (known_reads_there krate one) (known_reads_there krate other)
+VerdictIsOwn =
+    (scanner : Scanner) (policy : ValidConfig) (krate : CrateRecord) (one other : Content) (first second : Verdict)
+    → HearTheSame (clarifications_of krate (entries_of policy)) krate (known_reads_there krate one)
+    (known_reads_there krate other)
     → IsVerdict (policy_of policy) krate (expression_by scanner policy krate (known_reads_there krate one)) first
-    → IsVerdict (policy_of policy) krate (expression_by scanner policy krate (known_reads_there krate other)) second → first ≡ second
+    → IsVerdict (policy_of policy) krate (expression_by scanner policy krate (known_reads_there krate other)) second
+    → first ≡ second

@@ -24,16 +24,19 @@ abbrev term : LicenseReq → ℕ → ℕ → ExpressionReq
 term req start end = record { req = req; span = record { start = start; end = end } }
 
 abbrev clarified_license : ExpressionView → LicenseInfo
-clarified_license expression = SpdxExpression expression (record { file_id = 0; offset = 50; whole = None; source = UserOverride })
+clarified_license expression =
+    SpdxExpression expression (record { file_id = 0; offset = 50; whole = None; source = UserOverride })
 
 abbrev one_term : LicenseInfo
 one_term = clarified_license (record { text = codes "MIT"; terms = term mit 0 3 ∷ []; tree = leaf 0 })
 
 abbrev either_term : LicenseInfo
-either_term = clarified_license (record { text = codes "MIT OR Zlib"; terms = term mit 0 3 ∷ term zlib 7 11 ∷ []; tree = either (leaf 0) (leaf 1) })
+either_term = clarified_license
+    (record { text = codes "MIT OR Zlib"; terms = term mit 0 3 ∷ term zlib 7 11 ∷ []; tree = either (leaf 0) (leaf 1) })
 
 abbrev both_terms : LicenseInfo
-both_terms = clarified_license (record { text = codes "MIT AND ISC"; terms = term mit 0 3 ∷ term isc 8 11 ∷ []; tree = both (leaf 0) (leaf 1) })
+both_terms = clarified_license
+    (record { text = codes "MIT AND ISC"; terms = term mit 0 3 ∷ term isc 8 11 ∷ []; tree = both (leaf 0) (leaf 1) })
 
 -- ---- the crate `a`
 
@@ -58,7 +61,12 @@ pub record CheckRow : Type 0 where
 
 -- with a finding and a note that were gathered
 abbrev gathered_crate : LicenseInfo → GatheredCrate
-gathered_crate info = record { krate = crate_a; info = info; gathered = finding Warning GatherFailure [] [] [] ∷ []; notes = codes "a note" ∷ [] }
+gathered_crate info = record {
+  krate = crate_a;
+  info = info;
+  gathered = finding Warning GatherFailure [] [] [] ∷ [];
+  notes = codes "a note" ∷ [];
+}
 
 -- what the definitions make of a row
 abbrev pub judged_row : CheckRow → CheckRow
@@ -106,7 +114,8 @@ rows =
     ∷ row (mit ∷ mit ∷ []) [] one_term accepted (codes "accepted") (Allowed 0 ∷ [])
     -- the first exception of the crate alone is asked, and before what is allowed
     ∷ row [] (grant (codes "a") (isc ∷ []) ∷ grant (codes "a") (mit ∷ []) ∷ []) one_term rejected (codes "rejected") []
-    ∷ row (mit ∷ []) (grant (codes "b") (mit ∷ []) ∷ grant (codes "a") (isc ∷ mit ∷ []) ∷ []) one_term accepted (codes "accepted") (Exception 1 1 ∷ [])
+    ∷ row (mit ∷ []) (grant (codes "b") (mit ∷ []) ∷ grant (codes "a") (isc ∷ mit ∷ []) ∷ []) one_term accepted
+    (codes "accepted") (Exception 1 1 ∷ [])
     -- without an expression
     ∷ row (mit ∷ []) [] Unlicensed unlicensed (codes "unlicensed") []
     -- passed over, also without an expression

@@ -20,10 +20,12 @@ entries_for false policy asked = entries_of_info policy asked.krate asked.info
 
 -- which crates are passed over
 abbrev pub ArePassedOver : Policy → List GatheredCrate → List Bool → Type 0
-ArePassedOver policy asked passed = AllZip (λ (one : GatheredCrate) private. IsTrue private ↔ IsPrivate policy one.krate) asked passed
+ArePassedOver policy asked passed =
+    AllZip (λ (one : GatheredCrate) private. IsTrue private ↔ IsPrivate policy one.krate) asked passed
 
 -- those for all crates, by which of them are passed over
 abbrev pub entries_of_all : Policy → List GatheredCrate → List Bool → ℕ
 entries_of_all policy [] passed = 0
 entries_of_all policy (asked ∷ more) [] = 0
-entries_of_all policy (asked ∷ more) (private ∷ passed) = entries_for private policy asked + entries_of_all policy more passed
+entries_of_all policy (asked ∷ more) (private ∷ passed) =
+    entries_for private policy asked + entries_of_all policy more passed

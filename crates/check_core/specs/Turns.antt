@@ -29,7 +29,8 @@ pub record GatheredCrate : Type 0 where
 abbrev pub verdict_finding : Policy → CrateRecord → LicenseInfo → List (List ℕ) → Diag
 verdict_finding policy krate Unlicensed notes = findings.unlicensed_finding krate notes
 verdict_finding policy krate (SpdxExpression expression nfo) notes =
-    expression_finding (is_allowed policy krate expression.terms expression.tree) (verdict_labels expression nfo (term_hits policy krate expression.terms)) notes
+    expression_finding (is_allowed policy krate expression.terms expression.tree)
+    (verdict_labels expression nfo (term_hits policy krate expression.terms)) notes
 
 -- That it is skipped, alone; or else what was gathered, in its order, and then the verdict with the gathered notes.
 abbrev pub findings_by : Bool → Policy → GatheredCrate → List Diag
@@ -50,8 +51,8 @@ hits_by false policy asked = hits_of policy asked.krate asked.info
 
 -- ---- what is kept from crate to crate
 
--- for how many nodes of an expression there is room, the numbers of the policy's exceptions, the families of its entries, the
--- numbers of what makes a crate private, and which entries were hits
+-- for how many nodes of an expression there is room, the numbers of the policy's exceptions, the families of its
+-- entries, the numbers of what makes a crate private, and which entries were hits
 pub record CheckerState : Type 0 where
   pub nodes : ℕ
   pub numbers : List ℕ

@@ -18,7 +18,8 @@ pub data Judgement : Type 0 where
 -- of a crate that is not passed over: whether its expression is allowed, where it has one
 abbrev pub judgement_of : Policy → CrateRecord → Option ExpressionView → Judgement
 judgement_of policy krate None = unlicensed
-judgement_of policy krate (Some expression) = if is_allowed policy krate expression.terms expression.tree then accepted else rejected
+judgement_of policy krate (Some expression) =
+    if is_allowed policy krate expression.terms expression.tree then accepted else rejected
 
 -- a crate that is passed over is skipped, also where it has no expression
 abbrev pub verdict_of : Bool → Policy → CrateRecord → Option ExpressionView → Judgement
@@ -26,7 +27,8 @@ verdict_of true policy krate expression = skipped
 verdict_of false policy krate expression = judgement_of policy krate expression
 
 -- what a crate is judged by: whether the policy passes it over, and its expression
-pub record IsJudged (policy : Policy) (krate : CrateRecord) (expression : Option ExpressionView) (judgement : Judgement) : Type 0 where
+pub record IsJudged (policy : Policy) (krate : CrateRecord) (expression : Option ExpressionView)
+    (judgement : Judgement) : Type 0 where
   pub private : Bool
   pub tells : IsTrue private ↔ IsPrivate policy krate
   pub is : judgement ≡ verdict_of private policy krate expression
@@ -49,8 +51,10 @@ is_skipped (Rejected least blocks) = false
 abbrev pub IsCertified : Policy → CrateRecord → ExpressionView → Verdict → Type 0
 IsCertified policy krate expression Skipped = ⊥
 IsCertified policy krate expression Unlicensed = ⊥
-IsCertified policy krate expression (Accepted choice hits) = ShowsAccepted (term_hits policy krate expression.terms) expression.tree choice hits
-IsCertified policy krate expression (Rejected least blocks) = ShowsRejected (term_hits policy krate expression.terms) expression.tree least blocks
+IsCertified policy krate expression (Accepted choice hits) =
+    ShowsAccepted (term_hits policy krate expression.terms) expression.tree choice hits
+IsCertified policy krate expression (Rejected least blocks) =
+    ShowsRejected (term_hits policy krate expression.terms) expression.tree least blocks
 
 -- of a crate that is not passed over
 abbrev pub IsCertifiedOrUnlicensed : Policy → CrateRecord → Option ExpressionView → Verdict → Type 0
@@ -63,6 +67,7 @@ IsVerdictShown true policy krate expression verdict = verdict ≡ Skipped
 IsVerdictShown false policy krate expression verdict = IsCertifiedOrUnlicensed policy krate expression verdict
 
 -- a verdict is that on a crate, and has what shows it
-pub record IsVerdict (policy : Policy) (krate : CrateRecord) (expression : Option ExpressionView) (verdict : Verdict) : Type 0 where
+pub record IsVerdict (policy : Policy) (krate : CrateRecord) (expression : Option ExpressionView)
+    (verdict : Verdict) : Type 0 where
   pub judged : IsJudged policy krate expression (judgement_in verdict)
   pub shown : IsVerdictShown (is_skipped verdict) policy krate expression verdict

@@ -1,6 +1,8 @@
 -- Reading a file from left to right: a value and what is behind it, or nothing. Only the contracts of private calls
 -- cite it.
-use Rattle.std.specs.Prelude.{◌≡◌, ℕ, zero, suc, ◌+◌, ◌-◌, ◌*◌, ◌^◌, ◌==◌, nat_lt, nat_eq, Bool, true, false, ◌&&◌, List, [], ◌∷◌, ◌++◌, length, take, drop, codes, Option, Some, None, Result, Ok, Err, if◌then◌else◌}
+use Rattle.std.specs.Prelude.{◌≡◌, ℕ, zero, suc, ◌+◌, ◌-◌, ◌*◌, ◌^◌, ◌==◌, nat_lt, nat_eq, Bool, true, false, ◌&&◌}
+use Rattle.std.specs.Prelude.{List, [], ◌∷◌, ◌++◌, length, take, drop, codes, Option, Some, None, Result, Ok, Err}
+use Rattle.std.specs.Prelude.{if◌then◌else◌}
 use Rattle.std.specs.Char.{is_ascii_digit}
 use Rattle.std.specs.List.{starts_with}
 use Rattle.std.specs.Str.{is_utf8}
@@ -58,11 +60,13 @@ with_digit number byte = if nat_lt (number * 10 + (byte - 48)) (2 ^ 64) then Som
 unfoldable pub digits_on : ℕ → List ℕ → Read ℕ
 digits_on number [] = Some (number, [])
 digits_on number (byte ∷ bytes) =
-    if is_ascii_digit byte then (with_digit number byte >>= λ next. digits_on next bytes) else Some (number, byte ∷ bytes)
+    if is_ascii_digit byte then (with_digit number byte >>= λ next. digits_on next bytes)
+    else Some (number, byte ∷ bytes)
 
 -- behind a leading zero the number has ended
 unfoldable pub number_at : List ℕ → Read ℕ
-number_at bytes = if begins 48 bytes then Some (0, drop 1 bytes) else (if begins_digit bytes then digits_on 0 bytes else None)
+number_at bytes =
+    if begins 48 bytes then Some (0, drop 1 bytes) else (if begins_digit bytes then digits_on 0 bytes else None)
 
 -- ---- certificates
 
@@ -93,7 +97,8 @@ unfoldable pub chosen_on : ℕ → List ℕ → List Hit → List ℕ → Read C
 chosen_on zero choice hits bytes = Some (record { choice = choice; hits = hits }, bytes)
 chosen_on (suc most) choice hits bytes =
     if begins 32 bytes
-    then (place_hit_at (drop 1 bytes) >>= λ next. chosen_on most (choice ++ next.0.place ∷ []) (hits ++ next.0.hit ∷ []) next.1)
+    then (place_hit_at (drop 1 bytes)
+    >>= λ next. chosen_on most (choice ++ next.0.place ∷ []) (hits ++ next.0.hit ∷ []) next.1)
     else Some (record { choice = choice; hits = hits }, bytes)
 
 -- the same of places alone

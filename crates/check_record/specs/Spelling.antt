@@ -32,7 +32,8 @@ verdict_text (Rejected blocks) = codes " r" ++ flat_map place_text blocks
 
 -- a line: the id behind its length in bytes, since it may have any character, and the verdict
 abbrev pub item_text : RecordItem → List ℕ
-item_text item = codes "c " ++ (decimal (length item.id) ++ (codes ":" ++ (item.id ++ (verdict_text item.verdict ++ codes "\n"))))
+item_text item =
+    codes "c " ++ (decimal (length item.id) ++ (codes ":" ++ (item.id ++ (verdict_text item.verdict ++ codes "\n"))))
 
 -- the whole file
 abbrev pub spelled_of : List RecordItem → List ℕ

@@ -8,7 +8,8 @@ use Rattle.policy_core.specs.valid.Policy.{Policy, first_exception}
 use Rattle.check_record.specs.declared.items.RecordVerdict.{RecordVerdict}
 use Rattle.check_record.specs.declared.items.RecordVerdict.TheVariants.{Skipped, Unlicensed, Accepted, Rejected}
 use Rattle.check_verify.specs.declared.answer.VerdictFault.{VerdictFault}
-use Rattle.check_verify.specs.declared.answer.VerdictFault.TheVariants.{Variant, NotAChoice, NotSatisfied, HasHit, NotBlocking}
+use Rattle.check_verify.specs.declared.answer.VerdictFault.TheVariants.{Variant, NotAChoice, NotSatisfied, HasHit}
+use Rattle.check_verify.specs.declared.answer.VerdictFault.TheVariants.{NotBlocking}
 use Rattle.check_verify.specs.Terms.{are_allowed, counted_of, hit_or_none_by, is_choice, meet_each}
 
 -- a crate as it is now: whether the policy passes it over, and its expression
@@ -57,4 +58,5 @@ asked_fault policy krate (Some expression) verdict = certificate_fault policy kr
 
 -- the first thing that is wrong with a crate's verdict
 abbrev pub fault_of : Policy → SeenCrate → RecordVerdict → Option VerdictFault
-fault_of policy seen verdict = if seen.private then skipped_fault verdict else asked_fault policy seen.krate seen.expression verdict
+fault_of policy seen verdict =
+    if seen.private then skipped_fault verdict else asked_fault policy seen.krate seen.expression verdict

@@ -11,7 +11,8 @@ use Rattle.check_verify.specs.declared.answer.VerifyAnswer.TheVariants.{Yes, No}
 use Rattle.check_verify.specs.declared.answer.VerdictFault.{VerdictFault}
 use Rattle.check_verify.specs.declared.answer.VerdictFault.TheVariants as fault
 use Rattle.check_verify.specs.declared.answer.NoReason.{NoReason}
-use Rattle.check_verify.specs.declared.answer.NoReason.TheVariants.{Crates, Variant, NotAChoice, NotSatisfied, HasHit, NotBlocking}
+use Rattle.check_verify.specs.declared.answer.NoReason.TheVariants.{Crates, Variant, NotAChoice, NotSatisfied, HasHit}
+use Rattle.check_verify.specs.declared.answer.NoReason.TheVariants.{NotBlocking}
 use Rattle.check_verify.specs.Crates.{SeenCrate, fault_of}
 
 -- a fault with the id of its crate
@@ -29,11 +30,14 @@ ids_seen crates = map (λ seen. seen.krate.id) crates
 abbrev pub first_reason : Policy → List SeenCrate → List RecordItem → Option NoReason
 first_reason policy [] items = None
 first_reason policy (seen ∷ crates) [] = None
-first_reason policy (seen ∷ crates) (item ∷ items) = option_or (option_map (reason_with seen.krate.id) (fault_of policy seen item.verdict)) (first_reason policy crates items)
+first_reason policy (seen ∷ crates) (item ∷ items) =
+    option_or (option_map (reason_with seen.krate.id) (fault_of policy seen item.verdict))
+    (first_reason policy crates items)
 
 -- that the ids differ, or else the first fault
 abbrev pub reason_of : Policy → List SeenCrate → List RecordItem → Option NoReason
-reason_of policy crates items = if pointwise bytes_eq (ids_seen crates) (ids_of items) then first_reason policy crates items else Some Crates
+reason_of policy crates items =
+    if pointwise bytes_eq (ids_seen crates) (ids_of items) then first_reason policy crates items else Some Crates
 
 -- the answer is yes exactly where there is no reason
 abbrev pub answer_by : Option NoReason → VerifyAnswer

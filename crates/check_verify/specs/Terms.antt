@@ -1,5 +1,6 @@
 -- Whether recorded places and entries are right about the terms of an expression.
-use Rattle.std.specs.Prelude.{ℕ, ◌==◌, Bool, false, true, ◌&&◌, List, [], ◌∷◌, slice_get, Option, is_some, replicate, set}
+use Rattle.std.specs.Prelude.{ℕ, ◌==◌, Bool, false, true, ◌&&◌, List, [], ◌∷◌, slice_get, Option, is_some, replicate}
+use Rattle.std.specs.Prelude.{set}
 use Rattle.std.specs.List.{list_any, list_all}
 use Rattle.std.specs.Option.{option_map_or, option_to_list}
 use Rattle.std.specs.Str.{bytes_eq}
@@ -34,7 +35,8 @@ counted_of policy krate = option_to_list (first_exception policy krate)
 
 -- the entry at a place satisfies a term; behind the end of the list there is none
 abbrev pub satisfies_at : List LicenseReq → ℕ → LicenseReq → Bool
-satisfies_at licensees entry term = option_map_or (λ licensee. satisfies licensee term) (slice_get licensees entry) false
+satisfies_at licensees entry term =
+    option_map_or (λ licensee. satisfies licensee term) (slice_get licensees entry) false
 
 -- a hit is an allowed licensee, or one of an exception that counts, and it satisfies a term
 abbrev pub is_allowed_by : Policy → List ℕ → LicenseReq → Hit → Bool
@@ -53,12 +55,14 @@ are_allowed policy counted terms (place ∷ places) (hit ∷ hits) =
 
 -- a place is outside an expression, or its term has a hit
 abbrev pub hit_or_none_by : Policy → Option ℕ → List ExpressionReq → ℕ → Bool
-hit_or_none_by policy counted terms place = option_map_or (λ (term : ExpressionReq). is_some (hit_by policy counted term.req)) (slice_get terms place) true
+hit_or_none_by policy counted terms place =
+    option_map_or (λ (term : ExpressionReq). is_some (hit_by policy counted term.req)) (slice_get terms place) true
 
 -- How many entries are asked at most for the term at a place: those of its licence family in the exception that counts
 -- and in what is allowed. For a place outside of the expression it is none.
 abbrev pub entries_at : Policy → Option ℕ → List ExpressionReq → ℕ → ℕ
-entries_at policy counted terms place = option_map_or (λ (term : ExpressionReq). entries_by policy counted term.req) (slice_get terms place) 0
+entries_at policy counted terms place =
+    option_map_or (λ (term : ExpressionReq). entries_by policy counted term.req) (slice_get terms place) 0
 
 -- ---- lists with something at some places. Only the contracts of private calls cite these.
 

@@ -25,7 +25,8 @@ pub record IsSeen (policy : Policy) (license : KrateLicense) (seen : SeenCrate) 
   pub expression : seen.expression ≡ expression_of license.lic_info
 
 -- the answer is that over the crates as they are seen
-pub record IsVerified (policy : Policy) (licenses : List KrateLicense) (items : List RecordItem) (answer : VerifyAnswer) : Type 0 where
+pub record IsVerified (policy : Policy) (licenses : List KrateLicense) (items : List RecordItem)
+    (answer : VerifyAnswer) : Type 0 where
   pub crates : List SeenCrate
   pub seen : AllZip (IsSeen policy) licenses crates
   pub is : answer ≡ answer_by (reason_of policy crates items)
@@ -37,7 +38,8 @@ abbrev pub IsFlagged : Policy → KrateLicense → Bool → Type 0
 IsFlagged policy license private = IsTrue private ↔ IsPrivate policy (krate_of license)
 
 abbrev pub seen_as : KrateLicense → Bool → SeenCrate
-seen_as license private = record { krate = krate_of license; private = private; expression = expression_of license.lic_info }
+seen_as license private =
+    record { krate = krate_of license; private = private; expression = expression_of license.lic_info }
 
 abbrev pub all_seen : List KrateLicense → List Bool → List SeenCrate
 all_seen [] flags = []
@@ -61,7 +63,8 @@ abbrev pub steps_for : Policy → CrateRecord → Option ExpressionView → Reco
 steps_for policy krate expression Skipped = 0
 steps_for policy krate expression Unlicensed = 0
 steps_for policy krate expression (Accepted choice hits) = length hits
-steps_for policy krate expression (Rejected blocks) = sum_by (entries_at policy (first_exception policy krate) (terms_in expression)) blocks
+steps_for policy krate expression (Rejected blocks) =
+    sum_by (entries_at policy (first_exception policy krate) (terms_in expression)) blocks
 
 abbrev pub steps_at : Policy → KrateLicense → RecordItem → ℕ
 steps_at policy license item = steps_for policy (krate_of license) (expression_of license.lic_info) item.verdict

@@ -5,8 +5,8 @@ use Rattle.deny_run.specs.declared.outcome.RunEnd.{RunEnd}
 use Rattle.deny_run.specs.declared.outcome.RunEnd.TheVariants.{Refused}
 use Rattle.refusal_help.specs.Told.{IsStill, TellsHelp, ToldBetween}
 
--- Standard error refused nothing that the run wrote to it: the count of its faults is as it was, and is not the last number, at which
--- it stops.
+-- Standard error refused nothing that the run wrote to it: the count of its faults is as it was, and is not the last
+-- number, at which it stops.
 abbrev pub is_whole : ℕ → ℕ → Bool
 is_whole before after = (before == after) && nat_lt after (2 ^ 64 - 1)
 

@@ -1,5 +1,6 @@
 -- The paths that the words of a process name. A pipe or a device is read at these alone.
-use Rattle.std.specs.Prelude.{ℕ, Bool, List, ◌∷◌, Option, ◌+◌, ◌==◌, map, drop, flat_map, position, option_map, option_to_list}
+use Rattle.std.specs.Prelude.{ℕ, Bool, List, ◌∷◌, Option, ◌+◌, ◌==◌, map, drop, flat_map, position, option_map}
+use Rattle.std.specs.Prelude.{option_to_list}
 use Rattle.deny_text.specs.Path.{join_of}
 
 -- the byte `=`

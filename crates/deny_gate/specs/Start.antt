@@ -23,7 +23,8 @@ start_line Memory = codes "error: out of memory\n"
 start_line Words = codes "error: the words could not be read\n"
 start_line Folder = codes "error: the working folder could not be read\n"
 
--- the outcome is that of a run over these words and this folder, with the catalogue and the licence texts that are built in
+-- the outcome is that of a run over these words and this folder, with the catalogue and the licence texts that are
+-- built in
 pub record IsGateRun (words : List (List ℕ)) (folder : List ℕ) (seen : RunSeen) (outcome : Outcome) : Type 0 where
   pub given : RunArguments
   pub lists : given.lists ≡ table_lists
@@ -40,8 +41,10 @@ pub record RunsAndTells (words : List (List ℕ)) (folder : List ℕ) (seen : Ru
   pub calls : List Call
   pub written : Option (List ℕ)
   pub faults : ℕ
-  pub ran : IsGateRun words folder (run_seen (up_to seen.tree content count calls) seen.out (sink_to seen.err written faults)) outcome
-  pub told : TellsBehind (is_whole seen.err.before faults) outcome.request (told_between calls seen.tree.calls_after written seen.err.new faults seen.err.after) outcome.ended
+  pub ran : IsGateRun words folder
+      (run_seen (up_to seen.tree content count calls) seen.out (sink_to seen.err written faults)) outcome
+  pub told : TellsBehind (is_whole seen.err.before faults) outcome.request
+      (told_between calls seen.tree.calls_after written seen.err.new faults seen.err.after) outcome.ended
   pub made : HasMade (from_there seen.tree content count calls)
   pub later : faults ≤ seen.err.after
 
@@ -55,8 +58,9 @@ pub record RunsOverSome (seen : RunSeen) (outcome : Outcome) : Type 0 where
 pub record IsGate (seen : RunSeen) (result : Result Outcome StartError) : Type 0 where
   -- Calls were made on the tree, and nothing else came of it.
   pub made : HasMade seen.tree
-  -- Where it ran, it did what a run over some words and some folder does, and behind that standard error gained the help of a refusal; a
-  -- prefix of it where a write was refused, and nothing where the run's own text was cut. Which words a process is given no clause says.
+  -- Where it ran, it did what a run over some words and some folder does, and behind that standard error gained the
+  -- help of a refusal; a prefix of it where a write was refused, and nothing where the run's own text was cut. Which
+  -- words a process is given no clause says.
   pub ran : IfOk result (RunsOverSome seen)
   -- Where it could not begin, its line is on standard error, and standard output is as it was.
   pub lost : IfErr result (λ error. HasLine seen.err (start_line error) × IsSilent seen.out)

@@ -1,5 +1,5 @@
--- Lawful input without a fault: where nothing refuses the words, the request and the files, and no count rises, a run ends as its command
--- does, or for want of memory. The file that is to be verified may be refused too.
+-- Lawful input without a fault: where nothing refuses the words, the request and the files, and no count rises, a run
+-- ends as its command does, or for want of memory. The file that is to be verified may be refused too.
 use Rattle.std.specs.Prelude.{◌≡◌, ◌⊎◌, List, Some, ⊤}
 use Rattle.std.specs.Option.{ForSome}
 use Rattle.tree_core.specs.Call.{Call}
@@ -23,7 +23,8 @@ use Rattle.deny_run.specs.Words.{HasRequest}
 
 -- the end is one of these, or a refusal that may be
 abbrev pub EndsAs : {X : Type 0} → (X → RunEnd) → (Error → Type 0) → RunEnd → Type 0
-EndsAs {X} end_by MayRefuse ended = ((value : X) × (ended ≡ end_by value)) ⊎ ((error : Error) × (ended ≡ Refused error) × MayRefuse error)
+EndsAs {X} end_by MayRefuse ended =
+    ((value : X) × (ended ≡ end_by value)) ⊎ ((error : Error) × (ended ≡ Refused error) × MayRefuse error)
 
 abbrev pub IsWanting : Error → Type 0
 IsWanting error = MayEndLawful (cause_of error)
@@ -50,14 +51,18 @@ pub record AsksCommand (given : RunArguments) (request : Request) (options : Com
 -- by what was read
 abbrev pub IsCompleteRead : RunArguments → RunSeen → Outcome → Type 0
 IsCompleteRead given seen outcome =
-    (request : Request) (options : CommandOptions) (hearing : CommandHearing) (had : ListsGiven) (behind : List Call) (asked : PolicyAndCrates) → AsksCommand given request options
-    → IsLawfulRun (asked_of given request options) seen.tree hearing had behind asked → IsWithoutFault seen → EndsLawful request.command outcome.ended
+    (request : Request) (options : CommandOptions) (hearing : CommandHearing) (had : ListsGiven) (behind : List Call)
+    (asked : PolicyAndCrates) → AsksCommand given request options
+    → IsLawfulRun (asked_of given request options) seen.tree hearing had behind asked → IsWithoutFault seen
+    → EndsLawful request.command outcome.ended
 
 -- by a content
 abbrev pub IsCompleteOver : RunArguments → Content → RunSeen → Outcome → Type 0
 IsCompleteOver given content seen outcome =
-    (request : Request) (options : CommandOptions) (hearing : CommandHearing) (had : ListsGiven) (asked : PolicyAndCrates) → AsksCommand given request options
-    → IsLawfulOver (asked_of given request options) content seen.tree.count_before hearing had asked → IsWithoutFault seen → EndsLawful request.command outcome.ended
+    (request : Request) (options : CommandOptions) (hearing : CommandHearing) (had : ListsGiven)
+    (asked : PolicyAndCrates) → AsksCommand given request options
+    → IsLawfulOver (asked_of given request options) content seen.tree.count_before hearing had asked
+    → IsWithoutFault seen → EndsLawful request.command outcome.ended
 
 pub record IsComplete (given : RunArguments) (seen : RunSeen) (outcome : Outcome) : Type 0 where
   pub read : IsCompleteRead given seen outcome

@@ -42,7 +42,8 @@ as_end {X} end_by (Ok value) = Ok (end_by value)
 as_end {X} end_by (Err error) = Err error
 
 -- what is answered is the end of what a command answers, of which this is so
-pub record IsEndBy {X : Type 0} (end_by : X → RunEnd) (IsSo : Result X Error → Type 0) (answer : Result RunEnd Error) : Type 0 where
+pub record IsEndBy {X : Type 0} (end_by : X → RunEnd) (IsSo : Result X Error → Type 0)
+    (answer : Result RunEnd Error) : Type 0 where
   pub value : Result X Error
   pub is : answer ≡ as_end end_by value
   pub is_so : IsSo value
@@ -50,39 +51,49 @@ pub record IsEndBy {X : Type 0} (end_by : X → RunEnd) (IsSo : Result X Error �
 -- ---- a request
 
 -- a command runs behind what comes before it, by its options
-abbrev pub RunsAs : {X : Type 0} → (X → RunEnd) → CommandRequest → (SinkSeen → SinkSeen → CommandArguments → TreeSeen → Result X Error → Type 0) → RunSeen → Result RunEnd Error → Type 0
+abbrev pub RunsAs : {X : Type 0} → (X → RunEnd) → CommandRequest
+    → (SinkSeen → SinkSeen → CommandArguments → TreeSeen → Result X Error → Type 0) → RunSeen → Result RunEnd Error
+    → Type 0
 RunsAs {X} end_by asked IsDone seen answer =
-    IsEndBy end_by (λ (value : Result X Error). Runs asked (IsDone seen.out seen.err) seen.tree seen.err seen.out value) answer
+    IsEndBy end_by
+    (λ (value : Result X Error). Runs asked (IsDone seen.out seen.err) seen.tree seen.err seen.out value) answer
 
 -- so a listing, a verdict file, and whether one is right
-abbrev pub ListsAs : ListArgs → SinkSeen → SinkSeen → CommandArguments → TreeSeen → Result (List CrateRead) Error → Type 0
+abbrev pub ListsAs : ListArgs → SinkSeen → SinkSeen → CommandArguments → TreeSeen → Result (List CrateRead) Error
+    → Type 0
 ListsAs args out err own tree value = Lists (record { command = own; args = args }) tree err out value
 
 abbrev pub RecordsAs : SinkSeen → SinkSeen → CommandArguments → TreeSeen → Result (List CrateRead) Error → Type 0
 RecordsAs out err own tree value = Records own tree err out value
 
-abbrev pub VerifiesAs : List ℕ → SinkSeen → SinkSeen → CommandArguments → TreeSeen → Result VerifiedCrates Error → Type 0
+abbrev pub VerifiesAs : List ℕ → SinkSeen → SinkSeen → CommandArguments → TreeSeen → Result VerifiedCrates Error
+    → Type 0
 VerifiesAs path out err own tree value = Verifies own path tree err out value
 
 -- what a run over a request answers, by its command; a sample makes no call on the tree
 abbrev pub Answers : CatalogLists → (List ℕ → Match) → Request → Subcommand → RunSeen → Result RunEnd Error → Type 0
 Answers lists match_of request (Check args) seen answer =
-    RunsAs Checked (command_asked lists match_of request (check_options request.log_ctx args request.krate_ctx)) (Checks args.show_stats) seen answer
+    RunsAs Checked (command_asked lists match_of request (check_options request.log_ctx args request.krate_ctx))
+    (Checks args.show_stats) seen answer
 Answers lists match_of request (Listing args) seen answer =
-    RunsAs Listed (command_asked lists match_of request (list_options request.log_ctx args request.krate_ctx)) (ListsAs args) seen answer
+    RunsAs Listed (command_asked lists match_of request (list_options request.log_ctx args request.krate_ctx))
+    (ListsAs args) seen answer
 Answers lists match_of request (Sample size) seen answer =
     IsEndBy Sampled (λ value. IsUntouched seen.tree × Samples size lists match_of seen.out seen.err value) answer
 Answers lists match_of request Record seen answer =
-    RunsAs Recorded (command_asked lists match_of request (plain_options request.log_ctx request.krate_ctx)) RecordsAs seen answer
+    RunsAs Recorded (command_asked lists match_of request (plain_options request.log_ctx request.krate_ctx))
+    RecordsAs seen answer
 Answers lists match_of request (Verify path) seen answer =
-    RunsAs Verified (command_asked lists match_of request (plain_options request.log_ctx request.krate_ctx)) (VerifiesAs path) seen answer
+    RunsAs Verified (command_asked lists match_of request (plain_options request.log_ctx request.krate_ctx))
+    (VerifiesAs path) seen answer
 
 -- ---- words
 
 -- The answer to words: where they are taken and ask for something it is that to their request; else no call is made,
 -- help and the version are shown, and mistakes are reported.
 abbrev pub AnswersOf : RunArguments → Option Request → RunSeen → Result RunEnd Error → Type 0
-AnswersOf given (Some request) seen answer = HasRequest given request × Answers given.lists given.match_of request request.command seen answer
+AnswersOf given (Some request) seen answer =
+    HasRequest given request × Answers given.lists given.match_of request request.command seen answer
 AnswersOf given None seen answer = IsUntouched seen.tree × AnswersNone given seen answer
 
 -- each label of each finding of a report lies in the text of its file, between characters
@@ -95,12 +106,13 @@ pub record IsAnswered (given : RunArguments) (seen : RunSeen) (answered : Answer
   pub answers : AnswersOf given answered.request seen answered.answer
   pub words : AnswersWords given answered.request (end_of answered.answer)
   pub labels : IfOk answered.answer HasLabels
-  pub counts : IfErr answered.answer (λ error. ReadCounts seen.tree.count_before seen.tree.count_before seen.tree.count_after (cause_of error))
+  pub counts : IfErr answered.answer
+      (λ error. ReadCounts seen.tree.count_before seen.tree.count_before seen.tree.count_after (cause_of error))
 
 -- ---- a run
 
--- The end is that of an answer, of which this is so by what was seen up to a moment; behind that the line of a refusal was written, or a
--- prefix of it where `err` refused, and nothing else.
+-- The end is that of an answer, of which this is so by what was seen up to a moment; behind that the line of a refusal
+-- was written, or a prefix of it where `err` refused, and nothing else.
 pub record Ends (IsAnswer : RunSeen → Result RunEnd Error → Type 0) (seen : RunSeen) (ended : RunEnd) : Type 0 where
   pub answer : Result RunEnd Error
   pub is : ended ≡ end_of answer

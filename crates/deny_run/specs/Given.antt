@@ -20,7 +20,8 @@ pub record RunArguments : Type 0 where
   pub cwd : List ℕ
 
 abbrev pub run_arguments_of : {A : Type 0} → CatalogLists → (List ℕ → Match) → List (String A) → List ℕ → RunArguments
-run_arguments_of lists match_of words cwd = record { lists = lists; match_of = match_of; words = texts words; cwd = cwd }
+run_arguments_of lists match_of words cwd =
+    record { lists = lists; match_of = match_of; words = texts words; cwd = cwd }
 
 -- in what the command of a request differs from the others; a sample is over no crates of a request
 abbrev pub options_of : Request → Subcommand → Option CommandOptions

@@ -6,14 +6,15 @@
 --
 -- And the same of what was read:
 --
--- Whenever `run` ends a check with a `Report`, over any tree, real folders too, the report gives each selected crate exactly
--- one verdict, the one that the policy's bytes define for the crate's record and files, all as they were read. It read each
--- crate's files, each once for that crate and kind, and nothing else: two crates that share a licence file read it twice, and a
--- file is read for each spelling of its path.
+-- Whenever `run` ends a check with a `Report`, over any tree, real folders too, the report gives each selected crate
+-- exactly one verdict, the one that the policy's bytes define for the crate's record and files, all as they were read.
+-- It read each crate's files, each once for that crate and kind, and nothing else: two crates that share a licence file
+-- read it twice, and a file is read for each spelling of its path.
 --
--- A report comes with its request, which is that of the words, and whose command is `check`. Without overrides: the request's
--- three lists of codes and levels are empty. Where the request names a catalogue's file or a folder of texts, what these were read
--- as takes the place of what is handed in. That lawful input has its report is said of all commands in one place.
+-- A report comes with its request, which is that of the words, and whose command is `check`. Without overrides: the
+-- request's three lists of codes and levels are empty. Where the request names a catalogue's file or a folder of texts,
+-- what these were read as takes the place of what is handed in. That lawful input has its report is said of all
+-- commands in one place.
 use Rattle.std.specs.Prelude.{◌≡◌, false, All, Some}
 use Rattle.std.specs.Option.{ForSome}
 use Rattle.tree_core.specs.Content.{Content}
@@ -37,7 +38,8 @@ use Rattle.deny_run.specs.Seen.{RunSeen}
 use Rattle.deny_run.specs.Words.{HasRequest}
 
 -- the words ask for this check, and their request is reported
-pub record AsksCheck (given : RunArguments) (outcome : Outcome) (args : CheckArgs) (asked : CommandRequest) : Type 0 where
+pub record AsksCheck (given : RunArguments) (outcome : Outcome) (args : CheckArgs)
+    (asked : CommandRequest) : Type 0 where
   pub request : Request
   pub of_words : HasRequest given request
   pub told : outcome.request ≡ Some request
@@ -47,8 +49,10 @@ pub record AsksCheck (given : RunArguments) (outcome : Outcome) (args : CheckArg
 -- without overrides the status is zero only if no crate is unlicensed or rejected
 abbrev pub ZeroMeansNoneRejected : RunArguments → Outcome → Type 0
 ZeroMeansNoneRejected given outcome =
-    (report : Report) (args : CheckArgs) (asked : CommandRequest) → outcome.ended ≡ Checked report → AsksCheck given outcome args asked
-    → HasNoOverrides args.lint_levels → outcome.status ≡ 0 → All (λ crate. is_against crate.verdict ≡ false) report.crates
+    (report : Report) (args : CheckArgs) (asked : CommandRequest) → outcome.ended ≡ Checked report
+    → AsksCheck given outcome args asked
+    → HasNoOverrides args.lint_levels → outcome.status ≡ 0
+    → All (λ crate. is_against crate.verdict ≡ false) report.crates
 
 -- by what was read: the report gives the verdicts that are asked for by that, and no other call was made
 pub record HasVerdictsRead (given : RunArguments) (tree : TreeSeen) (outcome : Outcome) (report : Report) : Type 0 where
@@ -60,9 +64,10 @@ pub record HasVerdictsRead (given : RunArguments) (tree : TreeSeen) (outcome : O
   pub heard : IsRunHeard asked tree hearing had
   pub tells : TellsVerdicts (command_by asked.command had) hearing.found report
 
--- by a content: the report gives the verdicts that are asked for by calls that say what the content has, but for those that failed, each
--- of which raised the count of faults
-pub record HasVerdictsIn (given : RunArguments) (content : Content) (tree : TreeSeen) (outcome : Outcome) (report : Report) : Type 0 where
+-- by a content: the report gives the verdicts that are asked for by calls that say what the content has, but for those
+-- that failed, each of which raised the count of faults
+pub record HasVerdictsIn (given : RunArguments) (content : Content) (tree : TreeSeen) (outcome : Outcome)
+    (report : Report) : Type 0 where
   pub args : CheckArgs
   pub asked : CommandRequest
   pub asks : AsksCheck given outcome args asked
@@ -76,5 +81,6 @@ pub record HasVerdictsIn (given : RunArguments) (content : Content) (tree : Tree
 
 pub record Headline (given : RunArguments) (seen : RunSeen) (outcome : Outcome) : Type 0 where
   pub read : (report : Report) → outcome.ended ≡ Checked report → HasVerdictsRead given seen.tree outcome report
-  pub told : ForSome seen.tree.told (λ content. (report : Report) → outcome.ended ≡ Checked report → HasVerdictsIn given content seen.tree outcome report)
+  pub told : ForSome seen.tree.told (λ content. (report : Report) → outcome.ended ≡ Checked report
+      → HasVerdictsIn given content seen.tree outcome report)
   pub status : ZeroMeansNoneRejected given outcome

@@ -14,31 +14,35 @@ use Rattle.deny_run.specs.Run.{exit_status}
 
 -- the same command at another level
 abbrev pub command_at : LevelFilter → CommandArguments → CommandArguments
-command_at level given = record given { request = record given.request { log = record given.request.log { log_level = level } } }
+command_at level given =
+    record given { request = record given.request { log = record given.request.log { log_level = level } } }
 
 abbrev pub at_level : LevelFilter → CommandRequest → CommandRequest
 at_level level given = record given { command = command_at level given.command }
 
 -- what was read, and the report by that
-pub record IsReported (given : CommandRequest) (hearing : CommandHearing) (had : ListsGiven) (report : Report) : Type 0 where
+pub record IsReported (given : CommandRequest) (hearing : CommandHearing) (had : ListsGiven)
+    (report : Report) : Type 0 where
   pub comes : ComesBy given hearing had
   pub is : IsReport (command_by given.command had) hearing.found report
 
 -- what is read of a content, where no call fails and no memory is wanting
-pub record IsHeardOf (given : CommandRequest) (content : Content) (count : ℕ) (hearing : CommandHearing) (had : ListsGiven) : Type 0 where
+pub record IsHeardOf (given : CommandRequest) (content : Content) (count : ℕ) (hearing : CommandHearing)
+    (had : ListsGiven) : Type 0 where
   pub begun : HasBegun hearing count
   pub tells : All (TellsContent content) (run_calls given hearing had)
 
--- the calls of a run are those that are due at each level, and its report is the one that is asked for at each, with its counts and so
--- its status
+-- the calls of a run are those that are due at each level, and its report is the one that is asked for at each, with
+-- its counts and so its status
 abbrev pub LevelChangesNoReport : Type 0
 LevelChangesNoReport =
-    (given : CommandRequest) (level : LevelFilter) (tree : TreeSeen) (hearing : CommandHearing) (had : ListsGiven) (report : Report)
+    (given : CommandRequest) (level : LevelFilter) (tree : TreeSeen) (hearing : CommandHearing) (had : ListsGiven)
+    (report : Report)
     → IsRunHeard given tree hearing had → IsReported given hearing had report
     → IsRunHeard (at_level level given) tree hearing had × IsReported (at_level level given) hearing had report
 
--- Two runs over equal content, where no call failed and no memory was wanting, that differ in the level of the log alone and both end
--- with a report have equal statuses.
+-- Two runs over equal content, where no call failed and no memory was wanting, that differ in the level of the log
+-- alone and both end with a report have equal statuses.
 abbrev pub LevelKeepsStatus : Type 0
 LevelKeepsStatus =
     (given : CommandRequest) (level : LevelFilter) (content : Content) (count : ℕ)

@@ -14,7 +14,8 @@ use Rattle.run_command.specs.Given.{CommandOptions}
 use Rattle.run_command.specs.Prelude.{IsUntouched}
 use Rattle.deny_run.specs.declared.outcome.Outcome.{Outcome}
 use Rattle.deny_run.specs.declared.outcome.RunEnd.{RunEnd}
-use Rattle.deny_run.specs.declared.outcome.RunEnd.TheVariants.{Checked, Listed, Sampled, Recorded, Verified, Shown, Usage, Refused}
+use Rattle.deny_run.specs.declared.outcome.RunEnd.TheVariants.{Checked, Listed, Sampled, Recorded, Verified, Shown}
+use Rattle.deny_run.specs.declared.outcome.RunEnd.TheVariants.{Usage, Refused}
 use Rattle.deny_run.specs.Complete.{AsksCommand, IsComplete}
 use Rattle.deny_run.specs.Ends.{HasLabels, IsOutcome}
 use Rattle.deny_run.specs.Given.{RunArguments}
@@ -29,8 +30,8 @@ abbrev pub answer_status : VerifyAnswer → ℕ
 answer_status Yes = 0
 answer_status (No reason) = 4
 
--- 4 where the check of licences has errors, else 0; that of an answer; 0 after a listing, a sample, a verdict file, help and the version;
--- 2 after a mistake in the words; 1 after a refusal
+-- 4 where the check of licences has errors, else 0; that of an answer; 0 after a listing, a sample, a verdict file,
+-- help and the version; 2 after a mistake in the words; 1 after a refusal
 abbrev pub exit_status : RunEnd → ℕ
 exit_status (Checked report) = if has_errors report.stats then 4 else 0
 exit_status (Listed reads) = 0
@@ -50,7 +51,8 @@ outcome_of request ended = record { status = exit_status ended; request = reques
 -- a request of which a part is not carried is refused with the first such part, and no call is made
 abbrev pub RefusesUnsupported : RunArguments → RunSeen → Outcome → Type 0
 RefusesUnsupported given seen outcome =
-    (request : Request) (options : CommandOptions) (what : UnsupportedPart) → outcome.request ≡ Some request → AsksCommand given request options → options.unsupported ≡ Some what
+    (request : Request) (options : CommandOptions) (what : UnsupportedPart) → outcome.request ≡ Some request
+    → AsksCommand given request options → options.unsupported ≡ Some what
     → (outcome.ended ≡ Refused (NotCarried what)) × IsUntouched seen.tree
 
 -- What a run over words promises.
@@ -69,12 +71,14 @@ pub record IsRun (given : RunArguments) (seen : RunSeen) (result : Outcome) : Ty
   -- Calls were made on the tree, and nothing else came of it; no count of a sink fell.
   pub later : IsLater seen
   -- A failed read is reported with the tree's counts, between which it rose.
-  pub counts : (error : Error) → result.ended ≡ Refused error → ReadCounts seen.tree.count_before seen.tree.count_before seen.tree.count_after (cause_of error)
+  pub counts : (error : Error) → result.ended ≡ Refused error
+      → ReadCounts seen.tree.count_before seen.tree.count_before seen.tree.count_after (cause_of error)
   -- Each label of each finding lies in the text of its file, between characters.
   pub labels : HasLabels result.ended
   -- The status is that of the end.
   pub status : result.status ≡ exit_status result.ended
-  -- The headline, in the words of policies, records and verdicts: by what was read, and by the content where the tree tells it.
+  -- The headline, in the words of policies, records and verdicts: by what was read, and by the content where the tree
+  -- tells it.
   pub headline : Headline given seen result
   -- Lawful input without a fault ends as its command ends, but for want of memory.
   pub complete : IsComplete given seen result

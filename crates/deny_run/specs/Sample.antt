@@ -12,14 +12,17 @@ use Rattle.run_sample.specs.Sample.{IsSampleComplete, IsSampled, IsUnfailed, IsW
 use Rattle.deny_run.specs.Seen.{IsStill}
 
 -- the report is that of a check of the sample, and its four lines were written, and nothing else
-pub record ReportsSample (size : ℕ) (lists : CatalogLists) (match_of : List ℕ → Match) (out err : SinkSeen) (report : Report) : Type 0 where
+pub record ReportsSample (size : ℕ) (lists : CatalogLists) (match_of : List ℕ → Match) (out err : SinkSeen)
+    (report : Report) : Type 0 where
   pub is : IsSampled size lists match_of report
   pub lines : WritesLines size lists match_of out.old out.new out.before out.after (Ok report)
   pub still : IsStill err
 
--- The sample was refused: for want of memory, for a refused write, or where the catalogue that is handed in lacks a name of its policy;
--- with the built-in catalogue for the first two alone. No refusal comes of a failed read, nor of a policy that is not there.
-pub record RefusesSample (size : ℕ) (lists : CatalogLists) (match_of : List ℕ → Match) (out err : SinkSeen) (error : Error) : Type 0 where
+-- The sample was refused: for want of memory, for a refused write, or where the catalogue that is handed in lacks a
+-- name of its policy; with the built-in catalogue for the first two alone. No refusal comes of a failed read, nor of a
+-- policy that is not there.
+pub record RefusesSample (size : ℕ) (lists : CatalogLists) (match_of : List ℕ → Match) (out err : SinkSeen)
+    (error : Error) : Type 0 where
   pub lines : WritesLines size lists match_of out.old out.new out.before out.after (Err error)
   pub unfailed : IsUnfailed (cause_of error)
   pub complete : IsSampleComplete size lists match_of (Err error)

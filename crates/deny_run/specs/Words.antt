@@ -39,16 +39,20 @@ IsUnshown sink text _ = ⊥
 -- `out`; or `out` refused a write of it; or some text was reported on `err`, or a prefix of it where `err` refused,
 -- which changes nothing in the answer; or memory was wanting before anything was written.
 pub data AnswersNone (given : RunArguments) (seen : RunSeen) (answer : Result RunEnd Error) : Type 0 where
-  shown : MayShow given → (text : List ℕ) → Gained seen.out.old seen.out.new text → IsStill seen.err → answer ≡ Ok Shown → AnswersNone given seen answer
-  unshown : MayShow given → (text : List ℕ) (error : Error) → IsUnshown seen.out text error → IsStill seen.err → answer ≡ Err error → AnswersNone given seen answer
-  mistaken : MayRefuse given → (text : List ℕ) → HasLine seen.err text → IsSilent seen.out → answer ≡ Ok Usage → AnswersNone given seen answer
+  shown : MayShow given → (text : List ℕ) → Gained seen.out.old seen.out.new text → IsStill seen.err → answer ≡ Ok Shown
+      → AnswersNone given seen answer
+  unshown : MayShow given → (text : List ℕ) (error : Error) → IsUnshown seen.out text error → IsStill seen.err
+      → answer ≡ Err error → AnswersNone given seen answer
+  mistaken : MayRefuse given → (text : List ℕ) → HasLine seen.err text → IsSilent seen.out → answer ≡ Ok Usage
+      → AnswersNone given seen answer
   lost : IsSilent seen.out → IsStill seen.err → answer ≡ Err Memory → AnswersNone given seen answer
 
 -- ---- completeness: but for want of memory, and for a refused write of help
 
 -- words that are taken and ask for something have it reported
 abbrev pub AnswersRequest : RunArguments → Option Request → RunEnd → Type 0
-AnswersRequest given told ended = (request : Request) → HasRequest given request → (told ≡ Some request) ⊎ (ended ≡ Refused Memory)
+AnswersRequest given told ended =
+    (request : Request) → HasRequest given request → (told ≡ Some request) ⊎ (ended ≡ Refused Memory)
 
 abbrev pub IsShownBy : Cause → Type 0
 IsShownBy no_memory = Unit {0}
@@ -62,13 +66,15 @@ EndsHelp ended = (ended ≡ Shown) ⊎ ((error : Error) × (ended ≡ Refused er
 -- words that can be taken for nothing but a call for help or the version have it shown
 abbrev pub AnswersHelp : RunArguments → Option Request → RunEnd → Type 0
 AnswersHelp given told ended =
-    may_show (word_faults (gate_words given.words)) ≡ true → may_refuse (word_faults (gate_words given.words)) ≡ false → (told ≡ None) × EndsHelp ended
+    may_show (word_faults (gate_words given.words)) ≡ true → may_refuse (word_faults (gate_words given.words)) ≡ false
+    → (told ≡ None) × EndsHelp ended
 
 -- words that can be taken for nothing but a mistake, and words that are taken and ask for nothing, are refused
 abbrev pub AnswersMistake : RunArguments → RunEnd → Type 0
 AnswersMistake given ended =
     may_show (word_faults (gate_words given.words)) ≡ false
-    → (may_refuse (word_faults (gate_words given.words)) ≡ true) ⊎ (request_in (gate_words given.words) given.cwd ≡ None)
+    → (may_refuse (word_faults (gate_words given.words)) ≡ true)
+    ⊎ (request_in (gate_words given.words) given.cwd ≡ None)
     → (ended ≡ Usage) ⊎ (ended ≡ Refused Memory)
 
 pub record AnswersWords (given : RunArguments) (told : Option Request) (ended : RunEnd) : Type 0 where

@@ -19,4 +19,5 @@ IsRightlyCalled (Name name) = name_part name.now ≡ Some name.now
 
 -- the first of the parts, as what its text is called, and the parts after it
 abbrev pub YieldsPart : List (List ℕ) → Option Component → List (List ℕ) → Type 0
-YieldsPart parts first rest = MatchOption first ((parts ≡ []) × (rest ≡ [])) (λ part. (parts ≡ component_text part ∷ rest) × IsRightlyCalled part)
+YieldsPart parts first rest =
+    MatchOption first ((parts ≡ []) × (rest ≡ [])) (λ part. (parts ≡ component_text part ∷ rest) × IsRightlyCalled part)

@@ -1,5 +1,7 @@
--- XXH32 with initial value 0, as the public description of xxHash has it ("XXH32 Algorithm Description", steps 1 to 7). Words are numbers below 2 ^ 32.
-use Rattle.std.specs.Prelude.{◌≡◌, ℕ, ◌+◌, ◌-◌, ◌*◌, ◌/◌, ◌%◌, ◌^◌, nat_lt, List, length, take, drop, fold, bit_xor, if◌then◌else◌}
+-- XXH32 with initial value 0, as the public description of xxHash has it ("XXH32 Algorithm Description", steps 1 to 7).
+-- Words are numbers below 2 ^ 32.
+use Rattle.std.specs.Prelude.{◌≡◌, ℕ, ◌+◌, ◌-◌, ◌*◌, ◌/◌, ◌%◌, ◌^◌, nat_lt, List, length, take, drop, fold, bit_xor}
+use Rattle.std.specs.Prelude.{if◌then◌else◌}
 use Rattle.std.specs.Int.{w32, rotate_left, from_le_bytes}
 use Rattle.std.specs.Simd.{first_chunks}
 use Rattle.deny_text.specs.Normal.{normal_of, with_returns}
@@ -67,7 +69,9 @@ stripe sums group = record {
 
 -- step 3: the accumulators as one
 abbrev pub merged_lanes : Lanes → ℕ
-merged_lanes sums = add32 (add32 (add32 (rotate_left w32 sums.first 1) (rotate_left w32 sums.second 7)) (rotate_left w32 sums.third 12)) (rotate_left w32 sums.fourth 18)
+merged_lanes sums =
+    add32 (add32 (add32 (rotate_left w32 sums.first 1) (rotate_left w32 sums.second 7)) (rotate_left w32 sums.third 12))
+    (rotate_left w32 sums.fourth 18)
 
 -- the groups of 16 bytes taken in one after another; input without one starts from the fifth prime
 unfoldable pub of_groups : List ℕ → ℕ

@@ -1,5 +1,6 @@
 -- Paths as their texts, read by components.
-use Rattle.std.specs.Prelude.{◌≡◌, ◌≢◌, ◌↔◌, ◌⊎◌, ℕ, zero, suc, ◌-◌, ◌<◌, ◌||◌, List, [], ◌∷◌, ◌++◌, length, take, slice_index, slice_get, Option, None, Some, if◌then◌else◌, codes}
+use Rattle.std.specs.Prelude.{◌≡◌, ◌≢◌, ◌↔◌, ◌⊎◌, ℕ, zero, suc, ◌-◌, ◌<◌, ◌||◌, List, [], ◌∷◌, ◌++◌, length, take}
+use Rattle.std.specs.Prelude.{slice_index, slice_get, Option, None, Some, if◌then◌else◌, codes}
 use Rattle.std.specs.Option.{option_and_then}
 use Rattle.std.specs.List.{flat_map}
 use Rattle.std.specs.Ordering.{on, then_cmp, nat_cmp, eq_by_cmp}
@@ -25,11 +26,14 @@ parent_of = path_parent
 
 -- where there is a parent, the parts of the path are the parent's and one more
 abbrev pub ParentDropsLast : Type 0
-ParentDropsLast = (path parent : List ℕ) → parent_of path ≡ Some parent → (last : List ℕ) × (components_of path ≡ components_of parent ++ last ∷ [])
+ParentDropsLast =
+    (path parent : List ℕ) → parent_of path ≡ Some parent
+    → (last : List ℕ) × (components_of path ≡ components_of parent ++ last ∷ [])
 
 -- there is no parent exactly where there is no part, and where the root is the one part
 abbrev pub RootHasNoParent : Type 0
-RootHasNoParent = (path : List ℕ) → (parent_of path ≡ None) ↔ ((components_of path ≡ []) ⊎ (components_of path ≡ codes "/" ∷ []))
+RootHasNoParent =
+    (path : List ℕ) → (parent_of path ≡ None) ↔ ((components_of path ≡ []) ⊎ (components_of path ≡ codes "/" ∷ []))
 
 -- the parts without a `.` at their front
 abbrev pub without_dot : List (List ℕ) → List (List ℕ)
@@ -43,7 +47,8 @@ BeginsAtRoot = IsAbsolute
 -- The parts of a join are those of both paths, less a leading `.` of the second. Those of an absolute second path, and
 -- of a second path behind an empty one, are its own.
 pub record JoinsByParts : Type 0 where
-  pub relative : (base path : List ℕ) → base ≢ [] → ¬ (BeginsAtRoot path) → components_of (join_of base path) ≡ components_of base ++ without_dot (components_of path)
+  pub relative : (base path : List ℕ) → base ≢ [] → ¬ (BeginsAtRoot path)
+      → components_of (join_of base path) ≡ components_of base ++ without_dot (components_of path)
   pub absolute : (base path : List ℕ) → BeginsAtRoot path → components_of (join_of base path) ≡ components_of path
   pub behind_nothing : (path : List ℕ) → components_of (join_of [] path) ≡ components_of path
 
@@ -68,7 +73,8 @@ AncestorsGoUp = (path : List ℕ) → ancestors_of path ≡ path ∷ ancestors_f
 
 -- the part where it is a name: neither the root nor `.` nor `..`
 abbrev pub name_part : List ℕ → Option (List ℕ)
-name_part part = if (bytes_eq part (codes "/") || bytes_eq part (codes ".") || bytes_eq part (codes "..")) then None else Some part
+name_part part =
+    if (bytes_eq part (codes "/") || bytes_eq part (codes ".") || bytes_eq part (codes "..")) then None else Some part
 
 -- the last of the parts where it is a name
 abbrev pub last_name : List (List ℕ) → Option (List ℕ)
@@ -85,7 +91,8 @@ EndsWithParts = PathEndsWith
 -- the root, then `.`, then `..`, then the names
 abbrev pub part_rank : List ℕ → ℕ
 part_rank part =
-    if bytes_eq part (codes "/") then 0 else (if bytes_eq part (codes ".") then 1 else (if bytes_eq part (codes "..") then 2 else 3))
+    if bytes_eq part (codes "/") then 0
+    else (if bytes_eq part (codes ".") then 1 else (if bytes_eq part (codes "..") then 2 else 3))
 
 -- by rank, and names by their bytes
 abbrev pub part_cmp : List ℕ → List ℕ → Ordering
@@ -96,7 +103,8 @@ abbrev pub path_order : List ℕ → List ℕ → Ordering
 path_order = on components_of (slice_cmp part_cmp)
 
 pub path_order_total : IsTotalOrder path_order
-path_order_total = on_total components_of (lists_total (then_total (on_total part_rank nat_cmp_total) nat_list_cmp_total))
+path_order_total =
+    on_total components_of (lists_total (then_total (on_total part_rank nat_cmp_total) nat_list_cmp_total))
 
 -- the parts, each with a slash behind it
 abbrev pub key_of : List ℕ → List ℕ

@@ -8,7 +8,8 @@ use Rattle.diag_core.specs.Position.{begins_character, line_starts}
 -- so many characters are before each block, and before the rest behind the last
 pub record CountsBlocks (text counts : List ℕ) : Type 0 where
   pub all : length counts ≡ length text / 256 + 1
-  pub each : (block : ℕ) → block * 256 ≤ length text → slice_index counts block ≡ count_by begins_character (take (block * 256) text)
+  pub each : (block : ℕ) → block * 256 ≤ length text
+      → slice_index counts block ≡ count_by begins_character (take (block * 256) text)
 
 -- where the lines of the text start, and how many characters are before its blocks
 pub record IsIndexOf (text starts counts : List ℕ) : Type 0 where

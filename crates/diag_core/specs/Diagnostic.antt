@@ -8,7 +8,8 @@ use Rattle.diag_core.specs.Label.{heap}
 
 -- no code, an empty message, no label and no note
 abbrev pub plain_diagnostic : Severity → Diagnostic
-plain_diagnostic severity = record { severity = severity; code = None; message = []; labels = []; notes = []; alloc = heap }
+plain_diagnostic severity =
+    record { severity = severity; code = None; message = []; labels = []; notes = []; alloc = heap }
 
 -- the diagnostic with the name of the code, where there is one
 abbrev pub with_code_of : Option DiagnosticCode → Diagnostic → Diagnostic

@@ -1,5 +1,6 @@
 -- Files as a list. The number of a file is its place in the list, from 0.
-use Rattle.std.specs.Prelude.{◌≡◌, ℕ, zero, suc, ◌&&◌, Bool, List, [], ◌∷◌, ◌++◌, slice_get, position, Option, Some, None, Result, Err}
+use Rattle.std.specs.Prelude.{◌≡◌, ℕ, zero, suc, ◌&&◌, Bool, List, [], ◌∷◌, ◌++◌, slice_get, position, Option, Some}
+use Rattle.std.specs.Prelude.{None, Result, Err}
 use Rattle.std.specs.Option.{option_map}
 use Rattle.std.specs.Ordering.{eq_by_cmp}
 use Rattle.deny_text.specs.Path.{path_order}

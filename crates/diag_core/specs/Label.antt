@@ -11,4 +11,5 @@ heap = record { memory = record { seal = tt } }
 
 -- the label with this style, at these bytes of the file, with this text
 abbrev pub label_at : LabelStyle → ℕ → Span → List ℕ → Label
-label_at style file span message = record { style = style; file_id = file; range = span; message = message; alloc = heap }
+label_at style file span message =
+    record { style = style; file_id = file; range = span; message = message; alloc = heap }

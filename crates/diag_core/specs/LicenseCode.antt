@@ -1,12 +1,18 @@
 -- The codes of the licence check, with their names and with what they say.
 use Rattle.std.specs.Prelude.{ℕ, List, [], ◌∷◌, Option, codes, find, bytes_eq}
 use Rattle.diag_core.specs.declared.licenses.Code.{Code}
-use Rattle.diag_core.specs.declared.licenses.Code.TheVariants.{Accepted, Rejected, Unlicensed, SkippedPrivateWorkspaceCrate, LicenseNotEncountered, LicenseExceptionNotEncountered, MissingClarificationFile, ParseError, EmptyLicenseField, NoLicenseField, GatherFailure}
+use Rattle.diag_core.specs.declared.licenses.Code.TheVariants.{Accepted, Rejected, Unlicensed}
+use Rattle.diag_core.specs.declared.licenses.Code.TheVariants.{SkippedPrivateWorkspaceCrate, LicenseNotEncountered}
+use Rattle.diag_core.specs.declared.licenses.Code.TheVariants.{LicenseExceptionNotEncountered, MissingClarificationFile}
+use Rattle.diag_core.specs.declared.licenses.Code.TheVariants.{ParseError, EmptyLicenseField, NoLicenseField}
+use Rattle.diag_core.specs.declared.licenses.Code.TheVariants.{GatherFailure}
 
 -- the codes in their order
 abbrev pub license_codes : List Code
 license_codes =
-    Accepted ∷ Rejected ∷ Unlicensed ∷ SkippedPrivateWorkspaceCrate ∷ LicenseNotEncountered ∷ LicenseExceptionNotEncountered ∷ MissingClarificationFile ∷ ParseError ∷ EmptyLicenseField ∷ NoLicenseField ∷ GatherFailure ∷ []
+    Accepted ∷ Rejected ∷ Unlicensed ∷ SkippedPrivateWorkspaceCrate ∷ LicenseNotEncountered
+    ∷ LicenseExceptionNotEncountered ∷ MissingClarificationFile ∷ ParseError ∷ EmptyLicenseField ∷ NoLicenseField
+    ∷ GatherFailure ∷ []
 
 -- the name of a code
 abbrev pub license_code_name : Code → List ℕ
@@ -27,10 +33,13 @@ abbrev pub license_code_description : Code → List ℕ
 license_code_description Accepted = codes "A license was explicitly accepted"
 license_code_description Rejected = codes "A license was not explicitly accepted"
 license_code_description Unlicensed = codes "A license expression could not be determined for a crate"
-license_code_description SkippedPrivateWorkspaceCrate = codes "A private workspace crate was skipped during the license check"
+license_code_description SkippedPrivateWorkspaceCrate =
+    codes "A private workspace crate was skipped during the license check"
 license_code_description LicenseNotEncountered = codes "An allowed license was not used by any crate in the graph"
-license_code_description LicenseExceptionNotEncountered = codes "A license exception was not used by any crate in the graph"
-license_code_description MissingClarificationFile = codes "A license clarification file was not found in the crate's source"
+license_code_description LicenseExceptionNotEncountered =
+    codes "A license exception was not used by any crate in the graph"
+license_code_description MissingClarificationFile =
+    codes "A license clarification file was not found in the crate's source"
 license_code_description ParseError = codes "Failed to parse an SPDX expression"
 license_code_description EmptyLicenseField = codes "A crate declared an empty license field"
 license_code_description NoLicenseField = codes "A crate did not have a license field"

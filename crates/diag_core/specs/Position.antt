@@ -1,5 +1,6 @@
 -- Lines and columns of a text. A line ends with its line feed, so a text has one more line than line feeds.
-use Rattle.std.specs.Prelude.{ℕ, suc, ◌+◌, ◌-◌, ◌==◌, ◌||◌, ◌&&◌, not, Bool, List, [], ◌∷◌, length, take, slice_index, slice_index_or, slice_range, count_by, nat_lt, nat_le, if◌then◌else◌, Result, Ok, Err}
+use Rattle.std.specs.Prelude.{ℕ, suc, ◌+◌, ◌-◌, ◌==◌, ◌||◌, ◌&&◌, not, Bool, List, [], ◌∷◌, length, take, slice_index}
+use Rattle.std.specs.Prelude.{slice_index_or, slice_range, count_by, nat_lt, nat_le, if◌then◌else◌, Result, Ok, Err}
 use Rattle.deny_text.specs.declared.span.Span.{Span}
 use Rattle.diag_core.specs.declared.position.Location.{Location}
 use Rattle.diag_core.specs.declared.position.FilesErr.{FilesErr}
@@ -21,7 +22,8 @@ line_count text = count_by is_line_feed text + 1
 abbrev pub places_behind_line_feeds : ℕ → List ℕ → List ℕ
 places_behind_line_feeds place [] = []
 places_behind_line_feeds place (byte ∷ text) =
-    if is_line_feed byte then (suc place ∷ places_behind_line_feeds (suc place) text) else places_behind_line_feeds (suc place) text
+    if is_line_feed byte then (suc place ∷ places_behind_line_feeds (suc place) text)
+    else places_behind_line_feeds (suc place) text
 
 -- the places at which the lines start: the start of the text, and behind each line feed
 unfoldable pub line_starts : List ℕ → List ℕ
@@ -50,10 +52,12 @@ column_of text place = count_by begins_character (slice_range text (line_start t
 -- the line with its line feed, where there are so many lines
 abbrev pub line_range_of : ℕ → List ℕ → Result Span FilesErr
 line_range_of line text =
-    if nat_lt line (line_count text) then Ok (record { start = line_start text line; end = line_end text line }) else Err (LineTooLarge line (line_count text))
+    if nat_lt line (line_count text) then Ok (record { start = line_start text line; end = line_end text line })
+    else Err (LineTooLarge line (line_count text))
 
 -- the line and the column of the place, unless it is past the text or inside a character
 abbrev pub location_of : ℕ → List ℕ → Result Location FilesErr
 location_of place text =
     if nat_lt (length text) place then Err (IndexTooLarge place (length text - 1))
-    else (if is_inside_character text place then Err (InvalidCharBoundary place) else Ok (record { line = line_of text place; column = column_of text place }))
+    else (if is_inside_character text place then Err (InvalidCharBoundary place)
+    else Ok (record { line = line_of text place; column = column_of text place }))

@@ -47,11 +47,15 @@ pointer_of Secondary = codes ":::"
 
 -- the file, the line and the column of a label
 abbrev pub place_text : List File → Label → List ℕ
-place_text files label = flat_text (file_under files label) ++ codes ":" ++ decimal (line_number files label) ++ codes ":" ++ decimal (column_number files label)
+place_text files label =
+    flat_text (file_under files label) ++ codes ":" ++ decimal (line_number files label) ++ codes ":"
+    ++ decimal (column_number files label)
 
 -- the line of a label: its place and its message
 abbrev pub label_line : List File → Label → List ℕ
-label_line files label = codes "  " ++ pointer_of label.style ++ codes " " ++ place_text files label ++ behind_colon label.message ++ codes "\n"
+label_line files label =
+    codes "  " ++ pointer_of label.style ++ codes " " ++ place_text files label ++ behind_colon label.message
+    ++ codes "\n"
 
 -- the line of a note
 abbrev pub note_line : List ℕ → List ℕ

@@ -16,7 +16,9 @@ use Rattle.diag_print.specs.Json.{json_line}
 
 -- the severity is at or above the level; none is at off
 abbrev pub is_printed : LevelFilter → Severity → Bool
-is_printed level severity = unwrap_or (option_map (λ least. nat_le (severity_rank least) (severity_rank severity)) (severity_of_filter level)) false
+is_printed level severity =
+    unwrap_or (option_map (λ least. nat_le (severity_rank least) (severity_rank severity)) (severity_of_filter level))
+    false
 
 -- the lines of a finding in a format
 abbrev pub printed_of : Format → List File → Diagnostic → List ℕ
@@ -26,7 +28,8 @@ printed_of Sarif files diag = []
 
 -- the lines of a finding, where it is at or above the level
 abbrev pub printed_at : LogContext → List File → Diagnostic → List ℕ
-printed_at context files diag = if is_printed context.log_level diag.severity then printed_of context.format files diag else []
+printed_at context files diag =
+    if is_printed context.log_level diag.severity then printed_of context.format files diag else []
 
 -- each finding is below the level
 abbrev pub AllBelow : LevelFilter → List Diag → Type 0

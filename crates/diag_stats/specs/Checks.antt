@@ -28,4 +28,6 @@ stats_where_run check (Some stats) = record { check = check; stats = stats } ∷
 
 -- the checks that ran, in the order of their names
 abbrev pub checks_of : AllStats → List CheckStats
-checks_of stats = stats_where_run Advisories stats.advisories ++ stats_where_run Bans stats.bans ++ stats_where_run Licenses stats.licenses ++ stats_where_run Sources stats.sources
+checks_of stats =
+    stats_where_run Advisories stats.advisories ++ stats_where_run Bans stats.bans
+    ++ stats_where_run Licenses stats.licenses ++ stats_where_run Sources stats.sources

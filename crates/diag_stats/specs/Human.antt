@@ -1,5 +1,6 @@
 -- The summary for a person.
-use Rattle.std.specs.Prelude.{ℕ, ◌+◌, ◌-◌, max, Bool, true, false, List, [], ◌∷◌, ◌++◌, codes, decimal, length, replicate}
+use Rattle.std.specs.Prelude.{ℕ, ◌+◌, ◌-◌, max, Bool, true, false, List, [], ◌∷◌, ◌++◌, codes, decimal, length}
+use Rattle.std.specs.Prelude.{replicate}
 use Rattle.std.specs.List.{flat_map}
 use Rattle.diag_core.specs.declared.severity.LevelFilter.{LevelFilter}
 use Rattle.diag_core.specs.declared.severity.LevelFilter.TheVariants.{Off, Error, Warn, Info, Debug, Trace}

@@ -9,7 +9,8 @@ use Rattle.tree_core.specs.Hearing.{Made}
 use Rattle.tree_core.specs.declared.reads.ReadRecord.{ReadRecord}
 use Rattle.graph_core.specs.Krate.{CrateRecord}
 use Rattle.tree_core.specs.file_reads.Heard.{ReadResult}
-use Rattle.tree_core.specs.file_reads.Read.{AreReads, LackedMemory, MadeReads, AnsweredRead, call_lost, calls_in, records_of_reads}
+use Rattle.tree_core.specs.file_reads.Read.{AreReads, LackedMemory, MadeReads, AnsweredRead, call_lost, calls_in}
+use Rattle.tree_core.specs.file_reads.Read.{records_of_reads}
 use Rattle.gather_license.specs.files.Calls.{IsFront}
 use Rattle.gather_license.specs.files.KnownReads.{FolderReads, known_reads_by}
 use Rattle.gather_license.specs.expression.Scanned.{Scanner}
@@ -27,7 +28,8 @@ use Rattle.gather_core.specs.Turns.{IsCutOut, IsTurn, TurnInput, files_behind, r
 
 -- Reads with these records were made over a tree, for a crate in this folder: their calls were made, and no other, and
 -- this is so by what their answers say of the crate's files and of its manifest.
-pub record IsByOwnReads (told tells : Option Content) (before after : ℕ) (old new : List Call) (folder : List ℕ) (records : List ReadRecord) (IsSo : FolderReads → ReadResult → Type 0) : Type 0 where
+pub record IsByOwnReads (told tells : Option Content) (before after : ℕ) (old new : List Call) (folder : List ℕ)
+    (records : List ReadRecord) (IsSo : FolderReads → ReadResult → Type 0) : Type 0 where
   pub reads : List AnsweredRead
   pub recorded_are : records_of_reads reads ≡ records
   pub made : MadeReads told tells before after old new folder reads
@@ -35,15 +37,18 @@ pub record IsByOwnReads (told tells : Option Content) (before after : ℕ) (old 
 
 -- These reads were made over a tree, for a crate in this folder, and then memory was wanting, perhaps in the call of
 -- one more. They, and that one, are the first ones of those that are made by what they say.
-pub record StarvesTaking (told tells : Option Content) (before after : ℕ) (old new : List Call) (folder : List ℕ) (wanted : FolderReads → ReadResult → List ReadRecord) : Type 0 where
+pub record StarvesTaking (told tells : Option Content) (before after : ℕ) (old new : List Call) (folder : List ℕ)
+    (wanted : FolderReads → ReadResult → List ReadRecord) : Type 0 where
   pub reads : List AnsweredRead
   pub next : Option ReadRecord
   pub made : LackedMemory told tells before after old new folder reads next
-  pub front : IsFront (records_of_reads reads ++ option_to_list next) (wanted (known_reads_by reads) (manifest_by reads))
+  pub front : IsFront (records_of_reads reads ++ option_to_list next)
+      (wanted (known_reads_by reads) (manifest_by reads))
 
 -- what is reported of a crate is what its turn says by what is read, and the labels of what is found cut out what they
 -- say
-abbrev pub IsTurnHeard : Scanner → ℕ → List ClarificationEntry → List File → KrateLicense → List File → FolderReads → ReadResult → Type 0
+abbrev pub IsTurnHeard : Scanner → ℕ → List ClarificationEntry → List File → KrateLicense → List File → FolderReads
+    → ReadResult → Type 0
 IsTurnHeard scanner policy all files license last known_reads manifest =
     IsTurn (turn_of scanner policy all known_reads manifest files license) license last
     × IsCutOut last (turn_of scanner policy all known_reads manifest files license)
@@ -64,14 +69,16 @@ pub record CrateTurn : Type 0 where
 abbrev pub turn_by : Scanner → ℕ → List ClarificationEntry → List File → ReadsOfCrate → CrateTurn
 turn_by scanner policy all files one = record {
   reads = one.reads;
-  turn = turn_with scanner policy (clarifications_of one.krate all) one.krate (known_reads_by one.reads) (manifest_by one.reads) files;
+  turn = turn_with scanner policy (clarifications_of one.krate all) one.krate (known_reads_by one.reads)
+      (manifest_by one.reads) files;
 }
 
 -- the turns of crates, one after another, each with the table that the one before has left
 abbrev pub turns_of : Scanner → ℕ → List ClarificationEntry → List File → List ReadsOfCrate → List CrateTurn
 turns_of scanner policy all files [] = []
 turns_of scanner policy all files (one ∷ crates) =
-    turn_by scanner policy all files one ∷ turns_of scanner policy all (files_behind (turn_by scanner policy all files one).turn) crates
+    turn_by scanner policy all files one
+    ∷ turns_of scanner policy all (files_behind (turn_by scanner policy all files one).turn) crates
 
 -- the table that turns leave, where it was this one before them
 abbrev pub files_behind_all : List File → List CrateTurn → List File
@@ -94,17 +101,21 @@ pub record IsTurnBy (last : List File) (own : CrateTurn) (license : KrateLicense
   pub krate : own.turn.krate ≡ krate_of license
   pub recorded_are : records_of_reads own.reads ≡ license.reads
   pub turn : IsTurn own.turn license (files_behind own.turn)
-  pub answer : answer_view license.lic_info license.notes ≡ priority_of own.turn.scanner own.turn.clarifications own.turn.krate own.turn.known_reads
+  pub answer : answer_view license.lic_info license.notes
+      ≡ priority_of own.turn.scanner own.turn.clarifications own.turn.krate own.turn.known_reads
   pub cuts : IsCutOut last own.turn
 
 -- what is reported of crates, one by one, is what these turns say, and the table that is left at last is theirs
-pub record AreTurnsBy (files : List File) (turns : List CrateTurn) (licenses : List KrateLicense) (last : List File) : Type 0 where
+pub record AreTurnsBy (files : List File) (turns : List CrateTurn) (licenses : List KrateLicense)
+    (last : List File) : Type 0 where
   pub each : AllZip (IsTurnBy last) turns licenses
   pub left : last ≡ files_behind_all files turns
 
 -- Crates had their turns over a tree, each by its own reads: the calls of these were made, one crate after another, and
 -- no other; their records tell what the answers say; and what is reported of each crate is what its turn says by them.
-pub record AreTurnsByReads (told tells : Option Content) (before after : ℕ) (old new : List Call) (scanner : Scanner) (policy : ℕ) (all : List ClarificationEntry) (files : List File) (licenses : List KrateLicense) (last : List File) : Type 0 where
+pub record AreTurnsByReads (told tells : Option Content) (before after : ℕ) (old new : List Call) (scanner : Scanner)
+    (policy : ℕ) (all : List ClarificationEntry) (files : List File) (licenses : List KrateLicense)
+    (last : List File) : Type 0 where
   pub crates : List ReadsOfCrate
   pub made : Made told tells before after old new (calls_of_all crates)
   pub are : AreReads before (reads_of_all crates)
@@ -115,12 +126,16 @@ pub record AreTurnsByReads (told tells : Option Content) (before after : ℕ) (o
 -- Some of these crates, the first ones, had their turns over a tree, and memory was wanting at the turn of the next
 -- one, perhaps in a call. Its reads, and that call's, are the first ones of those that its turn asks for by what they
 -- say.
-pub record StarvesGathering (told tells : Option Content) (before after : ℕ) (old new : List Call) (scanner : Scanner) (policy : ℕ) (all : List ClarificationEntry) (files : List File) (krates : List CrateRecord) : Type 0 where
+pub record StarvesGathering (told tells : Option Content) (before after : ℕ) (old new : List Call) (scanner : Scanner)
+    (policy : ℕ) (all : List ClarificationEntry) (files : List File) (krates : List CrateRecord) : Type 0 where
   pub crates : List ReadsOfCrate
   pub begun : ReadsOfCrate
   pub next : Option ReadRecord
-  pub made : Made told tells before after old new (calls_of_all crates ++ (calls_in (folder_of begun.krate) begun.reads ++ call_lost (folder_of begun.krate) next))
+  pub made : Made told tells before after old new
+      (calls_of_all crates ++ (calls_in (folder_of begun.krate) begun.reads ++ call_lost (folder_of begun.krate) next))
   pub are : AreReads before (reads_of_all crates ++ begun.reads)
   pub own : All HasOwnReads (turns_of scanner policy all files crates)
-  pub front : IsFront (records_of_reads begun.reads ++ option_to_list next) (records_in (turn_by scanner policy all (files_behind_all files (turns_of scanner policy all files crates)) begun).turn)
+  pub front : IsFront (records_of_reads begun.reads ++ option_to_list next)
+      (records_in
+      (turn_by scanner policy all (files_behind_all files (turns_of scanner policy all files crates)) begun).turn)
   pub among : IsFront (map (λ (one : ReadsOfCrate). one.krate) crates ++ begun.krate ∷ []) krates

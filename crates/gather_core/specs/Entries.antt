@@ -34,7 +34,8 @@ entries_of policy = map clarification_entry policy.clarifications
 
 -- the clarifications whose spec matches a crate, in the policy's order
 abbrev pub clarifications_of : CrateRecord → List ClarificationEntry → List ClarificationView
-clarifications_of krate entries = map (λ entry. entry.clarification) (filter (λ entry. spec_matches entry.spec krate) entries)
+clarifications_of krate entries =
+    map (λ entry. entry.clarification) (filter (λ entry. spec_matches entry.spec krate) entries)
 
 -- ---- found by places
 

@@ -47,7 +47,8 @@ krate_of license = record_of license.krate.now
 -- ---- turn after turn
 
 -- the turn of a crate among all, with the table that the crates before have left
-abbrev pub turn_of : Scanner → ℕ → List ClarificationEntry → FolderReads → ReadResult → List File → KrateLicense → TurnInput
+abbrev pub turn_of : Scanner → ℕ → List ClarificationEntry → FolderReads → ReadResult → List File → KrateLicense
+    → TurnInput
 turn_of scanner policy all known_reads manifest files license =
     turn_with scanner policy (clarifications_of (krate_of license) all) (krate_of license) known_reads manifest files
 

@@ -13,5 +13,7 @@ use Rattle.gather_core.specs.Gathered.{all_reads}
 -- the records of all crates that had their turns, each by its own reads, rise one after the other
 abbrev pub RecordsRise : Type 0
 RecordsRise =
-    (told tells : Option Content) (before after : ℕ) (old new : List Call) (scanner : Scanner) (policy : ℕ) (all : List ClarificationEntry) (files : List File) (licenses : List KrateLicense) (last : List File)
-    → AreTurnsByReads told tells before after old new scanner policy all files licenses last → RiseInOrder before (all_reads licenses) after
+    (told tells : Option Content) (before after : ℕ) (old new : List Call) (scanner : Scanner) (policy : ℕ)
+    (all : List ClarificationEntry) (files : List File) (licenses : List KrateLicense) (last : List File)
+    → AreTurnsByReads told tells before after old new scanner policy all files licenses last
+    → RiseInOrder before (all_reads licenses) after

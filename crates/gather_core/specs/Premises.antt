@@ -18,7 +18,8 @@ pub record IsClarificationPlaced (files : List File) (policy : ℕ) (one : Clari
   pub paths : All (λ (file : PlacedFile). PlaceLies files policy file.span) one.files
 
 abbrev pub ArePlacedIn : List File → ℕ → List ClarificationEntry → Type 0
-ArePlacedIn files policy entries = All (λ (entry : ClarificationEntry). IsClarificationPlaced files policy entry.clarification) entries
+ArePlacedIn files policy entries =
+    All (λ (entry : ClarificationEntry). IsClarificationPlaced files policy entry.clarification) entries
 
 -- ---- what was taken
 

@@ -11,7 +11,8 @@ use Rattle.gather_license.specs.Settled.{missing_of}
 use Rattle.gather_license.specs.declared.settling.LicenseBasis.{LicenseBasis}
 use Rattle.gather_license.specs.declared.settling.LicenseBasis.TheVariants.{Clarified, Field, Files}
 use Rattle.gather_core.specs.declared.turn.LocatedLicense.{LocatedLicense}
-use Rattle.gather_core.specs.Turns.{TurnInput, files_located, files_where, located_in, located_where, records_in, basis_in}
+use Rattle.gather_core.specs.Turns.{TurnInput, files_located, files_where, located_in, located_where, records_in}
+use Rattle.gather_core.specs.Turns.{basis_in}
 
 abbrev pub is_clarified : LicenseBasis → Bool
 is_clarified (Clarified held) = true
@@ -19,11 +20,13 @@ is_clarified (Field expression) = false
 is_clarified (Files seen joined) = false
 
 -- a field was located where it was asked for, and the table is what it is then
-pub record IsLocatedWhere (asks : Bool) (krate : CrateRecord) (old : List File) (manifest : ReadResult) (located : LocatedField) (new : List File) : Type 0 where
+pub record IsLocatedWhere (asks : Bool) (krate : CrateRecord) (old : List File) (manifest : ReadResult)
+    (located : LocatedField) (new : List File) : Type 0 where
   pub located_is : located ≡ located_where asks krate old manifest
   pub files_are : new ≡ files_where asks krate old manifest
 
-abbrev pub turn_with : Scanner → ℕ → List ClarificationView → CrateRecord → FolderReads → ReadResult → List File → TurnInput
+abbrev pub turn_with : Scanner → ℕ → List ClarificationView → CrateRecord → FolderReads → ReadResult → List File
+    → TurnInput
 turn_with scanner policy clarifications krate known_reads manifest files = record {
   scanner = scanner;
   policy = policy;

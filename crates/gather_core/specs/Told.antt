@@ -8,7 +8,8 @@ use Rattle.gather_license.specs.declared.settling.JoinedNames.{JoinedNames}
 use Rattle.gather_license.specs.Priority.{LicenseAnswer, ExpressionSource, metadata, user_override, license_files}
 use Rattle.gather_core.specs.declared.findings.license.LicenseExprInfo.{LicenseExprInfo}
 use Rattle.gather_core.specs.declared.findings.license.LicenseExprSource.{LicenseExprSource}
-use Rattle.gather_core.specs.declared.findings.license.LicenseExprSource.TheVariants.{Metadata, UserOverride, LicenseFiles}
+use Rattle.gather_core.specs.declared.findings.license.LicenseExprSource.TheVariants.{Metadata, UserOverride}
+use Rattle.gather_core.specs.declared.findings.license.LicenseExprSource.TheVariants.{LicenseFiles}
 use Rattle.gather_core.specs.declared.findings.license.LicenseInfo.{LicenseInfo}
 use Rattle.gather_core.specs.declared.findings.license.LicenseInfo.TheVariants.{SpdxExpression, Unlicensed}
 
@@ -33,7 +34,8 @@ joined_info place (Some joined) = SpdxExpression joined.expression (info_at plac
 
 abbrev pub info_by : ℕ → Option Coord → Coord → LicenseBasis → LicenseInfo
 info_by policy location place (Clarified held) =
-    SpdxExpression held.expression (record { file_id = policy; offset = held.offset; whole = held.whole; source = UserOverride })
+    SpdxExpression held.expression
+    (record { file_id = policy; offset = held.offset; whole = held.whole; source = UserOverride })
 info_by policy location place (Field expression) = SpdxExpression expression (info_at place (field_source location))
 info_by policy location place (Files seen joined) = joined_info place joined
 
@@ -50,7 +52,8 @@ source_view (LicenseFiles paths) = license_files paths
 
 abbrev pub answer_view : LicenseInfo → List (List ℕ) → Option LicenseAnswer
 answer_view Unlicensed notes = None
-answer_view (SpdxExpression expression nfo) notes = Some (record { expression = expression; source = source_view nfo.source; notes = notes })
+answer_view (SpdxExpression expression nfo) notes =
+    Some (record { expression = expression; source = source_view nfo.source; notes = notes })
 
 abbrev pub notes_of : Option LicenseAnswer → List (List ℕ)
 notes_of answer = option_map_or (λ answer. answer.notes) answer []

@@ -1,5 +1,6 @@
 -- One crate's turn: what it asks of the tree and of the file table, what is reported of it, and what it leaves.
-use Rattle.std.specs.Prelude.{◌≡◌, ℕ, Bool, ◌&&◌, List, [], ◌++◌, map, Option, Some, None, is_none, is_some, option_map, unwrap_or, if◌then◌else◌}
+use Rattle.std.specs.Prelude.{◌≡◌, ℕ, Bool, ◌&&◌, List, [], ◌++◌, map, Option, Some, None, is_none, is_some, option_map}
+use Rattle.std.specs.Prelude.{unwrap_or, if◌then◌else◌}
 use Rattle.std.specs.List.{All}
 use Rattle.std.specs.Option.{option_map_or, option_to_list}
 use Rattle.tree_core.specs.declared.reads.ReadRecord.{ReadRecord}
@@ -25,7 +26,8 @@ use Rattle.gather_license.specs.location.Location.{files_after, located_of}
 use Rattle.gather_core.specs.declared.findings.outcome.PlacedFindings.{PlacedFindings}
 use Rattle.gather_core.specs.findings.Cuts.{LabelLies, labels_of, text_under, texts_by}
 use Rattle.gather_core.specs.findings.Faults.{field_faults}
-use Rattle.gather_core.specs.findings.Findings.{UnclarifiedCrateView, ExpressionBasisView, by_field, by_files, files_with, missing_file, points_of}
+use Rattle.gather_core.specs.findings.Findings.{UnclarifiedCrateView, ExpressionBasisView, by_field, by_files}
+use Rattle.gather_core.specs.findings.Findings.{files_with, missing_file, points_of}
 use Rattle.gather_core.specs.findings.Pieces.{SeenFilesView, unlisted, listed}
 use Rattle.gather_core.specs.declared.findings.license.LicenseInfo.{LicenseInfo}
 use Rattle.gather_core.specs.declared.summary.KrateLicense.{KrateLicense}
@@ -53,34 +55,41 @@ field_text krate = unwrap_or krate.license []
 
 -- it is asked for where no clarification holds and the field is not null; an empty field counts
 abbrev pub asks_manifest : List ClarificationView → CrateRecord → FolderReads → Bool
-asks_manifest clarifications krate known_reads = is_none (holding_clarification known_reads clarifications) && is_some krate.license
+asks_manifest clarifications krate known_reads =
+    is_none (holding_clarification known_reads clarifications) && is_some krate.license
 
 abbrev pub not_asked : LocatedField
 not_asked = record { location = None; read = None }
 
 -- where a manifest is asked for, and where it is not
 abbrev pub located_where : Bool → CrateRecord → List File → ReadResult → LocatedField
-located_where asks krate files manifest = if asks then located_of krate.manifest_path (field_text krate) files manifest else not_asked
+located_where asks krate files manifest =
+    if asks then located_of krate.manifest_path (field_text krate) files manifest else not_asked
 
 abbrev pub files_where : Bool → CrateRecord → List File → ReadResult → List File
-files_where asks krate files manifest = if asks then files_after krate.manifest_path (field_text krate) files manifest else files
+files_where asks krate files manifest =
+    if asks then files_after krate.manifest_path (field_text krate) files manifest else files
 
 abbrev pub located_in : TurnInput → LocatedField
-located_in turn = located_where (asks_manifest turn.clarifications turn.krate turn.known_reads) turn.krate turn.files turn.manifest
+located_in turn =
+    located_where (asks_manifest turn.clarifications turn.krate turn.known_reads) turn.krate turn.files turn.manifest
 
 -- the table with the manifest, where the field's location counts
 abbrev pub files_located : TurnInput → List File
-files_located turn = files_where (asks_manifest turn.clarifications turn.krate turn.known_reads) turn.krate turn.files turn.manifest
+files_located turn =
+    files_where (asks_manifest turn.clarifications turn.krate turn.known_reads) turn.krate turn.files turn.manifest
 
 -- ---- the reads
 
 -- The record of the manifest is before the listing of a third step, and behind what clarifications let read.
 abbrev pub in_order : Bool → Option ReadRecord → List ReadRecord → List ReadRecord
-in_order manifest_first manifest reads = if manifest_first then option_to_list manifest ++ reads else reads ++ option_to_list manifest
+in_order manifest_first manifest reads =
+    if manifest_first then option_to_list manifest ++ reads else reads ++ option_to_list manifest
 
 abbrev pub records_in : TurnInput → List ReadRecord
 records_in turn =
-    in_order (is_nothing turn.clarifications) (located_in turn).read (records_of turn.scanner turn.clarifications turn.krate turn.known_reads)
+    in_order (is_nothing turn.clarifications) (located_in turn).read
+    (records_of turn.scanner turn.clarifications turn.krate turn.known_reads)
 
 -- ---- what is found
 
@@ -120,27 +129,33 @@ text_settled krate (Files seen joined) = joined_expression_text joined
 
 -- where the expression is, what is found, and the table afterwards: nothing of a clarification
 abbrev pub points_for : CrateRecord → List ParseError → Option Coord → List File → LicenseBasis → PlacedFindings
-points_for krate faults location files by = option_map_or (λ outcome. points_of (case_with krate faults location outcome) files) (outcome_in by) no_points
+points_for krate faults location files by =
+    option_map_or (λ outcome. points_of (case_with krate faults location outcome) files) (outcome_in by) no_points
 
 abbrev pub files_left : CrateRecord → List ParseError → Option Coord → List File → LicenseBasis → List File
-files_left krate faults location files by = option_map_or (λ outcome. files_with (case_with krate faults location outcome) files) (outcome_in by) files
+files_left krate faults location files by =
+    option_map_or (λ outcome. files_with (case_with krate faults location outcome) files) (outcome_in by) files
 
 -- where the policy's file writes what is not there
 abbrev pub missing_findings : ℕ → List Span → List Diag
 missing_findings policy missing = map (λ span. missing_file (record { file = policy; span = span })) missing
 
 abbrev pub points_in : TurnInput → PlacedFindings
-points_in turn = points_for turn.krate (faults_in turn.scanner turn.krate) (located_in turn).location (files_located turn) (basis_in turn)
+points_in turn =
+    points_for turn.krate (faults_in turn.scanner turn.krate) (located_in turn).location (files_located turn)
+    (basis_in turn)
 
--- The findings of a crate: the files of clarifications that are not there; and where none of them holds those of its field, of
--- its files, and that there is no expression.
+-- The findings of a crate: the files of clarifications that are not there; and where none of them holds those of its
+-- field, of its files, and that there is no expression.
 abbrev pub findings_in : TurnInput → List Diag
-findings_in turn = missing_findings turn.policy (missing_of turn.known_reads turn.clarifications) ++ (points_in turn).findings
+findings_in turn =
+    missing_findings turn.policy (missing_of turn.known_reads turn.clarifications) ++ (points_in turn).findings
 
 -- ---- what is reported, and what is left
 
 abbrev pub info_in : TurnInput → LicenseInfo
-info_in turn = info_by turn.policy (located_in turn).location (unwrap_or (points_in turn).expression no_place) (basis_in turn)
+info_in turn =
+    info_by turn.policy (located_in turn).location (unwrap_or (points_in turn).expression no_place) (basis_in turn)
 
 abbrev pub notes_in : TurnInput → List (List ℕ)
 notes_in turn = notes_of (answer_in (basis_in turn))
@@ -148,16 +163,20 @@ notes_in turn = notes_of (answer_in (basis_in turn))
 -- the table behind a crate: with its manifest where the field's location counts, and then its synthetic manifest where
 -- something points into it
 abbrev pub files_behind : TurnInput → List File
-files_behind turn = files_left turn.krate (faults_in turn.scanner turn.krate) (located_in turn).location (files_located turn) (basis_in turn)
+files_behind turn =
+    files_left turn.krate (faults_in turn.scanner turn.krate) (located_in turn).location (files_located turn)
+    (basis_in turn)
 
 -- ---- what the labels cut out
 
 -- what each label says: a fault of the field, the empty field, what failed, the name
 abbrev pub label_texts_for : CrateRecord → List ParseError → Option Coord → LicenseBasis → List (List ℕ)
-label_texts_for krate faults location by = option_map_or (λ outcome. texts_by (case_with krate faults location outcome) outcome) (outcome_in by) []
+label_texts_for krate faults location by =
+    option_map_or (λ outcome. texts_by (case_with krate faults location outcome) outcome) (outcome_in by) []
 
 abbrev pub label_texts : TurnInput → List (List ℕ)
-label_texts turn = label_texts_for turn.krate (faults_in turn.scanner turn.krate) (located_in turn).location (basis_in turn)
+label_texts turn =
+    label_texts_for turn.krate (faults_in turn.scanner turn.krate) (located_in turn).location (basis_in turn)
 
 -- each label of what is found lies in its file, between characters, and cuts that out
 pub record IsCutOut (files : List File) (turn : TurnInput) : Type 0 where

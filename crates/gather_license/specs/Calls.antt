@@ -8,7 +8,8 @@ use Rattle.gather_license.specs.files.KnownReads.{FolderReads, known_reads_by}
 
 -- Reads with these records were made over a tree, for a crate in this folder: their calls were made, and no other, and
 -- this is so by what their answers say.
-pub record IsByReads (told tells : Option Content) (before after : ℕ) (old new : List Call) (folder : List ℕ) (recorded : List ReadRecord) (IsSo : FolderReads → Type 0) : Type 0 where
+pub record IsByReads (told tells : Option Content) (before after : ℕ) (old new : List Call) (folder : List ℕ)
+    (recorded : List ReadRecord) (IsSo : FolderReads → Type 0) : Type 0 where
   pub reads : List AnsweredRead
   pub records : records_of_reads reads ≡ recorded
   pub made : MadeReads told tells before after old new folder reads

@@ -30,7 +30,8 @@ named_files clarifications = map named_in clarifications
 
 -- what is taken of one that holds
 abbrev pub held_in : ClarificationView → HeldClarification
-held_in clarification = record { expression = clarification.expression; offset = clarification.offset; whole = clarification.whole }
+held_in clarification =
+    record { expression = clarification.expression; offset = clarification.offset; whole = clarification.whole }
 
 -- one that is lent
 abbrev pub lent_clarification : Bor ClarificationView → ClarificationView
@@ -40,9 +41,12 @@ lent_clarification clarification = clarification.now
 abbrev pub placed_code : Coded PlacedFile
 placed_code =
     code_by (List ℕ × (ℕ × Span)) (coded× (coded_list coded_ℕ) (coded× coded_ℕ spans.the_row.coded))
-    (λ f. (f.named.path, (f.named.hash, f.span))) (λ p. record { named = record { path = p.0; hash = p.1.0 }; span = p.1.1 }) (λ _. refl)
+    (λ f. (f.named.path, (f.named.hash, f.span)))
+    (λ p. record { named = record { path = p.0; hash = p.1.0 }; span = p.1.1 }) (λ _. refl)
 
 abbrev pub clarification_code : Coded ClarificationView
 clarification_code =
-    code_by (ExpressionView × (ℕ × (Option Span × List PlacedFile))) (coded× expression_code (coded× coded_ℕ (coded× (coded_option spans.the_row.coded) (coded_list placed_code))))
-    (λ c. (c.expression, (c.offset, (c.whole, c.files)))) (λ p. record { expression = p.0; offset = p.1.0; whole = p.1.1.0; files = p.1.1.1 }) (λ _. refl)
+    code_by (ExpressionView × (ℕ × (Option Span × List PlacedFile)))
+    (coded× expression_code (coded× coded_ℕ (coded× (coded_option spans.the_row.coded) (coded_list placed_code))))
+    (λ c. (c.expression, (c.offset, (c.whole, c.files))))
+    (λ p. record { expression = p.0; offset = p.1.0; whole = p.1.1.0; files = p.1.1.1 }) (λ _. refl)

@@ -17,11 +17,15 @@ paths_given files = filter_map path_given files
 
 abbrev pub renamed_note : List ℕ → Bool → List (List ℕ)
 renamed_note path renamed =
-    if renamed then (codes "'" ++ path ++ codes "' fuzzy matched to Pixar license, but it is actually a normal Apache-2.0 license") ∷ [] else []
+    if renamed
+    then (codes "'" ++ path ++ codes "' fuzzy matched to Pixar license, but it is actually a normal Apache-2.0 license")
+    ∷ [] else []
 
 abbrev pub deprecated_note : List ℕ → List ℕ → Bool → List (List ℕ)
 deprecated_note path name deprecated =
-    if deprecated then (codes "license '" ++ name ++ codes "' detected in '" ++ path ++ codes "' is deprecated in the catalogue") ∷ [] else []
+    if deprecated
+    then (codes "license '" ++ name ++ codes "' detected in '" ++ path ++ codes "' is deprecated in the catalogue") ∷ []
+    else []
 
 -- a name in place of `Pixar` is noted whatever comes of it, a deprecated name where it is joined
 abbrev pub notes_by : List ℕ → FileResult → List (List ℕ)
@@ -29,7 +33,8 @@ notes_by path (Bad error) = []
 notes_by path (Unnamed hash score) = []
 notes_by path (Low hash score name) = renamed_note path name.renamed
 notes_by path (Unknown hash score name) = renamed_note path name.renamed
-notes_by path (Joined hash name deprecated) = renamed_note path name.renamed ++ deprecated_note path name.name deprecated
+notes_by path (Joined hash name deprecated) =
+    renamed_note path name.renamed ++ deprecated_note path name.name deprecated
 
 abbrev pub file_notes : ScannedFile → List (List ℕ)
 file_notes file = notes_by file.path file.scanned

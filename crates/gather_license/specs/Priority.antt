@@ -1,6 +1,7 @@
--- Which licence a crate is under, in one fixed order: a clarification of the policy whose files have the stated hashes, else
--- the crate's own field, else what its licence files are identified as, else nothing.
-use Rattle.std.specs.Prelude.{ℕ, Bool, true, false, ◌||◌, not, List, [], ◌∷◌, map, find, Option, Some, None, is_none, unwrap_or, if◌then◌else◌}
+-- Which licence a crate is under, in one fixed order: a clarification of the policy whose files have the stated hashes,
+-- else the crate's own field, else what its licence files are identified as, else nothing.
+use Rattle.std.specs.Prelude.{ℕ, Bool, true, false, ◌||◌, not, List, [], ◌∷◌, map, find, Option, Some, None, is_none}
+use Rattle.std.specs.Prelude.{unwrap_or, if◌then◌else◌}
 use Rattle.std.specs.Prelude.{option_map, option_and_then}
 use Rattle.std.specs.List.{flat_map}
 use Rattle.deny_text.specs.Path.{components_of, parent_of}
@@ -29,7 +30,8 @@ use Rattle.gather_license.specs.Notes.{file_notes, paths_given}
 
 -- the first that holds
 abbrev pub holding_clarification : FolderReads → List ClarificationView → Option ClarificationView
-holding_clarification known_reads clarifications = find (λ clarification. holds known_reads (named_in clarification)) clarifications
+holding_clarification known_reads clarifications =
+    find (λ clarification. holds known_reads (named_in clarification)) clarifications
 
 -- ---- the second case: the crate's field
 
@@ -45,7 +47,8 @@ files_heard known_reads paths = map (λ path. (path, normal_heard (known_reads.f
 -- what comes of each file of the pack, in path order
 abbrev pub files_scanned : Scanner → List ClarificationView → CrateRecord → FolderReads → List ScannedFile
 files_scanned scanner clarifications krate known_reads =
-    map (file_scanned scanner) (files_heard known_reads (pack_paths known_reads krate.license_file (named_files clarifications)))
+    map (file_scanned scanner)
+    (files_heard known_reads (pack_paths known_reads krate.license_file (named_files clarifications)))
 
 -- Why the folder was not listed, and then no file is looked at; else what comes of each file.
 abbrev pub seen_by : ReadResult → List ScannedFile → FilesSeen
@@ -58,7 +61,8 @@ scanned_in (Listed files) = files
 -- the names joined, where a file gives one, with the paths of these files and what is noted of all
 abbrev pub joined_of : CatalogLists → List ScannedFile → Option JoinedNames
 joined_of lists files =
-    option_map (λ (expression : ExpressionView). record { expression = expression; paths = paths_given files; notes = flat_map file_notes files })
+    option_map (λ (expression : ExpressionView).
+    record { expression = expression; paths = paths_given files; notes = flat_map file_notes files })
     (joined_read lists (names_given files))
 
 abbrev pub by_seen : CatalogLists → FilesSeen → LicenseBasis
@@ -96,7 +100,8 @@ abbrev pub answer_without_notes : ExpressionSource → ExpressionView → Licens
 answer_without_notes source expression = record { expression = expression; source = source; notes = [] }
 
 abbrev pub joined_answer : JoinedNames → LicenseAnswer
-joined_answer joined = record { expression = joined.expression; source = license_files joined.paths; notes = joined.notes }
+joined_answer joined =
+    record { expression = joined.expression; source = license_files joined.paths; notes = joined.notes }
 
 -- a clarification's as it is in the policy, the field's, the names joined where a file gives one
 abbrev pub answer_in : LicenseBasis → Option LicenseAnswer

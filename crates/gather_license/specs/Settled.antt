@@ -1,5 +1,6 @@
 -- What the call that settles a crate's licence answers.
-use Rattle.std.specs.Prelude.{◌≡◌, ℕ, List, [], ◌∷◌, ◌++◌, slice_get, Option, option_copied, option_map, option_and_then, if◌then◌else◌}
+use Rattle.std.specs.Prelude.{◌≡◌, ℕ, List, [], ◌∷◌, ◌++◌, slice_get, Option, option_copied, option_map}
+use Rattle.std.specs.Prelude.{option_and_then, if◌then◌else◌}
 use Rattle.std.specs.Option.{option_to_list}
 use Rattle.deny_text.specs.declared.span.Span.{Span}
 use Rattle.spdx_terms.specs.catalog.Catalog.{CatalogLists}
@@ -32,11 +33,14 @@ missing_in known_reads one = option_and_then (span_at one.files) (missing_from k
 -- of the clarifications that are tried, up to and with the first that holds
 abbrev pub missing_of : FolderReads → List ClarificationView → List Span
 missing_of known_reads [] = []
-missing_of known_reads (one ∷ more) = option_to_list (missing_in known_reads one) ++ (if holds known_reads (named_in one) then [] else missing_of known_reads more)
+missing_of known_reads (one ∷ more) =
+    option_to_list (missing_in known_reads one)
+    ++ (if holds known_reads (named_in one) then [] else missing_of known_reads more)
 
 -- A crate's licence is settled by what has priority by some known reads; what is not there is reported, and the reads
 -- are recorded by them.
-pub record IsSettledBy (scanner : Scanner) (clarifications : List ClarificationView) (krate : CrateRecord) (known_reads : FolderReads) (settled : SettledLicense) : Type 0 where
+pub record IsSettledBy (scanner : Scanner) (clarifications : List ClarificationView) (krate : CrateRecord)
+    (known_reads : FolderReads) (settled : SettledLicense) : Type 0 where
   pub by_is : settled.by ≡ basis_of scanner clarifications krate known_reads
   pub missing_is : settled.missing ≡ missing_of known_reads clarifications
   pub reads_are : settled.reads ≡ records_of scanner clarifications krate known_reads

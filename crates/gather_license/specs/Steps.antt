@@ -20,15 +20,21 @@ seen_in scanner pack = seen_by pack.listing (map (file_scanned scanner) pack.fil
 
 -- The clarifications of a crate were tried with its pack: the records, what is taken of the first that holds and what
 -- is not there are those by whatever known reads agree with the pack.
-pub record IsLooked (krate : CrateRecord) (clarifications : List ClarificationView) (pack : PackView) (held : Option HeldClarification) (missing : List Span) : Type 0 where
+pub record IsLooked (krate : CrateRecord) (clarifications : List ClarificationView) (pack : PackView)
+    (held : Option HeldClarification) (missing : List Span) : Type 0 where
   pub folder : pack.folder ≡ folder_of krate
-  pub paths : (known_reads : FolderReads) → Agrees known_reads pack → paths_read pack.reads ≡ reads_of known_reads krate.license_file (named_files clarifications)
-  pub reads : (known_reads : FolderReads) → Agrees known_reads pack → pack.reads ≡ records_with clarifications krate known_reads
-  pub held_is : (known_reads : FolderReads) → Agrees known_reads pack → held ≡ option_map held_in (holding_clarification known_reads clarifications)
-  pub missing_is : (known_reads : FolderReads) → Agrees known_reads pack → missing ≡ missing_of known_reads clarifications
+  pub paths : (known_reads : FolderReads) → Agrees known_reads pack
+      → paths_read pack.reads ≡ reads_of known_reads krate.license_file (named_files clarifications)
+  pub reads : (known_reads : FolderReads) → Agrees known_reads pack
+      → pack.reads ≡ records_with clarifications krate known_reads
+  pub held_is : (known_reads : FolderReads) → Agrees known_reads pack
+      → held ≡ option_map held_in (holding_clarification known_reads clarifications)
+  pub missing_is : (known_reads : FolderReads) → Agrees known_reads pack
+      → missing ≡ missing_of known_reads clarifications
 
 -- what settles the licence by some known reads, among the clarifications that are for the crate
-pub record IsOrderedBy (scanner : Scanner) (clarifications : List ClarificationView) (krate : CrateRecord) (known_reads : FolderReads) (settled : SettledLicense) : Type 0 where
+pub record IsOrderedBy (scanner : Scanner) (clarifications : List ClarificationView) (krate : CrateRecord)
+    (known_reads : FolderReads) (settled : SettledLicense) : Type 0 where
   pub by : settled.by ≡ basis_of scanner clarifications krate known_reads
   pub missing : settled.missing ≡ missing_of known_reads clarifications
   pub reads : settled.reads ≡ records_with clarifications krate known_reads

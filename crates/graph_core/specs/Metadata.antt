@@ -1,5 +1,7 @@
--- What metadata tells: crates, the edges between them, the members of the workspace, its root folder and its root crate.
-use Rattle.std.specs.Prelude.{◌≡◌, ℕ, ◌<◌, false, List, [], ◌∷◌, map, length, slice_get, Option, Some, None, All, unwrap_or, IfSome}
+-- What metadata tells: crates, the edges between them, the members of the workspace, its root folder and its root
+-- crate.
+use Rattle.std.specs.Prelude.{◌≡◌, ℕ, ◌<◌, false, List, [], ◌∷◌, map, length, slice_get, Option, Some, None, All}
+use Rattle.std.specs.Prelude.{unwrap_or, IfSome}
 use Rattle.std.specs.Option.{option_map_or}
 use Rattle.std.specs.Ordering.{nat_cmp}
 use Rattle.std.specs.List.Sorted.{IsStrictlySortedBy}
@@ -22,8 +24,8 @@ pub record CrateNode : Type 0 where
   pub krate : CrateRecord
   pub edges : List Link
 
--- The nodes in rising byte order of ids, the ids of the members in the order of the text, the root folder, and the id of
--- the root crate, where there is one.
+-- The nodes in rising byte order of ids, the ids of the members in the order of the text, the root folder, and the id
+-- of the root crate, where there is one.
 pub record Graph : Type 0 where
   pub nodes : List CrateNode
   pub members : List (List ℕ)

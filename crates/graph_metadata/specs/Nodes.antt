@@ -11,8 +11,10 @@ use Rattle.graph_core.specs.Metadata.{no_kinds}
 use Rattle.graph_metadata.specs.declared.fault.MetaReason.TheVariants.{Missing, WrongKind, UnknownKind}
 use Rattle.graph_metadata.specs.declared.fault.ObjectPlace.{ObjectPlace}
 use Rattle.graph_metadata.specs.declared.fault.ObjectPlace.TheVariants.{Root, Resolve, Node, Dep, Kind}
-use Rattle.graph_metadata.specs.Shape.{object_here, text_at, text_here, optional_text_at, list_at, list_or_empty_at, IdPlaces, known_of, known_place, new_from}
-use Rattle.graph_metadata.specs.Told.{MetadataReading, ◌>>=◌, reading_of_each, each_item, meta_fault, object_place_text, key_place, item_place}
+use Rattle.graph_metadata.specs.Shape.{object_here, text_at, text_here, optional_text_at, list_at, list_or_empty_at}
+use Rattle.graph_metadata.specs.Shape.{IdPlaces, known_of, known_place, new_from}
+use Rattle.graph_metadata.specs.Told.{MetadataReading, ◌>>=◌, reading_of_each, each_item, meta_fault, object_place_text}
+use Rattle.graph_metadata.specs.Told.{key_place, item_place}
 
 -- ---- the root
 
@@ -53,7 +55,13 @@ root_row found = do
   members ← members_in (known_of packages) listed
   workspace_root ← text_at Root (codes "workspace_root") root
   resolve ← object_at Root (codes "resolve") root
-  Ok (record { packages = packages; known = known_of packages; members = members; workspace_root = workspace_root; resolve = resolve })
+  Ok (record {
+    packages = packages;
+    known = known_of packages;
+    members = members;
+    workspace_root = workspace_root;
+    resolve = resolve;
+  })
 
 -- ---- `resolve`
 

@@ -12,7 +12,8 @@ use Rattle.graph_core.specs.source.Reading.{SourceReading, source_of}
 use Rattle.graph_metadata.specs.declared.fault.MetaReason.TheVariants.{WrongKind, BadVersion, NoFolder}
 use Rattle.graph_metadata.specs.declared.fault.ObjectPlace.TheVariants.{Package, Features}
 use Rattle.graph_core.specs.Krate.{CrateRecord, Version}
-use Rattle.graph_metadata.specs.Shape.{object_here, text_at, optional_text_at, texts_or_empty_at, optional_texts_at, texts_in, IdPlaces, new_from}
+use Rattle.graph_metadata.specs.Shape.{object_here, text_at, optional_text_at, texts_or_empty_at, optional_texts_at}
+use Rattle.graph_metadata.specs.Shape.{texts_in, IdPlaces, new_from}
 use Rattle.graph_metadata.specs.Told.{MetadataReading, ◌>>=◌, each_item, meta_fault, object_place_text, key_place}
 
 -- ---- single keys

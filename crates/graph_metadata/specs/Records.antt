@@ -1,5 +1,6 @@
 -- The records of metadata: no JSON, the one fault that is reported, or the crates with their edges.
-use Rattle.std.specs.Prelude.{◌≡◌, ℕ, List, [], map, Option, Some, None, option_map, unwrap_or, slice_get, Result, Ok, Err, ◌⊎◌}
+use Rattle.std.specs.Prelude.{◌≡◌, ℕ, List, [], map, Option, Some, None, option_map, unwrap_or, slice_get, Result, Ok}
+use Rattle.std.specs.Prelude.{Err, ◌⊎◌}
 use Rattle.std.specs.FinMap as finmap
 use Rattle.std.specs.List.{filter_map}
 use Rattle.std.specs.Option.{option_map_or}
@@ -12,7 +13,8 @@ use Rattle.graph_metadata.specs.declared.fault.MetaError.TheVariants.{Syntax, Sh
 use Rattle.graph_metadata.specs.Floats.{unless_float}
 use Rattle.graph_core.specs.Krate.{CrateRecord}
 use Rattle.graph_core.specs.Metadata.{Graph, CrateNode, Link}
-use Rattle.graph_metadata.specs.Nodes.{RootTold, ResolveTold, NodesTold, root_row, resolve_row, nodes_read, all_deps, all_edges}
+use Rattle.graph_metadata.specs.Nodes.{RootTold, ResolveTold, NodesTold, root_row, resolve_row, nodes_read, all_deps}
+use Rattle.graph_metadata.specs.Nodes.{all_edges}
 use Rattle.graph_metadata.specs.Packages.{packages_in}
 use Rattle.graph_metadata.specs.Shape.{IdPlaces}
 use Rattle.graph_metadata.specs.Told.{MetadataReading, ◌>>=◌}

@@ -10,7 +10,8 @@ use Rattle.graph_metadata.specs.declared.fault.MetaError.TheVariants.{Syntax, Sh
 use Rattle.graph_metadata.specs.declared.fault.MetaFault.{MetaFault}
 use Rattle.graph_metadata.specs.declared.fault.MetaReason.{MetaReason}
 use Rattle.graph_metadata.specs.declared.fault.ObjectPlace.{ObjectPlace}
-use Rattle.graph_metadata.specs.declared.fault.ObjectPlace.TheVariants.{Root, Package, Features, Resolve, Node, Dep, Kind}
+use Rattle.graph_metadata.specs.declared.fault.ObjectPlace.TheVariants.{Root, Package, Features, Resolve, Node, Dep}
+use Rattle.graph_metadata.specs.declared.fault.ObjectPlace.TheVariants.{Kind}
 
 abbrev pub MetadataReading : Type 0 → Type 0
 MetadataReading T = Result T MetaFault

@@ -14,7 +14,8 @@ use Rattle.graph_core.specs.selection.Roots.{HasRoot, LacksRoots}
 use Rattle.tree_core.specs.declared.texts.fault.ReadFault.{ReadFault}
 use Rattle.tree_core.specs.declared.texts.fault.ReadFault.TheVariants.{Failed}
 use Rattle.graph_workspace.specs.declared.error.KratesError.{KratesError}
-use Rattle.graph_workspace.specs.declared.error.KratesError.TheVariants.{Memory, NotCarried, MetadataRead, MetadataSyntax, MetadataShape, NoRoots}
+use Rattle.graph_workspace.specs.declared.error.KratesError.TheVariants.{Memory, NotCarried, MetadataRead}
+use Rattle.graph_workspace.specs.declared.error.KratesError.TheVariants.{MetadataSyntax, MetadataShape, NoRoots}
 use Rattle.tree_core.specs.texts.Cause.{Cause, no_memory, told, failed_read}
 use Rattle.tree_core.specs.texts.Heard.{IsTextRead, read_of}
 
@@ -70,7 +71,8 @@ pub record AreReached (choice : Choice) (asked : Result Graph KratesError) (chos
   pub reached : IsChosen graph choice chosen
 
 -- no root is left of the graph that is reported
-pub record AreRootless (choice : Choice) (asked : Result Graph KratesError) (base excluded unpublished : ℕ) : Type 0 where
+pub record AreRootless (choice : Choice) (asked : Result Graph KratesError)
+    (base excluded unpublished : ℕ) : Type 0 where
   pub graph : Graph
   pub tells : asked ≡ Ok graph
   pub lacks : LacksRoots graph choice base excluded unpublished
@@ -88,7 +90,8 @@ AreFrom choice heard result = AreOf choice (graph_in heard) result
 -- ---- the crates that are gathered from a tree, by what it answered
 
 -- one call was made, the read of the path; what its answer says, and the crates from it
-pub record AreKratesRead (choice : Choice) (begun after : ℕ) (old new : List Call) (path : List ℕ) (result : Result ReachedCrates KratesError) : Type 0 where
+pub record AreKratesRead (choice : Choice) (begun after : ℕ) (old new : List Call) (path : List ℕ)
+    (result : Result ReachedCrates KratesError) : Type 0 where
   pub heard : Result (List ℕ) ReadFault
   pub read : IsTextRead begun after old new path heard
   pub from : AreFrom choice heard result

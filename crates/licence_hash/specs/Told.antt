@@ -59,7 +59,8 @@ has_entry one = is_ok one.heard
 
 -- These files were read in order, each once, and nothing else; standard output gained the entry of each that is a text,
 -- standard error a line for each other; and `are_all` is whether each has an entry.
-pub record AreTold (named : List (List ℕ)) (old new : List Call) (before after : SinkTexts) (are_all : Bool) : Type 0 where
+pub record AreTold (named : List (List ℕ)) (old new : List Call) (before after : SinkTexts)
+    (are_all : Bool) : Type 0 where
   pub reads : List FileRead
   pub names : map path_of reads ≡ named
   pub calls : new ≡ old ++ map call_of reads

@@ -55,7 +55,10 @@ path_note path = codes "path = '" ++ path ++ codes "'"
 
 abbrev pub itself_finding : List ℕ → Diagnostic
 itself_finding path =
-    record (plain_diagnostic Error) { message = codes "exceptions file is the policy itself"; notes = path_note path ∷ [] }
+    record (plain_diagnostic Error) {
+      message = codes "exceptions file is the policy itself";
+      notes = path_note path ∷ [];
+    }
 
 abbrev pub unread_finding : List ℕ → List ℕ → Diagnostic
 unread_finding path words =

@@ -15,8 +15,11 @@ use Rattle.policy_core.specs.declared.config.root.RootConfig.{RootConfig}
 -- a policy that is absent, by the path where it was to be
 abbrev pub absence_finding : Option (List ℕ) → Diagnostic
 absence_finding (Some path) =
-    record (plain_diagnostic Warning) { message = codes "config path '" ++ path ++ codes "' doesn't exist, falling back to default config" }
-absence_finding None = record (plain_diagnostic Warning) { message = codes "unable to find a config path, falling back to default config" }
+    record (plain_diagnostic Warning) {
+      message = codes "config path '" ++ path ++ codes "' doesn't exist, falling back to default config";
+    }
+absence_finding None =
+    record (plain_diagnostic Warning) { message = codes "unable to find a config path, falling back to default config" }
 
 -- a target, which has no effect
 abbrev pub target_finding : ℕ → Target → Diagnostic

@@ -10,7 +10,8 @@ use Rattle.toml_subset.specs.Answer.{TomlReading}
 use Rattle.toml_subset.specs.Data.{Toml}
 use Rattle.toml_subset.specs.Reading.{read_text}
 use Rattle.policy_core.specs.declared.valid.policy.ValidConfig.{ValidConfig}
-use Rattle.policy_core.specs.Exceptions.{ExceptionsRead, no_file, policy_itself, no_text, no_value, value, exceptions_kept, exceptions_findings, with_exceptions}
+use Rattle.policy_core.specs.Exceptions.{ExceptionsRead, no_file, policy_itself, no_text, no_value, value}
+use Rattle.policy_core.specs.Exceptions.{exceptions_kept, exceptions_findings, with_exceptions}
 use Rattle.policy_core.specs.declared.exceptions.ExceptionsHeard.{ExceptionsHeard}
 use Rattle.policy_core.specs.declared.exceptions.ExceptionsHeard.TheVariants.{NoPath, ThePolicy, Heard}
 
@@ -57,8 +58,8 @@ pub record LoadState : Type 0 where
   pub files : List File
   pub found : List Diagnostic
 
--- The exceptions of a file, which gets the next number, go behind those of the policy, or what is wrong with it behind the
--- findings so far.
+-- The exceptions of a file, which gets the next number, go behind those of the policy, or what is wrong with it behind
+-- the findings so far.
 abbrev pub after_exceptions : CatalogLists → ExceptionsHeard → LoadState → LoadState
 after_exceptions lists hearing state = record {
   policy = with_exceptions (exceptions_kept lists (length state.files) (exceptions_read_of hearing)) state.policy;

@@ -23,27 +23,36 @@ pub record IsConfigIn (files : List File) (file : ℕ) (config : Config) : Type 
 
 -- what is reported of it points into its file
 abbrev pub ValidationsPoint : Type 0
-ValidationsPoint = (lists : CatalogLists) → IsCatalog lists → (files : List File) (file : ℕ) (config : Config) → IsConfigIn files file config
+ValidationsPoint =
+    (lists : CatalogLists) → IsCatalog lists → (files : List File) (file : ℕ) (config : Config)
+    → IsConfigIn files file config
     → PointInto files (validation_findings lists file config)
 
 -- and what is valid of it, in order, keeps places of its file
 abbrev pub ValidPoliciesStand : Type 0
-ValidPoliciesStand = (lists : CatalogLists) (files : List File) (file : ℕ) (config : Config) (valid : ValidConfig) → IsConfigIn files file config
+ValidPoliciesStand =
+    (lists : CatalogLists) (files : List File) (file : ℕ) (config : Config) (valid : ValidConfig)
+    → IsConfigIn files file config
     → PutsPolicyInOrder (valid_part lists file config) valid → PolicyStands files valid
 
 -- ---- what comes behind the validation, where what was reported and kept before keeps its places
 
 -- what is reported of an exceptions file points into its file
 abbrev pub ExceptionsPoint : Type 0
-ExceptionsPoint = (lists : CatalogLists) → IsCatalog lists → (hearing : ExceptionsHeard) (old new : LoadState) → IsTextHeard hearing
+ExceptionsPoint =
+    (lists : CatalogLists) → IsCatalog lists → (hearing : ExceptionsHeard) (old new : LoadState) → IsTextHeard hearing
     → new ≡ after_exceptions lists hearing old → PointInto old.files old.found → PointInto new.files new.found
 
 -- and what is kept of it keeps places of its file
 abbrev pub ExceptionsStand : Type 0
-ExceptionsStand = (lists : CatalogLists) → IsCatalog lists → (hearing : ExceptionsHeard) (old new : LoadState) → IsTextHeard hearing
+ExceptionsStand =
+    (lists : CatalogLists) → IsCatalog lists → (hearing : ExceptionsHeard) (old new : LoadState) → IsTextHeard hearing
     → new ≡ after_exceptions lists hearing old → PolicyStands old.files old.policy → PolicyStands new.files new.policy
 
 -- what is reported of settings points into the policy's file
 abbrev pub SettingsPoint : Type 0
-SettingsPoint = (files : List File) (file : ℕ) (root : RootConfig) (found : List Diagnostic) → IsConfigPlaced files file root → PointInto files found
-    → PointInto files (found ++ target_findings file root ++ graph_key_findings file root ++ output_key_findings file root)
+SettingsPoint =
+    (files : List File) (file : ℕ) (root : RootConfig) (found : List Diagnostic) → IsConfigPlaced files file root
+    → PointInto files found
+    → PointInto files
+    (found ++ target_findings file root ++ graph_key_findings file root ++ output_key_findings file root)

@@ -15,7 +15,8 @@ pub record Surroundings : Type 0 where
 
 -- what was found is kept, its lists in order, and printed behind the findings so far; a text that was read goes behind
 -- the other files
-pub record Keeps (it : PolicyFound) (hearing : ExceptionsHeard) (old new : Surroundings) (loaded : LoadedPolicy) : Type 0 where
+pub record Keeps (it : PolicyFound) (hearing : ExceptionsHeard) (old new : Surroundings)
+    (loaded : LoadedPolicy) : Type 0 where
   pub licenses : PutsPolicyInOrder it.licenses loaded.licenses
   pub graph : loaded.graph ≡ it.graph
   pub output : loaded.output ≡ it.output

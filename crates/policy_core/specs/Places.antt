@@ -73,7 +73,8 @@ pub record ExceptionStands (files : List File) (one : ValidException) : Type 0 w
 
 -- each place that a valid policy keeps lies in the text of its file
 pub record PolicyStands (files : List File) (policy : ValidConfig) : Type 0 where
-  pub ignore_sources : AllByRecursion (λ string. LiesInFile files policy.file_id string.span) policy.private.ignore_sources
+  pub ignore_sources : AllByRecursion (λ string. LiesInFile files policy.file_id string.span)
+      policy.private.ignore_sources
   pub allowed : AllByRecursion (LicenseeStands files policy.file_id) policy.allowed
   pub clarifications : AllByRecursion (ClarificationStands files policy.file_id) policy.clarifications
   pub exceptions : AllByRecursion (ExceptionStands files) policy.exceptions

@@ -69,7 +69,8 @@ load_findings lists numbers absence root exceptions =
 -- what is valid of the policy, with the exceptions of its exceptions file behind its own
 abbrev pub licenses_valid : CatalogLists → FileNumbers → RootConfig → ExceptionsRead → ValidConfig
 licenses_valid lists numbers root exceptions =
-    with_exceptions (exceptions_kept lists numbers.exceptions exceptions) (valid_part lists numbers.policy (licenses_in root))
+    with_exceptions (exceptions_kept lists numbers.exceptions exceptions)
+    (valid_part lists numbers.policy (licenses_in root))
 
 -- the policy that is written so
 abbrev pub policy_found : CatalogLists → FileNumbers → List Diagnostic → ExceptionsRead → RootConfig → PolicyFound
@@ -83,4 +84,5 @@ policy_found lists numbers absence exceptions root = record {
 -- The policy of what was read, or what is wrong with its shape.
 abbrev pub policy_of_files : CatalogLists → FileNumbers → PolicyRead → ExceptionsRead → ShapeReading PolicyFound
 policy_of_files lists numbers read exceptions =
-    shaped_map (policy_found lists numbers (absence_findings (is_some read.value) read.path) exceptions) (root_of lists (value_read read))
+    shaped_map (policy_found lists numbers (absence_findings (is_some read.value) read.path) exceptions)
+    (root_of lists (value_read read))

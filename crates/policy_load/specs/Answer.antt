@@ -26,7 +26,8 @@ use Rattle.policy_core.specs.declared.exceptions.ExceptionsHeard.{ExceptionsHear
 use Rattle.policy_core.specs.declared.load.LoadedPolicy.{LoadedPolicy}
 use Rattle.policy_core.specs.validate.Order.{PutsPolicyInOrder}
 use Rattle.policy_load.specs.Heard.{LoadHeard, IsPolicyRead, IsReadOf, MayReadOf, MayReadPolicy, exceptions_heard}
-use Rattle.policy_load.specs.Load.{LoadResult, error_of_config, load_by_config, load_of, refusal_findings, unless_error, with_policy}
+use Rattle.policy_load.specs.Load.{LoadResult, error_of_config, load_by_config, load_of, refusal_findings, unless_error}
+use Rattle.policy_load.specs.Load.{with_policy}
 use Rattle.diag_print.specs.Findings.{is_error, printed_findings}
 use Rattle.policy_load.specs.declared.error.LoadError.{LoadError}
 use Rattle.policy_load.specs.declared.error.LoadError.TheVariants.{Memory, ConfigRead, ConfigInvalid, WriteFault}
@@ -95,10 +96,12 @@ IsBehindRead _ = ⊤
 
 -- what comes of a refusal of the policy's text, and of a policy that has its shape, where its file is known
 abbrev pub refused_by : ℕ → ConfigError → LoadResult
-refused_by file refused = record { files = []; findings = refusal_findings file refused; answer = Err (error_of_config refused) }
+refused_by file refused =
+    record { files = []; findings = refusal_findings file refused; answer = Err (error_of_config refused) }
 
 abbrev pub rooted_by : ExceptionsHeard → PolicyFound → LoadResult
-rooted_by exceptions found = record { files = heard_file_of exceptions; findings = found.findings; answer = unless_error found }
+rooted_by exceptions found =
+    record { files = heard_file_of exceptions; findings = found.findings; answer = unless_error found }
 
 -- the findings were printed, and then the policy was answered, or refused for an error
 abbrev pub EndsLoad : LoadedPolicy → List Diagnostic → Result LoadedPolicy LoadError → Type 0
@@ -116,12 +119,14 @@ error_of_print print.Memory = Memory
 -- Where the text is that of a policy, a value of its shape whose specs are carried, one call is made, the read of the
 -- exceptions file, and its answer says this; but none where there is no path, or where a known file has it. Where the
 -- text is refused, none is made.
-abbrev pub ReadsFurther : ℕ → ℕ → List Call → List Call → List File → Option (List ℕ) → ExceptionsHeard → Result RootConfig ConfigError → Type 0
+abbrev pub ReadsFurther : ℕ → ℕ → List Call → List Call → List File → Option (List ℕ) → ExceptionsHeard
+    → Result RootConfig ConfigError → Type 0
 ReadsFurther mid after calls more files path exceptions (Ok root) = IsReadOf mid after calls more files path exceptions
 ReadsFurther mid after calls more files path exceptions (Err refused) = more ≡ calls
 
 -- the same behind the read of the policy, where a text was read of it; else no further call is made
-abbrev pub ReadsBehind : CatalogLists → List File → PolicyPaths → ℕ → ℕ → List Call → List Call → Result (List ℕ) ReadFault → Result ConfigText ConfigError → Type 0
+abbrev pub ReadsBehind : CatalogLists → List File → PolicyPaths → ℕ → ℕ → List Call → List Call
+    → Result (List ℕ) ReadFault → Result ConfigText ConfigError → Type 0
 ReadsBehind lists old paths mid after calls more exceptions (Err refused) = more ≡ calls
 ReadsBehind lists old paths mid after calls more exceptions (Ok text) =
     ReadsFurther mid after calls more (with_policy old paths text) paths.exceptions
@@ -135,7 +140,8 @@ MayReadFurther calls more files path (Err refused) = more ≡ calls
 -- The load of a policy: its file was read, then the exceptions file where that was due, and no other call was made;
 -- what the answers say, and what came of that. The policy's read is reported from the run's start on, the exceptions
 -- file's from its own. Behind the policy's read the tree's count of faults is the one behind that call.
-pub record LoadsBy (lists : CatalogLists) (context : LogContext) (paths : PolicyPaths) (begun first after : ℕ) (calls more : List Call)
+pub record LoadsBy (lists : CatalogLists) (context : LogContext) (paths : PolicyPaths) (begun first after : ℕ)
+    (calls more : List Call)
     (old new : List File) (before behind : Option (List ℕ)) (result : Result LoadedPolicy LoadError) : Type 0 where
   pub heard : LoadHeard
   pub mid : ℕ
@@ -147,38 +153,49 @@ pub record LoadsBy (lists : CatalogLists) (context : LogContext) (paths : Policy
 
 -- the same where the policy's text was read
 pub record LoadsTextBy (lists : CatalogLists) (context : LogContext) (paths : PolicyPaths) (text : ConfigText)
-    (mid after : ℕ) (calls more : List Call) (old new : List File) (before behind : Option (List ℕ)) (result : Result LoadedPolicy LoadError) : Type 0 where
+    (mid after : ℕ) (calls more : List Call) (old new : List File) (before behind : Option (List ℕ))
+    (result : Result LoadedPolicy LoadError) : Type 0 where
   pub exceptions : ExceptionsHeard
-  pub reads : ReadsFurther mid after calls more (with_policy old paths text) paths.exceptions exceptions (config_of_text lists text.text)
-  pub comes : Comes (load_by_config lists old paths exceptions text (config_of_text lists text.text)) context old new before behind result
+  pub reads : ReadsFurther mid after calls more (with_policy old paths text) paths.exceptions exceptions
+      (config_of_text lists text.text)
+  pub comes : Comes (load_by_config lists old paths exceptions text (config_of_text lists text.text)) context old new
+      before behind result
 
 -- The policy of this root in the file of this number was loaded, with its exceptions file, by the answer of that file's
 -- read, between two counts of the tree's faults; what is reported points into its file, and what is kept lies there.
-pub record LoadsPolicyBy (lists : CatalogLists) (before after : ℕ) (calls more : List Call) (file : ℕ) (absence : List Diagnostic) (root : RootConfig)
+pub record LoadsPolicyBy (lists : CatalogLists) (before after : ℕ) (calls more : List Call) (file : ℕ)
+    (absence : List Diagnostic) (root : RootConfig)
     (path : Option (List ℕ)) (old new : Surroundings) (loaded : LoadedPolicy) : Type 0 where
   pub hearing : ExceptionsHeard
   pub reads : IsReadOf before after calls more old.files path hearing
-  pub keeps : Keeps (policy_found lists (numbers_at file old.files) absence (exceptions_read_of hearing) root) hearing old new loaded
+  pub keeps : Keeps (policy_found lists (numbers_at file old.files) absence (exceptions_read_of hearing) root) hearing
+      old new loaded
   pub labels : PointInto old.files old.found → PointInto new.files new.found
   pub places : PolicyStands new.files loaded.licenses
 
 -- the same where it has its shape, and its file is the one of that number
-pub record LoadsRootBy (lists : CatalogLists) (context : LogContext) (file : ℕ) (absence : List Diagnostic) (root : RootConfig) (path : Option (List ℕ))
-    (mid after : ℕ) (calls more : List Call) (old new : List File) (before behind : Option (List ℕ)) (result : Result LoadedPolicy LoadError) : Type 0 where
+pub record LoadsRootBy (lists : CatalogLists) (context : LogContext) (file : ℕ) (absence : List Diagnostic)
+    (root : RootConfig) (path : Option (List ℕ))
+    (mid after : ℕ) (calls more : List Call) (old new : List File) (before behind : Option (List ℕ))
+    (result : Result LoadedPolicy LoadError) : Type 0 where
   pub exceptions : ExceptionsHeard
   pub reads : IsReadOf mid after calls more old path exceptions
-  pub comes : Comes (rooted_by exceptions (policy_found lists (numbers_at file old) absence (exceptions_read_of exceptions) root)) context old new before behind result
+  pub comes : Comes
+      (rooted_by exceptions (policy_found lists (numbers_at file old) absence (exceptions_read_of exceptions) root))
+      context old new before behind result
 
 -- memory was wanting behind the policy's text, which was read: the exceptions file may have been read where that was
 -- due
-pub record MayReadBoth (lists : CatalogLists) (begun : ℕ) (calls more : List Call) (old : List File) (paths : PolicyPaths) : Type 0 where
+pub record MayReadBoth (lists : CatalogLists) (begun : ℕ) (calls more : List Call) (old : List File)
+    (paths : PolicyPaths) : Type 0 where
   pub heard : Result (List ℕ) ReadFault
   pub mid : ℕ
   pub between : List Call
   pub policy : IsPolicyRead begun mid calls between paths.policy heard
   pub text : ConfigText
   pub is : config_text_of heard ≡ Ok text
-  pub further : MayReadFurther between more (with_policy old paths text) paths.exceptions (config_of_text lists text.text)
+  pub further : MayReadFurther between more (with_policy old paths text) paths.exceptions
+      (config_of_text lists text.text)
 
 -- memory was wanting, nothing was printed, and the calls are a prefix of those of a load
 pub record IsCutLoad (lists : CatalogLists) (begun : ℕ) (calls more : List Call) (old : List File) (paths : PolicyPaths)

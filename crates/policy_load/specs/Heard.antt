@@ -50,7 +50,8 @@ IsReadAt before after old new None path hearing =
 -- the same where there may be no path
 abbrev pub IsReadOf : ℕ → ℕ → List Call → List Call → List File → Option (List ℕ) → ExceptionsHeard → Type 0
 IsReadOf before after old new files None hearing = (hearing ≡ NoPath) × (new ≡ old)
-IsReadOf before after old new files (Some path) hearing = IsReadAt before after old new (file_id_at files path) path hearing
+IsReadOf before after old new files (Some path) hearing =
+    IsReadAt before after old new (file_id_at files path) path hearing
 
 -- where memory was wanting, that call was made, whatever was answered, or none
 abbrev pub MayReadAt : List Call → List Call → Option ℕ → List ℕ → Type 0

@@ -1,5 +1,6 @@
 -- The load of a policy: what comes of what is read of its files.
-use Rattle.std.specs.Prelude.{ℕ, Bool, true, List, [], ◌∷◌, ◌++◌, length, map, codes, Option, Some, None, Result, Ok, Err, if◌then◌else◌}
+use Rattle.std.specs.Prelude.{ℕ, Bool, true, List, [], ◌∷◌, ◌++◌, length, map, codes, Option, Some, None, Result, Ok}
+use Rattle.std.specs.Prelude.{Err, if◌then◌else◌}
 use Rattle.std.specs.List.{list_any}
 use Rattle.spdx_terms.specs.catalog.Catalog.{CatalogLists}
 use Rattle.diag_core.specs.File.{File}
@@ -19,7 +20,8 @@ use Rattle.policy_core.specs.declared.text.text.ConfigText.{ConfigText}
 use Rattle.policy_load.specs.Heard.{LoadHeard, exceptions_heard}
 use Rattle.diag_print.specs.Findings.{is_error}
 use Rattle.policy_load.specs.declared.error.LoadError.{LoadError}
-use Rattle.policy_load.specs.declared.error.LoadError.TheVariants.{Memory, ConfigRead, ConfigSyntax, ConfigShape, NotCarried, ConfigInvalid}
+use Rattle.policy_load.specs.declared.error.LoadError.TheVariants.{Memory, ConfigRead, ConfigSyntax, ConfigShape}
+use Rattle.policy_load.specs.declared.error.LoadError.TheVariants.{NotCarried, ConfigInvalid}
 use Rattle.policy_load.specs.declared.loading.PolicyPaths.{PolicyPaths}
 
 -- what comes of a load: the files that are added, the findings that are printed, and the policy or why there is none
@@ -59,7 +61,8 @@ unless_error found = if list_any is_error found.findings then Err (ConfigInvalid
 -- the policy whose file was added last, and what is reported of it
 abbrev pub found_by : CatalogLists → List File → ℕ → PolicyPaths → Bool → ExceptionsHeard → RootConfig → PolicyFound
 found_by lists files number paths is_there exceptions root =
-    policy_found lists (numbers_at number files) (absence_findings is_there paths.policy) (exceptions_read_of exceptions) root
+    policy_found lists (numbers_at number files) (absence_findings is_there paths.policy)
+    (exceptions_read_of exceptions) root
 
 -- the policy's file and the exceptions file, where one was read as a text, are added
 abbrev pub loaded_by : File → ExceptionsHeard → PolicyFound → LoadResult
@@ -67,7 +70,8 @@ loaded_by file exceptions found =
     record { files = file ∷ heard_file_of exceptions; findings = found.findings; answer = unless_error found }
 
 -- by the policy as it is written, or its refusal, and what is read of the exceptions file
-abbrev pub load_by_config : CatalogLists → List File → PolicyPaths → ExceptionsHeard → ConfigText → Result RootConfig ConfigError → LoadResult
+abbrev pub load_by_config : CatalogLists → List File → PolicyPaths → ExceptionsHeard → ConfigText
+    → Result RootConfig ConfigError → LoadResult
 load_by_config lists old paths exceptions text (Err error) = record {
   files = policy_file paths.policy text.text ∷ [];
   findings = refusal_findings (length old) error;
@@ -82,10 +86,13 @@ abbrev pub with_policy : List File → PolicyPaths → ConfigText → List File
 with_policy old paths text = old ++ policy_file paths.policy text.text ∷ []
 
 -- by the policy's text, or its refusal
-abbrev pub load_by_text : CatalogLists → List File → PolicyPaths → Result (List ℕ) ReadFault → Result ConfigText ConfigError → LoadResult
-load_by_text lists old paths exceptions (Err error) = record { files = []; findings = []; answer = Err (error_of_config error) }
+abbrev pub load_by_text : CatalogLists → List File → PolicyPaths → Result (List ℕ) ReadFault
+    → Result ConfigText ConfigError → LoadResult
+load_by_text lists old paths exceptions (Err error) =
+    record { files = []; findings = []; answer = Err (error_of_config error) }
 load_by_text lists old paths exceptions (Ok text) =
-    load_by_config lists old paths (exceptions_heard (with_policy old paths text) paths.exceptions exceptions) text (config_of_text lists text.text)
+    load_by_config lists old paths (exceptions_heard (with_policy old paths text) paths.exceptions exceptions) text
+    (config_of_text lists text.text)
 
 -- What comes of what is read, where these files are known: of the policy's text, its value, its shape, its specs of
 -- crates to be left out, and then of all findings, the first refusal; else the policy.

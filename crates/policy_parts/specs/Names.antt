@@ -14,7 +14,8 @@ use Rattle.policy_parts.specs.declared.names.Scope.TheVariants as scope
 
 abbrev pub scope_names : List (List ℕ × Scope)
 scope_names =
-    (codes "all", scope.All) ∷ (codes "workspace", scope.Workspace) ∷ (codes "transitive", scope.Transitive) ∷ (codes "none", scope.None) ∷ []
+    (codes "all", scope.All) ∷ (codes "workspace", scope.Workspace) ∷ (codes "transitive", scope.Transitive)
+    ∷ (codes "none", scope.None) ∷ []
 
 abbrev pub scope_of : Toml → ShapeReading Scope
 scope_of = name_of (codes "Scope") scope_names
@@ -27,8 +28,10 @@ scope_name scope.None = codes "none"
 
 abbrev pub agreement_names : List (List ℕ × BlanketAgreement)
 agreement_names =
-    (codes "both", agreement.Both) ∷ (codes "either", agreement.Either) ∷ (codes "osi", agreement.Osi) ∷ (codes "fsf", agreement.Fsf)
-    ∷ (codes "osi-only", agreement.OsiOnly) ∷ (codes "fsf-only", agreement.FsfOnly) ∷ (codes "neither", agreement.Neither) ∷ []
+    (codes "both", agreement.Both) ∷ (codes "either", agreement.Either) ∷ (codes "osi", agreement.Osi)
+    ∷ (codes "fsf", agreement.Fsf)
+    ∷ (codes "osi-only", agreement.OsiOnly) ∷ (codes "fsf-only", agreement.FsfOnly)
+    ∷ (codes "neither", agreement.Neither) ∷ []
 
 abbrev pub agreement_of : Toml → ShapeReading BlanketAgreement
 agreement_of = name_of (codes "BlanketAgreement") agreement_names

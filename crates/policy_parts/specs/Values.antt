@@ -7,7 +7,8 @@ use Rattle.toml_value.specs.Lookup.{value_at}
 use Rattle.toml_value.specs.Removal.{entries_without}
 use Rattle.toml_value.specs.Taken.{as_table, given_back, left_by, string_of}
 use Rattle.policy_toml.specs.Readings.{text_of, u32_of, list_of, spanned_of}
-use Rattle.policy_toml.specs.rows.Rows.{key, optional_value, required_value, needed_at, in_table, left_of_table, shaped_by}
+use Rattle.policy_toml.specs.rows.Rows.{key, optional_value, required_value, needed_at, in_table, left_of_table}
+use Rattle.policy_toml.specs.rows.Rows.{shaped_by}
 use Rattle.policy_parts.specs.declared.file_source.FileSource.{FileSource}
 use Rattle.policy_parts.specs.declared.reason.Reason.{Reason}
 use Rattle.policy_parts.specs.declared.target.Target.{Target}
@@ -29,7 +30,9 @@ file_source_of = in_table file_source_at
 abbrev pub target_at : Entries → Span → ShapeReading Target
 target_at entries span =
     shaped_then (λ filter. shaped_by (codes "triple" ∷ []) (key (codes "features") (list_of text_of) ∷ [])
-    (λ entries. record { filter = filter; features = unwrap_or (optional_value (codes "features") (list_of text_of) entries) [] }) entries span)
+    (λ entries.
+    record { filter = filter; features = unwrap_or (optional_value (codes "features") (list_of text_of) entries) [] })
+    entries span)
     (required_value (codes "triple") (spanned_of text_of) entries span)
 
 abbrev pub target_by : Toml → Option Entries → ShapeReading Target
@@ -52,7 +55,8 @@ left_of_target value = left_of_target_by value (as_table value.content)
 -- ---- a reason
 
 abbrev pub reason_by : Span → Option Toml → ShapeReading Reason
-reason_by span value = shaped_map (λ text. record { 0 = text }) (needed_at (codes "reason") span (option_map (spanned_of text_of) value))
+reason_by span value =
+    shaped_map (λ text. record { 0 = text }) (needed_at (codes "reason") span (option_map (spanned_of text_of) value))
 
 abbrev pub reason_of : Toml → ShapeReading Reason
 reason_of = in_table (λ entries span. reason_by span (value_at (codes "reason") entries))

@@ -82,7 +82,8 @@ unexpected_faults (name ∷ names) span = fault_alone (unexpected_keys (name ∷
 
 -- all faults of a table whose left keys go back, or do not
 abbrev pub faults_at_end : Bool → HelperState → List ShapeFault
-faults_at_end goes_back state = if goes_back then state.faults else state.faults ++ unexpected_faults (names_in state.left) state.span
+faults_at_end goes_back state =
+    if goes_back then state.faults else state.faults ++ unexpected_faults (names_in state.left) state.span
 
 -- what is behind a reference that may be there, at the end of a call
 abbrev pub target_at_exit : Unit {0} ⊎ ((MutBor Value × Unit {0}) ⊎ ⊥) → Option Toml

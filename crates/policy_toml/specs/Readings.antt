@@ -1,5 +1,6 @@
 -- What the types of the crate make of a value.
-use Rattle.std.specs.Prelude.{ℕ, ◌^◌, ◌*ℤ◌, ℤ, pos, negsuc, Bool, nat_lt, if◌then◌else◌, List, [], ◌∷◌, Option, Some, None, Ok, Err, codes, map}
+use Rattle.std.specs.Prelude.{ℕ, ◌^◌, ◌*ℤ◌, ℤ, pos, negsuc, Bool, nat_lt, if◌then◌else◌, List, [], ◌∷◌, Option, Some}
+use Rattle.std.specs.Prelude.{None, Ok, Err, codes, map}
 use Rattle.std.specs.Int.{w64, saturate_signed}
 use Rattle.std.specs.List.{filter_map, flat_map}
 use Rattle.std.specs.Result.{result_ok}
@@ -62,7 +63,8 @@ abbrev pub u32_of : Toml → ShapeReading ℕ
 u32_of value = shaped_then (λ z. or_out_of_range (codes "u32") value.span (in_32_bits z)) (i64_of value)
 
 abbrev pub hundredths_of : Toml → ShapeReading Hundredths
-hundredths_of value = shaped_map (λ z. record { 0 = z }) (or_wanted (kind_word kind.Decimal) value (as_hundredths value.content))
+hundredths_of value =
+    shaped_map (λ z. record { 0 = z }) (or_wanted (kind_word kind.Decimal) value (as_hundredths value.content))
 
 -- what is read, with the place of its value
 abbrev pub spanned_of : {A : Type 0} → (Toml → ShapeReading A) → Toml → ShapeReading (Spanned A)
@@ -74,7 +76,8 @@ array_of value = shaped_map values_of (or_wanted (kind_word kind.Array) value (a
 -- all items, or all faults of items in the order of their places
 abbrev pub each_of : {A : Type 0} → (Toml → ShapeReading A) → List Toml → ShapeReading (List A)
 each_of reads values =
-    shaped_of (flat_map (λ value. faults_in (reads value)) values) (filter_map (λ value. result_ok (reads value)) values)
+    shaped_of (flat_map (λ value. faults_in (reads value)) values)
+    (filter_map (λ value. result_ok (reads value)) values)
 
 abbrev pub list_of : {A : Type 0} → (Toml → ShapeReading A) → Toml → ShapeReading (List A)
 list_of reads value = shaped_then (each_of reads) (array_of value)
@@ -95,4 +98,5 @@ or_unexpected names span None = Err (fault_alone (unexpected_value names) span)
 -- one of a table of names, where a thing of the type is wanted
 abbrev pub name_of : {A : Type 0} → List ℕ → List (List ℕ × A) → Toml → ShapeReading A
 name_of expected rows value =
-    shaped_then (λ w. or_unexpected (map (λ row. row.0) rows) value.span (thing_of_name rows w.text)) (string_of expected value)
+    shaped_then (λ w. or_unexpected (map (λ row. row.0) rows) value.span (thing_of_name rows w.text))
+    (string_of expected value)

@@ -24,7 +24,8 @@ pub record IsReadAgain (old new : List Call) (path text : List ℕ) : Type 0 whe
   pub read : IsTextRead begun after (old ++ file_there path ∷ []) new path (Ok text)
 
 -- The search for the policy was made once more, and found this path; and where there is a text it was read behind that.
-pub record IsHeardAgain (context : KrateContext) (old new : List Call) (path : List ℕ) (text : Option (List ℕ)) : Type 0 where
+pub record IsHeardAgain (context : KrateContext) (old new : List Call) (path : List ℕ)
+    (text : Option (List ℕ)) : Type 0 where
   pub looked : List Call
   pub path_is : IsConfigPath context old looked (Some path)
   pub text_is : ForSome text (IsReadAgain looked new path)
@@ -38,12 +39,14 @@ IsAgain context old new again = ForSome again.policy (λ path. IsHeardAgain cont
 -- the search for the policy was made once more, and found this; or it was given up
 pub data SearchesAgain (context : KrateContext) (old new : List Call) (found : Option (List ℕ)) : Type 0 where
   searched : IsConfigPath context old new found → SearchesAgain context old new found
-  given_up : (error : SearchError) → ConfigPathUntil context old new error → found ≡ None → SearchesAgain context old new found
+  given_up : (error : SearchError) → ConfigPathUntil context old new error → found ≡ None
+      → SearchesAgain context old new found
 
 -- it was asked whether a regular file is at a path; and where one does it may have been read
 pub data AsksForText (path : List ℕ) (old new : List Call) : Type 0 where
   looked : (answer : Result Bool TreeError) → new ≡ old ++ file_call path answer ∷ [] → AsksForText path old new
-  read : (answer : CallAnswer) → new ≡ (old ++ file_there path ∷ []) ++ read_of path answer ∷ [] → AsksForText path old new
+  read : (answer : CallAnswer) → new ≡ (old ++ file_there path ∷ []) ++ read_of path answer ∷ []
+      → AsksForText path old new
 
 -- a text is asked for where it is wanted and a path was found
 abbrev pub AsksWhere : Bool → Option (List ℕ) → List Call → List Call → Type 0

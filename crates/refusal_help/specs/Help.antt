@@ -1,5 +1,6 @@
 -- What is printed behind the line of a refusal: where it comes from, and what to do.
-use Rattle.std.specs.Prelude.{ℕ, ◌+◌, Bool, true, false, ◌&&◌, List, [], ◌∷◌, ◌++◌, Option, Some, None, Result, Ok, Err, codes, decimal}
+use Rattle.std.specs.Prelude.{ℕ, ◌+◌, Bool, true, false, ◌&&◌, List, [], ◌∷◌, ◌++◌, Option, Some, None, Result, Ok, Err}
+use Rattle.std.specs.Prelude.{codes, decimal}
 use Rattle.std.specs.Str.{bytes_eq}
 use Rattle.deny_text.specs.Path.{join_of}
 use Rattle.diag_core.specs.declared.position.FilesErr.{FilesErr}
@@ -10,7 +11,11 @@ use Rattle.graph_metadata.specs.declared.fault.MetaFault.{MetaFault}
 use Rattle.graph_metadata.specs.declared.fault.MetaReason.{MetaReason}
 use Rattle.graph_metadata.specs.declared.fault.MetaReason.TheVariants as reason
 use Rattle.run_found.specs.declared.error.Error.{Error}
-use Rattle.run_found.specs.declared.error.Error.TheVariants.{Memory, NotCarried, ManifestPath, ManifestRead, CatalogRead, CatalogSyntax, StoreRead, ConfigRead, ConfigSyntax, ConfigShape, ConfigInvalid, OverrideTwice, MetadataRead, MetadataSyntax, MetadataShape, NoRoots, RecordRead, RecordSyntax, WriteFault}
+use Rattle.run_found.specs.declared.error.Error.TheVariants.{Memory, NotCarried, ManifestPath, ManifestRead}
+use Rattle.run_found.specs.declared.error.Error.TheVariants.{CatalogRead, CatalogSyntax, StoreRead, ConfigRead}
+use Rattle.run_found.specs.declared.error.Error.TheVariants.{ConfigSyntax, ConfigShape, ConfigInvalid, OverrideTwice}
+use Rattle.run_found.specs.declared.error.Error.TheVariants.{MetadataRead, MetadataSyntax, MetadataShape, NoRoots}
+use Rattle.run_found.specs.declared.error.Error.TheVariants.{RecordRead, RecordSyntax, WriteFault}
 use Rattle.run_request.specs.declared.request.Request.{Request}
 use Rattle.run_request.specs.declared.request.Subcommand.{Subcommand}
 use Rattle.run_request.specs.declared.request.Subcommand.TheVariants.{Verify}
@@ -19,7 +24,8 @@ use Rattle.spdx_own_names.specs.declared.error.StoreFault.TheVariants as store
 use Rattle.toml_subset.specs.declared.error.SyntaxError.{SyntaxError}
 use Rattle.refusal_help.specs.declared.again.Again.{Again}
 use Rattle.refusal_help.specs.Unknown.{names_unknown}
-use Rattle.refusal_help.specs.Words.{built_in_words, fault_words, level_option, line_words, manifest_words, own_words, read_words, reason_words, store_words, what_words}
+use Rattle.refusal_help.specs.Words.{built_in_words, fault_words, level_option, line_words, manifest_words, own_words}
+use Rattle.refusal_help.specs.Words.{read_words, reason_words, store_words, what_words}
 
 -- ---- lines
 
@@ -57,7 +63,8 @@ fault_at file (Some at) place words = at_file (line_and_column file at) words
 fault_at file None place words = at_file file (codes "at byte " ++ decimal place ++ codes ": " ++ words)
 
 abbrev pub syntax_help : Option (List ℕ) → Option (List ℕ) → SyntaxError → List ℕ
-syntax_help (Some file) text fault = fault_at file (place_in text fault.span.start) fault.span.start (reason_words fault.reason)
+syntax_help (Some file) text fault =
+    fault_at file (place_in text fault.span.start) fault.span.start (reason_words fault.reason)
 syntax_help None text fault = []
 
 -- ---- the catalogue and the licence texts
@@ -105,7 +112,8 @@ resolve_help true = advice (codes "cargo metadata was run with --no-deps: run it
 resolve_help false = []
 
 abbrev pub shape_help : Option (List ℕ) → MetaFault → List ℕ
-shape_help file fault = at_file_if file (place_text fault.place ++ fault_words fault.fault) ++ resolve_help (is_unresolved fault)
+shape_help file fault =
+    at_file_if file (place_text fault.place ++ fault_words fault.fault) ++ resolve_help (is_unresolved fault)
 
 -- ---- a verdict file
 
@@ -118,11 +126,13 @@ record_of _ = None
 
 abbrev pub roots_help : ℕ → ℕ → ℕ → List ℕ
 roots_help base excluded unpublished =
-    advice (codes "root crates: " ++ decimal base ++ codes "; left out by name: " ++ decimal excluded ++ codes "; published nowhere: " ++ decimal unpublished)
+    advice (codes "root crates: " ++ decimal base ++ codes "; left out by name: " ++ decimal excluded
+    ++ codes "; published nowhere: " ++ decimal unpublished)
 
 abbrev pub twice_help : List ℕ → Severity → Severity → List ℕ
 twice_help name first second =
-    advice (codes "'" ++ name ++ codes "' is given twice: to " ++ level_option first ++ codes " and to " ++ level_option second)
+    advice (codes "'" ++ name ++ codes "' is given twice: to " ++ level_option first ++ codes " and to "
+    ++ level_option second)
 
 -- ---- the whole
 
@@ -132,7 +142,8 @@ unfoldable pub help_of : Request → Again → Error → List ℕ
 help_of request again Memory = []
 help_of request again (NotCarried what) = advice (what_words what)
 help_of request again (ManifestPath path) = at_file path (manifest_words path)
-help_of request again (ManifestRead before after) = at_file request.krate_ctx.manifest_path (codes "could not be looked at")
+help_of request again (ManifestRead before after) =
+    at_file request.krate_ctx.manifest_path (codes "could not be looked at")
 help_of request again (CatalogRead fault) = at_file_if request.catalog (read_words fault)
 help_of request again (CatalogSyntax line) = line_help request.catalog line
 help_of request again (StoreRead fault) = store_help request.store fault

@@ -10,11 +10,16 @@ use Rattle.spdx_terms.specs.catalog.Table.{table_licenses}
 use Rattle.spdx_own_names.specs.declared.error.StoreFault.{StoreFault}
 use Rattle.spdx_own_names.specs.declared.error.StoreFault.TheVariants as store
 use Rattle.toml_subset.specs.declared.error.SyntaxReason.{SyntaxReason}
-use Rattle.toml_subset.specs.declared.error.SyntaxReason.TheVariants.{UnexpectedEnd, Unexpected, InvalidEscape, ControlCharacter, NumberForm, NumberRange, Unsupported, DuplicateKey, RedefinedTable, TooDeep}
+use Rattle.toml_subset.specs.declared.error.SyntaxReason.TheVariants.{UnexpectedEnd, Unexpected, InvalidEscape}
+use Rattle.toml_subset.specs.declared.error.SyntaxReason.TheVariants.{ControlCharacter, NumberForm, NumberRange}
+use Rattle.toml_subset.specs.declared.error.SyntaxReason.TheVariants.{Unsupported, DuplicateKey, RedefinedTable}
+use Rattle.toml_subset.specs.declared.error.SyntaxReason.TheVariants.{TooDeep}
 use Rattle.graph_metadata.specs.declared.fault.MetaReason.{MetaReason}
-use Rattle.graph_metadata.specs.declared.fault.MetaReason.TheVariants.{Float, Missing, WrongKind, BadVersion, RepeatedId, UnknownId, NoFolder, UnknownKind}
+use Rattle.graph_metadata.specs.declared.fault.MetaReason.TheVariants.{Float, Missing, WrongKind, BadVersion}
+use Rattle.graph_metadata.specs.declared.fault.MetaReason.TheVariants.{RepeatedId, UnknownId, NoFolder, UnknownKind}
 use Rattle.graph_workspace.specs.declared.error.UnsupportedPart.{UnsupportedPart}
-use Rattle.graph_workspace.specs.declared.error.UnsupportedPart.TheVariants.{MetadataPath, Which, Format, Target, Graph, Audit, ExcludeSpec}
+use Rattle.graph_workspace.specs.declared.error.UnsupportedPart.TheVariants.{MetadataPath, Which, Format, Target, Graph}
+use Rattle.graph_workspace.specs.declared.error.UnsupportedPart.TheVariants.{Audit, ExcludeSpec}
 
 -- what to give in the place of what is not carried
 unfoldable pub what_words : UnsupportedPart → List ℕ
@@ -24,7 +29,8 @@ what_words Format = codes "--format sarif is not carried: human or json"
 what_words Target = codes "--target is not carried: the crates of all platforms are checked"
 what_words Graph = codes "--graph is not carried"
 what_words Audit = codes "--audit-compatible-output is not carried"
-what_words ExcludeSpec = codes "a crate to leave out is told as name or name@version, in the words and in the policy's exclude"
+what_words ExcludeSpec =
+    codes "a crate to leave out is told as name or name@version, in the words and in the policy's exclude"
 
 -- why a file was not read
 unfoldable pub read_words : ReadFault → List ℕ
@@ -74,7 +80,8 @@ level_option Bug = codes "--deny"
 
 -- what is wrong with a path that names no file Cargo.toml
 abbrev pub name_words : Option (List ℕ) → List ℕ
-name_words (Some name) = if bytes_eq name (codes "Cargo.toml") then codes "there is no such file" else codes "its name has to be Cargo.toml"
+name_words (Some name) =
+    if bytes_eq name (codes "Cargo.toml") then codes "there is no such file" else codes "its name has to be Cargo.toml"
 name_words None = codes "its name has to be Cargo.toml"
 
 unfoldable pub manifest_words : List ℕ → List ℕ
@@ -88,7 +95,9 @@ line_words = codes "is no line of a catalogue, repeats a name, or means a licenc
 
 -- what is built in, and what to do where that is not enough
 abbrev pub built_in_words : List ℕ
-built_in_words = codes "the catalogue has " ++ decimal (length table_licenses) ++ codes " licences: cargo deny --catalog FILE names others"
+built_in_words =
+    codes "the catalogue has " ++ decimal (length table_licenses)
+    ++ codes " licences: cargo deny --catalog FILE names others"
 
 -- the same of a file's
 abbrev pub own_words : List ℕ → List ℕ

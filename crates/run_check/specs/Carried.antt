@@ -1,5 +1,6 @@
 -- What of a request for a check is not carried.
-use Rattle.std.specs.Prelude.{Bool, true, false, not, ◌&&◌, ◌==◌, List, [], ◌∷◌, find, length, is_none, is_some, Option, option_map}
+use Rattle.std.specs.Prelude.{Bool, true, false, not, ◌&&◌, ◌==◌, List, [], ◌∷◌, find, length, is_none, is_some, Option}
+use Rattle.std.specs.Prelude.{option_map}
 use Rattle.std.specs.List.{list_all, list_any}
 use Rattle.graph_core.specs.selection.Choice.{is_unsupported}
 use Rattle.diag_print.specs.declared.context.LogContext.{LogContext}

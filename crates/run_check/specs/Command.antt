@@ -12,13 +12,16 @@ use Rattle.run_command.specs.Given.{CommandArguments}
 use Rattle.run_command.specs.Prelude.{IsUntouched}
 use Rattle.run_check.specs.declared.report.Report.{Report}
 use Rattle.run_check.specs.Headline.{CheckHeadline, CheckHeadlineRead}
-use Rattle.run_check.specs.Named.{FailedReadsRise, ReportsCertificates, ReportsFindings, ReportsOwnReads, ReportsPolicy, ReportsUnneeded}
+use Rattle.run_check.specs.Named.{FailedReadsRise, ReportsCertificates, ReportsFindings, ReportsOwnReads, ReportsPolicy}
+use Rattle.run_check.specs.Named.{ReportsUnneeded}
 use Rattle.run_check.specs.Report.{LabelsLie}
 use Rattle.run_check.specs.Script.{WritesCheck}
 
-pub record IsCheckRun (given : CommandArguments) (tree : TreeSeen) (err : SinkSeen) (result : Result Report Error) : Type 0 where
+pub record IsCheckRun (given : CommandArguments) (tree : TreeSeen) (err : SinkSeen)
+    (result : Result Report Error) : Type 0 where
   -- Where a part of the request is not carried, that is the refusal; no call is made, and nothing is written.
-  pub unsupported : (what : UnsupportedPart) → given.options.unsupported ≡ Some what → (result ≡ Err (NotCarried what)) × IsUntouched tree × IsSilent err
+  pub unsupported : (what : UnsupportedPart) → given.options.unsupported ≡ Some what
+      → (result ≡ Err (NotCarried what)) × IsUntouched tree × IsSilent err
   -- Else what was read asks for is answered, whatever the tree tells of its content, and nothing else was read; each
   -- refusal is the first one, by its cause; and what is reported of that was written.
   pub written : given.options.unsupported ≡ None → WritesCheck given tree err result

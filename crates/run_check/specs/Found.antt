@@ -6,7 +6,8 @@ use Rattle.check_core.specs.Turns.{GatheredCrate}
 
 -- a crate, its licence, and what was found and noted of it, by its turn
 abbrev pub gathered_in : TurnInput → GatheredCrate
-gathered_in turn = record { krate = turn.krate; info = info_in turn; gathered = findings_in turn; notes = notes_in turn }
+gathered_in turn =
+    record { krate = turn.krate; info = info_in turn; gathered = findings_in turn; notes = notes_in turn }
 
 abbrev pub all_gathered : List CrateTurn → List GatheredCrate
 all_gathered turns = map (λ own. gathered_in own.turn) turns

@@ -12,11 +12,14 @@ use Rattle.run_check.specs.Carried.{unsupported_of}
 
 -- the policy counts as it is, with its flags, and findings come out at these levels
 abbrev pub report_options : LintLevels → Option UnsupportedPart → CommandOptions
-report_options levels unsupported = record { unsupported = unsupported; levels = levels; with_flags = true; threshold = None }
+report_options levels unsupported =
+    record { unsupported = unsupported; levels = levels; with_flags = true; threshold = None }
 
 -- the options of `check`
 abbrev pub check_options : LogContext → CheckArgs → KrateContext → CommandOptions
 check_options log args context = report_options args.lint_levels (unsupported_of log args context)
 
-abbrev pub check_arguments_of : CatalogLists → (List ℕ → Match) → LogContext → CheckArgs → KrateContext → CommandArguments
-check_arguments_of lists match_of log args context = command_arguments_of lists match_of log context (check_options log args context)
+abbrev pub check_arguments_of : CatalogLists → (List ℕ → Match) → LogContext → CheckArgs → KrateContext
+    → CommandArguments
+check_arguments_of lists match_of log args context =
+    command_arguments_of lists match_of log context (check_options log args context)

@@ -1,12 +1,12 @@
 -- The headline of a check, over a request:
 --
--- Whenever a check ends with a `Report`, over any tree that tells its content, the report gives each selected crate exactly
--- one verdict, the one that the policy's bytes define for the crate's record and files less its listed failed reads; without
--- overrides no finding is an error only if no crate is unlicensed or rejected; and lawful input without a fault gives a
--- `Report` or want of memory.
+-- Whenever a check ends with a `Report`, over any tree that tells its content, the report gives each selected crate
+-- exactly one verdict, the one that the policy's bytes define for the crate's record and files less its listed failed
+-- reads; without overrides no finding is an error only if no crate is unlicensed or rejected; and lawful input without
+-- a fault gives a `Report` or want of memory.
 --
--- And the same of what was read, over any tree, real folders too. Without overrides: the request's three lists of codes and
--- levels are empty. Lawful: a request and files that nothing refuses.
+-- And the same of what was read, over any tree, real folders too. Without overrides: the request's three lists of codes
+-- and levels are empty. Lawful: a request and files that nothing refuses.
 use Rattle.std.specs.Prelude.{◌≡◌, Bool, true, false, List, All, Result, Ok}
 use Rattle.tree_core.specs.Call.{Call}
 use Rattle.tree_core.specs.Content.{Content}
@@ -36,7 +36,8 @@ is_against Unlicensed = true
 
 -- without overrides no finding is an error only if no crate is unlicensed or rejected
 abbrev pub ZeroMeansNoneRejected : CommandArguments → Result Report Error → Type 0
-ZeroMeansNoneRejected given answer = (report : Report) → answer ≡ Ok report → HasNoOverrides given.options.levels → has_errors report.stats ≡ false
+ZeroMeansNoneRejected given answer =
+    (report : Report) → answer ≡ Ok report → HasNoOverrides given.options.levels → has_errors report.stats ≡ false
     → All (λ crate. is_against crate.verdict ≡ false) report.crates
 
 -- ---- by what was read
@@ -47,23 +48,28 @@ pub record HasVerdictsRead (given : CommandArguments) (tree : TreeSeen) (report 
   pub heard : IsHeard given tree hearing
   pub tells : TellsVerdicts given hearing report
 
-pub record CheckHeadlineRead (given : CommandArguments) (tree : TreeSeen) (err : SinkSeen) (answer : Result Report Error) : Type 0 where
+pub record CheckHeadlineRead (given : CommandArguments) (tree : TreeSeen) (err : SinkSeen)
+    (answer : Result Report Error) : Type 0 where
   pub verdicts : (report : Report) → answer ≡ Ok report → HasVerdictsRead given tree report
   pub status : ZeroMeansNoneRejected given answer
-  pub lawful : (hearing : RequestHearing) (behind : List Call) (asked : PolicyAndCrates) → IsLawfulRead given tree hearing behind asked → (Rose err.before err.after → ⊥) → EndsLawful answer
+  pub lawful : (hearing : RequestHearing) (behind : List Call) (asked : PolicyAndCrates)
+      → IsLawfulRead given tree hearing behind asked → (Rose err.before err.after → ⊥) → EndsLawful answer
 
 -- ---- by a content
 
--- the report gives the verdicts that are asked for by calls that say what the content has, but for those that failed, each of which
--- raised the count of faults
-pub record HasVerdictsIn (given : CommandArguments) (content : Content) (tree : TreeSeen) (report : Report) : Type 0 where
+-- the report gives the verdicts that are asked for by calls that say what the content has, but for those that failed,
+-- each of which raised the count of faults
+pub record HasVerdictsIn (given : CommandArguments) (content : Content) (tree : TreeSeen)
+    (report : Report) : Type 0 where
   pub hearing : RequestHearing
   pub begun : hearing.begun ≡ tree.count_before
   pub counts : tree.count_after ≡ faults_after tree.count_before (calls_of given hearing)
   pub says : All (Says content) (calls_of given hearing)
   pub tells : TellsVerdicts given hearing report
 
-pub record CheckHeadline (given : CommandArguments) (content : Content) (tree : TreeSeen) (err : SinkSeen) (answer : Result Report Error) : Type 0 where
+pub record CheckHeadline (given : CommandArguments) (content : Content) (tree : TreeSeen) (err : SinkSeen)
+    (answer : Result Report Error) : Type 0 where
   pub verdicts : (report : Report) → answer ≡ Ok report → HasVerdictsIn given content tree report
   pub status : ZeroMeansNoneRejected given answer
-  pub lawful : (hearing : RequestHearing) (asked : PolicyAndCrates) → IsLawfulIn given content tree hearing asked → (Rose err.before err.after → ⊥) → EndsLawful answer
+  pub lawful : (hearing : RequestHearing) (asked : PolicyAndCrates) → IsLawfulIn given content tree hearing asked
+      → (Rose err.before err.after → ⊥) → EndsLawful answer

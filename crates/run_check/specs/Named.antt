@@ -23,13 +23,15 @@ use Rattle.run_check.specs.Report.{TellsFindings, verdicts_in}
 abbrev pub reads_in : Report → List ReadRecord
 reads_in report = flat_map (λ crate. crate.reads) report.crates
 
--- Each crate's reads are its own: they are those that its turn asks for, they were made, and they are listed as they were answered.
+-- Each crate's reads are its own: they are those that its turn asks for, they were made, and they are listed as they
+-- were answered.
 pub record ReportsOwnReads (given : CommandArguments) (tree : TreeSeen) (report : Report) : Type 0 where
   pub hearing : RequestHearing
   pub heard : IsHeard given tree hearing
   pub records : AreReads (count_metadata given.request hearing) (reads_of_all hearing.crates)
   pub own : All HasOwnReads (turns_in given hearing report.policy)
-  pub listed : AllZip (λ (one : ReadsOfCrate) (crate : CrateReport). crate.reads ≡ records_of_reads one.reads) hearing.crates report.crates
+  pub listed : AllZip (λ (one : ReadsOfCrate) (crate : CrateReport). crate.reads ≡ records_of_reads one.reads)
+      hearing.crates report.crates
 
 -- the policy that is reported is that of the bytes, its lists put in order
 pub record ReportsPolicy (given : CommandArguments) (tree : TreeSeen) (report : Report) : Type 0 where
@@ -44,7 +46,8 @@ pub record ReportsPolicy (given : CommandArguments) (tree : TreeSeen) (report : 
 pub record ReportsFindings (given : CommandArguments) (tree : TreeSeen) (report : Report) : Type 0 where
   pub hearing : RequestHearing
   pub heard : IsHeard given tree hearing
-  pub tells : TellsFindings given.options.levels (files_loaded given.request hearing) (turns_in given hearing report.policy) report
+  pub tells : TellsFindings given.options.levels (files_loaded given.request hearing)
+      (turns_in given hearing report.policy) report
 
 -- the entries of the policy that no crate needs are those that are reported
 pub record ReportsUnneeded (given : CommandArguments) (tree : TreeSeen) (report : Report) : Type 0 where
@@ -56,7 +59,8 @@ pub record ReportsUnneeded (given : CommandArguments) (tree : TreeSeen) (report 
 pub record ReportsCertificates (given : CommandArguments) (tree : TreeSeen) (report : Report) : Type 0 where
   pub hearing : RequestHearing
   pub heard : IsHeard given tree hearing
-  pub shown : AllZip (λ (one : ReadsOfCrate) (crate : CrateReport). IsVerdictShown (is_skipped crate.verdict) (policy_of report.policy) one.krate crate.expression crate.verdict)
+  pub shown : AllZip (λ (one : ReadsOfCrate) (crate : CrateReport).
+      IsVerdictShown (is_skipped crate.verdict) (policy_of report.policy) one.krate crate.expression crate.verdict)
       hearing.crates report.crates
 
 -- the failed reads that are listed rise one after another, between the tree's counts at the start and at the end

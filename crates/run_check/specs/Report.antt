@@ -39,16 +39,18 @@ source_in answer = option_map (λ own. own.source) answer
 -- The report on a crate, by a valid policy: it lists the crate's reads; it tells the expression that has priority, by
 -- what their answers say, where that comes from and what is noted of it, of which there is nothing where there is no
 -- expression; and the verdict on that, with what shows it. Where a field is in its manifest is left out here.
-pub record IsReportOf (given : CommandArguments) (policy : ValidConfig) (one : ReadsOfCrate) (report : CrateReport) : Type 0 where
+pub record IsReportOf (given : CommandArguments) (policy : ValidConfig) (one : ReadsOfCrate)
+    (report : CrateReport) : Type 0 where
   pub id : report.id ≡ one.krate.id
   pub reads : report.reads ≡ records_of_reads one.reads
   pub expression : report.expression ≡ expression_in (priority_heard (scanner_of_given given policy) policy one)
-  pub source : option_map source_view report.source ≡ source_in (priority_heard (scanner_of_given given policy) policy one)
+  pub source : option_map source_view report.source
+      ≡ source_in (priority_heard (scanner_of_given given policy) policy one)
   pub notes : report.notes ≡ notes_of (priority_heard (scanner_of_given given policy) policy one)
   pub verdict : IsVerdict (policy_of policy) one.krate report.expression report.verdict
 
--- The report on a crate tells the source that its turn says: of a field with the place where its manifest writes it, where that
--- counts.
+-- The report on a crate tells the source that its turn says: of a field with the place where its manifest writes it,
+-- where that counts.
 abbrev pub TellsSource : CrateTurn → CrateReport → Type 0
 TellsSource own report = report.source ≡ license_source (info_in own.turn)
 
@@ -63,11 +65,12 @@ pub record GivesVerdicts (given : CommandArguments) (hearing : RequestHearing) (
 abbrev pub verdicts_in : Report → List Verdict
 verdicts_in report = map (λ crate. crate.verdict) report.crates
 
--- The verdicts are those on what the check has looked at, turn after turn; what was found of each crate, in order, and then of
--- the policy, at the levels that are asked for; and the table that the turns have left, of what was loaded. The labels of what is
--- found on the way to an expression cut out what they say there; those of a verdict the expression and each of its terms, or the whole
--- string that the policy wrote with escapes.
-pub record TellsFindings (levels : LintLevels) (loaded : List File) (turns : List CrateTurn) (report : Report) : Type 0 where
+-- The verdicts are those on what the check has looked at, turn after turn; what was found of each crate, in order, and
+-- then of the policy, at the levels that are asked for; and the table that the turns have left, of what was loaded. The
+-- labels of what is found on the way to an expression cut out what they say there; those of a verdict the expression
+-- and each of its terms, or the whole string that the policy wrote with escapes.
+pub record TellsFindings (levels : LintLevels) (loaded : List File) (turns : List CrateTurn)
+    (report : Report) : Type 0 where
   pub are : AreVerdicts (policy_of report.policy) (all_gathered turns) (verdicts_in report)
   pub findings : report.findings ≡ packs_at levels (findings_of report.policy (all_gathered turns) (verdicts_in report))
   pub files : report.files ≡ files_behind_all loaded turns
@@ -92,7 +95,8 @@ pub record IsReport (given : CommandArguments) (hearing : RequestHearing) (repor
   pub verdicts : TellsVerdicts given hearing report
   pub own : All HasOwnReads (turns_in given hearing report.policy)
   pub sources : AllZip TellsSource (turns_in given hearing report.policy) report.crates
-  pub tells : TellsFindings given.options.levels (files_loaded given.request hearing) (turns_in given hearing report.policy) report
+  pub tells : TellsFindings given.options.levels (files_loaded given.request hearing)
+      (turns_in given hearing report.policy) report
 
 -- a report is the one that is asked for by what was read, or the check was refused before
 abbrev pub Reports : CommandArguments → TreeSeen → SinkSeen → Result Report Error → Type 0

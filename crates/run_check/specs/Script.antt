@@ -19,7 +19,8 @@ findings_text given report = printed_packs given.request.log report.files report
 
 -- The report is the one that is asked for by what was read; all that is printed of the load was written, and behind it
 -- this text.
-pub record WritesBehind (given : CommandArguments) (tree : TreeSeen) (err : SinkSeen) (report : Report) (text : List ℕ) : Type 0 where
+pub record WritesBehind (given : CommandArguments) (tree : TreeSeen) (err : SinkSeen) (report : Report)
+    (text : List ℕ) : Type 0 where
   pub hearing : RequestHearing
   pub heard : IsHeard given tree hearing
   pub is : IsReport given hearing report
@@ -36,7 +37,8 @@ pub record FrontsFindings (given : CommandArguments) (tree : TreeSeen) (err : Si
 -- so where memory was wanting, and where a write was refused, which has the sink's counts
 abbrev pub CutsFindings : CommandArguments → TreeSeen → SinkSeen → Cause → Type 0
 CutsFindings given tree err no_memory = FrontsFindings given tree err
-CutsFindings given tree err (refused_write first last) = (first ≡ err.before) × (last ≡ err.after) × Rose err.before err.after × FrontsFindings given tree err
+CutsFindings given tree err (refused_write first last) =
+    (first ≡ err.before) × (last ≡ err.after) × Rose err.before err.after × FrontsFindings given tree err
 CutsFindings given tree err _ = ⊥
 
 -- What a check on a tree wrote, all of whose request is carried: what is printed of the load, and then the findings of

@@ -30,7 +30,8 @@ checked_by levels policy licenses verdicts = record {
   findings = packs_at levels (findings_of policy (gathered_of_licenses licenses) verdicts);
 }
 
-pub record IsCheckOf (levels : LintLevels) (policy : ValidConfig) (licenses : List KrateLicense) (checked : CheckedCrates) : Type 0 where
+pub record IsCheckOf (levels : LintLevels) (policy : ValidConfig) (licenses : List KrateLicense)
+    (checked : CheckedCrates) : Type 0 where
   pub verdicts : List Verdict
   pub are : AreVerdicts (policy_of policy) (gathered_of_licenses licenses) verdicts
   pub is : checked ≡ checked_by levels policy licenses verdicts
@@ -47,9 +48,10 @@ report_with checked files = record {
 
 -- ---- over a tree
 
--- The licences of the crates that are checked were settled on the tree, from a file table on to the one that is left, and this is the
--- check of them.
-pub record IsCheckedOn (scanner : Scanner) (levels : LintLevels) (policy : ValidConfig) (tree : TreeSeen) (files last : List File) (graph : Graph) (choice : Choice) (checked : CheckedCrates) : Type 0 where
+-- The licences of the crates that are checked were settled on the tree, from a file table on to the one that is left,
+-- and this is the check of them.
+pub record IsCheckedOn (scanner : Scanner) (levels : LintLevels) (policy : ValidConfig) (tree : TreeSeen)
+    (files last : List File) (graph : Graph) (choice : Choice) (checked : CheckedCrates) : Type 0 where
   pub licenses : List KrateLicense
   pub gathered : IsGatheredOn scanner policy tree files last graph choice licenses
   pub check : IsCheckOf levels policy licenses checked

@@ -1,5 +1,6 @@
 -- What of a request for a command over crates is not carried. A command with options of its own may carry less.
-use Rattle.std.specs.Prelude.{Bool, false, true, not, ◌==◌, List, [], ◌∷◌, find, length, is_none, None, Option, option_map}
+use Rattle.std.specs.Prelude.{Bool, false, true, not, ◌==◌, List, [], ◌∷◌, find, length, is_none, None, Option}
+use Rattle.std.specs.Prelude.{option_map}
 use Rattle.std.specs.List.{list_any}
 use Rattle.graph_core.specs.selection.Choice.{is_unsupported}
 use Rattle.diag_print.specs.declared.context.LogContext.{LogContext}
@@ -29,4 +30,5 @@ no_levels = record { warn = []; allow = []; deny = [] }
 
 -- a command without options of its own: it goes by the policy as it is
 abbrev pub plain_options : LogContext → KrateContext → CommandOptions
-plain_options log context = record { unsupported = unsupported_of log context; levels = no_levels; with_flags = true; threshold = None }
+plain_options log context =
+    record { unsupported = unsupported_of log context; levels = no_levels; with_flags = true; threshold = None }

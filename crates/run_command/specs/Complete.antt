@@ -18,7 +18,8 @@ pub record AreQuiet (err out : SinkSeen) : Type 0 where
 -- ---- by what was read
 
 -- the calls of this hearing were made, and then these; nothing refuses what was read by the first ones
-pub record IsLawfulRead (given : CommandArguments) (tree : TreeSeen) (hearing : RequestHearing) (behind : List Call) (asked : PolicyAndCrates) : Type 0 where
+pub record IsLawfulRead (given : CommandArguments) (tree : TreeSeen) (hearing : RequestHearing) (behind : List Call)
+    (asked : PolicyAndCrates) : Type 0 where
   pub begun : hearing.begun ≡ tree.count_before
   pub made : MadeOn tree (calls_of given hearing ++ behind)
   pub due : HearsAllDue given hearing
@@ -27,13 +28,15 @@ pub record IsLawfulRead (given : CommandArguments) (tree : TreeSeen) (hearing : 
 -- ---- by a content, where the tree tells it
 
 -- what is read of the content, from a count of faults on, where no call fails and no memory is wanting
-pub record IsHeardOf (given : CommandArguments) (content : Content) (count : ℕ) (hearing : RequestHearing) : Type 0 where
+pub record IsHeardOf (given : CommandArguments) (content : Content) (count : ℕ)
+    (hearing : RequestHearing) : Type 0 where
   pub begun : hearing.begun ≡ count
   pub due : HearsAllDue given hearing
   pub tells : All (TellsContent content) (calls_of given hearing)
 
 -- nothing refuses what the content has, and no count of the tree rose
-pub record IsLawfulIn (given : CommandArguments) (content : Content) (tree : TreeSeen) (hearing : RequestHearing) (asked : PolicyAndCrates) : Type 0 where
+pub record IsLawfulIn (given : CommandArguments) (content : Content) (tree : TreeSeen) (hearing : RequestHearing)
+    (asked : PolicyAndCrates) : Type 0 where
   pub heard : IsHeardOf given content tree.count_before hearing
   pub asks : Asks given hearing asked
   pub still : Rose tree.count_before tree.count_after → ⊥

@@ -21,7 +21,12 @@ use Rattle.run_command.specs.Stops.{Stops}
 
 -- the options of a command all of whose request is carried
 abbrev pub options_of : PolicyUse → CommandOptions
-options_of use_of = record { unsupported = None; levels = use_of.levels.now; with_flags = use_of.with_flags; threshold = use_of.threshold }
+options_of use_of = record {
+  unsupported = None;
+  levels = use_of.levels.now;
+  with_flags = use_of.with_flags;
+  threshold = use_of.threshold;
+}
 
 -- what is read up to the crates
 abbrev pub hearing_up_to : TreeSeen → PolicyHeard → CallAnswer → RequestHearing
@@ -30,7 +35,8 @@ hearing_up_to tree heard answer = hearing_of tree.count_before heard (Some answe
 -- The calls of what was read were made, each that was due, and no other; a policy was found, and its lists are in
 -- order; the metadata tells of a graph with a root, from which the crates are chosen; the files are those of the load;
 -- and all that is reported of that was written.
-pub record HasCrates (given : CommandArguments) (tree : TreeSeen) (err : SinkSeen) (files : List File) (found : CratesFound) : Type 0 where
+pub record HasCrates (given : CommandArguments) (tree : TreeSeen) (err : SinkSeen) (files : List File)
+    (found : CratesFound) : Type 0 where
   pub heard : PolicyHeard
   pub answer : CallAnswer
   pub made : MadeOn tree (calls_of given (hearing_up_to tree heard answer))

@@ -17,7 +17,8 @@ use Rattle.run_overrides.specs.Twice.{Twice, first_twice}
 use Rattle.run_found.specs.declared.error.Error.{Error}
 use Rattle.run_found.specs.declared.error.Error.TheVariants.{OverrideTwice}
 use Rattle.run_found.specs.Finds.{HearsPolicy}
-use Rattle.run_found.specs.Found.{PolicyAndGraph, calls_with, files_loaded, graph_heard, load_told, metadata_heard, policy_found}
+use Rattle.run_found.specs.Found.{PolicyAndGraph, calls_with, files_loaded, graph_heard, load_told, metadata_heard}
+use Rattle.run_found.specs.Found.{policy_found}
 use Rattle.run_found.specs.Hearing.{RequestHearing, IsReadWhereDue, MadeOn, TreeSeen}
 use Rattle.run_found.specs.Licenses.{scanner_of_policy, turns_heard}
 use Rattle.run_found.specs.Selection.{included_in}
@@ -38,7 +39,11 @@ PutsInOrder given found policy = PutsPolicyInOrder (at_threshold given.options.t
 -- what a policy leaves out: its specs do, and its flags where these count
 abbrev pub left_by : Bool → GraphConfig → LeavesOut
 left_by with_flags graph =
-    record { exclude = graph.exclude; exclude_dev = with_flags && graph.exclude_dev; exclude_unpublished = with_flags && graph.exclude_unpublished }
+    record {
+      exclude = graph.exclude;
+      exclude_dev = with_flags && graph.exclude_dev;
+      exclude_unpublished = with_flags && graph.exclude_unpublished;
+    }
 
 -- the crates that are left out: by the words, and by the policy behind them
 abbrev pub choice_in : CommandArguments → PolicyFound → Choice
@@ -46,7 +51,8 @@ choice_in given policy = choice_asked given.request.context (left_by given.optio
 
 -- the crates that the command looks at, in the order of their ids
 abbrev pub AreSelected : CommandArguments → PolicyFound → Graph → List CrateRecord → Type 0
-AreSelected given policy graph crates = IsListOf graph (Selected graph (choice_in given policy) (included_in policy)) crates
+AreSelected given policy graph crates =
+    IsListOf graph (Selected graph (choice_in given policy) (included_in policy)) crates
 
 -- ---- step by step
 
@@ -105,4 +111,5 @@ scanner_of_given given policy = scanner_of_policy given.request.lists given.matc
 
 -- the turns of the crates, one after another, each by its own reads
 abbrev pub turns_in : CommandArguments → RequestHearing → ValidConfig → List CrateTurn
-turns_in given hearing policy = turns_heard (scanner_of_given given policy) policy (files_loaded given.request hearing) hearing.crates
+turns_in given hearing policy =
+    turns_heard (scanner_of_given given policy) policy (files_loaded given.request hearing) hearing.crates

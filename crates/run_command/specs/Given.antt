@@ -10,8 +10,9 @@ use Rattle.run_found.specs.Given.{RequestArguments, request_arguments_of}
 use Rattle.run_request.specs.declared.request.Request.{Request}
 use Rattle.run_found.specs.own_names.Given.{ListsAsked, ListsGiven, lists_asked, lists_given}
 
--- In what commands differ before they do their own: the first part of the request that is not carried, the codes and levels that are
--- asked for, whether the flags of the policy's graph leave crates out, and the least score of a text, where that is not the policy's.
+-- In what commands differ before they do their own: the first part of the request that is not carried, the codes and
+-- levels that are asked for, whether the flags of the policy's graph leave crates out, and the least score of a text,
+-- where that is not the policy's.
 pub record CommandOptions : Type 0 where
   pub unsupported : Option UnsupportedPart
   pub levels : LintLevels
@@ -24,13 +25,15 @@ pub record CommandArguments : Type 0 where
   pub match_of : List ℕ → Match
   pub options : CommandOptions
 
-abbrev pub command_arguments_of : CatalogLists → (List ℕ → Match) → LogContext → KrateContext → CommandOptions → CommandArguments
+abbrev pub command_arguments_of : CatalogLists → (List ℕ → Match) → LogContext → KrateContext → CommandOptions
+    → CommandArguments
 command_arguments_of lists match_of log context options =
     record { request = request_arguments_of lists log context; match_of = match_of; options = options }
 
 -- ---- an organisation's own names and texts
 
--- a command by the names and texts that are handed in, and where a catalogue's file and a folder of texts take their place
+-- a command by the names and texts that are handed in, and where a catalogue's file and a folder of texts take their
+-- place
 pub record CommandRequest : Type 0 where
   pub command : CommandArguments
   pub own : ListsAsked
@@ -41,9 +44,13 @@ handed_in command = lists_given command.request.lists command.match_of
 
 -- the command by other names and texts
 abbrev pub command_by : CommandArguments → ListsGiven → CommandArguments
-command_by command lists = command_arguments_of lists.lists lists.match_of command.request.log command.request.context command.options
+command_by command lists =
+    command_arguments_of lists.lists lists.match_of command.request.log command.request.context command.options
 
 -- what a request asks of a command, by what is handed in
 abbrev pub command_asked : CatalogLists → (List ℕ → Match) → Request → CommandOptions → CommandRequest
 command_asked lists match_of request options =
-    record { command = command_arguments_of lists match_of request.log_ctx request.krate_ctx options; own = lists_asked request.catalog request.store }
+    record {
+      command = command_arguments_of lists match_of request.log_ctx request.krate_ctx options;
+      own = lists_asked request.catalog request.store;
+    }

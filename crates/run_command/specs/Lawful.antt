@@ -33,10 +33,13 @@ there_call given = manifest_call given.command.request.context.manifest_path (ca
 -- the look, the calls for names and texts, and those of the command by these
 abbrev pub run_calls : CommandRequest → CommandHearing → ListsGiven → List Call
 run_calls given hearing had =
-    there_call given ∷ (lists_calls (handed_in given.command) given.own hearing.lists ++ calls_of (command_by given.command had) hearing.found)
+    there_call given
+    ∷ (lists_calls (handed_in given.command) given.own hearing.lists
+    ++ calls_of (command_by given.command had) hearing.found)
 
 -- a run on a tree came to its command so, and made these calls, and no other
-pub record IsRunHeard (given : CommandRequest) (tree : TreeSeen) (hearing : CommandHearing) (had : ListsGiven) : Type 0 where
+pub record IsRunHeard (given : CommandRequest) (tree : TreeSeen) (hearing : CommandHearing)
+    (had : ListsGiven) : Type 0 where
   pub begun : HasBegun hearing tree.count_before
   pub comes : ComesBy given hearing had
   pub made : MadeOn tree (run_calls given hearing had)
@@ -44,19 +47,22 @@ pub record IsRunHeard (given : CommandRequest) (tree : TreeSeen) (hearing : Comm
 -- ---- what is lawful
 
 -- the run comes to its command, each call that is due there is read, and it asks for these crates
-pub record IsLawful (given : CommandRequest) (hearing : CommandHearing) (had : ListsGiven) (asked : PolicyAndCrates) : Type 0 where
+pub record IsLawful (given : CommandRequest) (hearing : CommandHearing) (had : ListsGiven)
+    (asked : PolicyAndCrates) : Type 0 where
   pub comes : ComesBy given hearing had
   pub due : HearsAllDue (command_by given.command had) hearing.found
   pub asks : Asks (command_by given.command had) hearing.found asked
 
 -- by what was read: these calls were made, and then those behind them
-pub record IsLawfulRun (given : CommandRequest) (tree : TreeSeen) (hearing : CommandHearing) (had : ListsGiven) (behind : List Call) (asked : PolicyAndCrates) : Type 0 where
+pub record IsLawfulRun (given : CommandRequest) (tree : TreeSeen) (hearing : CommandHearing) (had : ListsGiven)
+    (behind : List Call) (asked : PolicyAndCrates) : Type 0 where
   pub begun : HasBegun hearing tree.count_before
   pub made : MadeOn tree (run_calls given hearing had ++ behind)
   pub lawful : IsLawful given hearing had asked
 
 -- by a content: each call is answered with what the content has
-pub record IsLawfulOver (given : CommandRequest) (content : Content) (count : ℕ) (hearing : CommandHearing) (had : ListsGiven) (asked : PolicyAndCrates) : Type 0 where
+pub record IsLawfulOver (given : CommandRequest) (content : Content) (count : ℕ) (hearing : CommandHearing)
+    (had : ListsGiven) (asked : PolicyAndCrates) : Type 0 where
   pub begun : HasBegun hearing count
   pub tells : All (TellsContent content) (run_calls given hearing had)
   pub lawful : IsLawful given hearing had asked

@@ -1,5 +1,6 @@
 -- The look at the manifest, which is the first call of a run.
-use Rattle.std.specs.Prelude.{◌≡◌, ◌≢◌, ◌⊎◌, ℕ, Bool, true, false, List, [], ◌∷◌, codes, Option, Some, None, Result, Ok, Err, if◌then◌else◌}
+use Rattle.std.specs.Prelude.{◌≡◌, ◌≢◌, ◌⊎◌, ℕ, Bool, true, false, List, [], ◌∷◌, codes, Option, Some, None, Result, Ok}
+use Rattle.std.specs.Prelude.{Err, if◌then◌else◌}
 use Rattle.std.specs.Option.{option_map_or}
 use Rattle.std.specs.Str.{bytes_eq}
 use Rattle.deny_text.specs.Path.{file_name_of}
@@ -61,7 +62,8 @@ found_by begun after path unlooked = Ok tt
 
 -- so of a path with another name, which is not looked at
 abbrev pub manifest_found : ℕ → ℕ → List ℕ → Option CallAnswer → Result (Unit {0}) Error
-manifest_found begun after path answer = if is_manifest path then found_by begun after path (look_in answer) else Err (ManifestPath path)
+manifest_found begun after path answer =
+    if is_manifest path then found_by begun after path (look_in answer) else Err (ManifestPath path)
 
 -- it was made where it was due, and something was read by it
 abbrev pub IsLookedWhereDue : Option (List ℕ) → Option CallAnswer → Type 0
@@ -73,7 +75,8 @@ IsLookedWhereDue (Some path) answer = look_in answer ≢ unlooked
 -- it is answered by what was read, or memory was wanting before the look, in it or behind it
 abbrev pub AnswersLook : ℕ → ℕ → List ℕ → Option CallAnswer → Result (Unit {0}) Error → Type 0
 AnswersLook before after path answer result =
-    (result ≡ Err Memory) ⊎ (IsLookedWhereDue (manifest_due None path) answer × (manifest_found before after path answer ≡ result))
+    (result ≡ Err Memory)
+    ⊎ (IsLookedWhereDue (manifest_due None path) answer × (manifest_found before after path answer ≡ result))
 
 -- the look was made where it is due, and no other call, and it is answered so
 pub record LooksAtManifest (path : List ℕ) (tree : TreeSeen) (result : Result (Unit {0}) Error) : Type 0 where

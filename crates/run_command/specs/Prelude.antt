@@ -27,18 +27,28 @@ from_there tree told count calls = tree_seen told tree.tells count tree.count_af
 -- memory was wanting at the look, and nothing else was called; or it is there, and an organisation's own names and
 -- texts are not found, and nothing was called behind them; or these are found, where some are asked for.
 pub data ComesTo (given : CommandRequest) (tree : TreeSeen) (answer : Result ListsGiven Error) : Type 0 where
-  unsupported : (what : UnsupportedPart) → given.command.options.unsupported ≡ Some what → answer ≡ Err (NotCarried what) → IsUntouched tree → ComesTo given tree answer
-  no_manifest : given.command.options.unsupported ≡ None → (error : Error) → LooksAtManifest given.command.request.context.manifest_path tree (Err error) → answer ≡ Err error → ComesTo given tree answer
+  unsupported : (what : UnsupportedPart) → given.command.options.unsupported ≡ Some what
+      → answer ≡ Err (NotCarried what) → IsUntouched tree → ComesTo given tree answer
+  no_manifest : given.command.options.unsupported ≡ None → (error : Error)
+      → LooksAtManifest given.command.request.context.manifest_path tree (Err error) → answer ≡ Err error
+      → ComesTo given tree answer
   no_lists : given.command.options.unsupported ≡ None → (told : Option Content) (count : ℕ) (calls : List Call)
       → LooksAtManifest given.command.request.context.manifest_path (up_to tree told count calls) (Ok tt)
-      → (error : Error) → FindsLists (handed_in given.command) given.own (from_there tree told count calls) (Err error) → answer ≡ Err error → ComesTo given tree answer
+      → (error : Error) → FindsLists (handed_in given.command) given.own (from_there tree told count calls) (Err error)
+      → answer ≡ Err error → ComesTo given tree answer
   lists_had : given.command.options.unsupported ≡ None → (told : Option Content) (count : ℕ) (calls : List Call)
       → LooksAtManifest given.command.request.context.manifest_path (up_to tree told count calls) (Ok tt)
-      → (lists : ListsGiven) → FindsLists (handed_in given.command) given.own (from_there tree told count calls) (Ok lists) → answer ≡ Ok lists → ComesTo given tree answer
+      → (lists : ListsGiven)
+      → FindsLists (handed_in given.command) given.own (from_there tree told count calls) (Ok lists) → answer ≡ Ok lists
+      → ComesTo given tree answer
 
 -- A command is refused before it begins, and nothing was written; or it has begun, by the names and texts that count,
 -- and this is so of its answer and of what the tree printed behind that.
-pub data Runs {X : Type 0} (given : CommandRequest) (IsDone : CommandArguments → TreeSeen → Result X Error → Type 0) (tree : TreeSeen) (err out : SinkSeen) (answer : Result X Error) : Type 0 where
-  stopped : (error : Error) → ComesTo given tree (Err error) → answer ≡ Err error → IsSilent err → IsSilent out → Runs given IsDone tree err out answer
-  came : (told : Option Content) (count : ℕ) (calls : List Call) (lists : ListsGiven) → ComesTo given (up_to tree told count calls) (Ok lists)
-      → IsDone (command_by given.command lists) (from_there tree told count calls) answer → Runs given IsDone tree err out answer
+pub data Runs {X : Type 0} (given : CommandRequest) (IsDone : CommandArguments → TreeSeen → Result X Error → Type 0)
+    (tree : TreeSeen) (err out : SinkSeen) (answer : Result X Error) : Type 0 where
+  stopped : (error : Error) → ComesTo given tree (Err error) → answer ≡ Err error → IsSilent err → IsSilent out
+      → Runs given IsDone tree err out answer
+  came : (told : Option Content) (count : ℕ) (calls : List Call) (lists : ListsGiven)
+      → ComesTo given (up_to tree told count calls) (Ok lists)
+      → IsDone (command_by given.command lists) (from_there tree told count calls) answer
+      → Runs given IsDone tree err out answer

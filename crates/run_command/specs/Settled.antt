@@ -23,7 +23,8 @@ use Rattle.run_command.specs.Stops.{Asks, PolicyAndCrates, Stops}
 -- What was read asks for these crates, and the licences are theirs, in the order of their ids: each look and each read
 -- that was due was made; the policy is the one that was found, its lists in order; each crate had its turn, by the
 -- answers to its own reads, which left this table of files.
-pub record IsSettled (given : CommandArguments) (hearing : RequestHearing) (policy : ValidConfig) (licenses : List KrateLicense) (last : List File) : Type 0 where
+pub record IsSettled (given : CommandArguments) (hearing : RequestHearing) (policy : ValidConfig)
+    (licenses : List KrateLicense) (last : List File) : Type 0 where
   pub due : HearsAllDue given hearing
   pub asked : PolicyAndCrates
   pub asks : Asks given hearing asked
@@ -34,7 +35,8 @@ pub record IsSettled (given : CommandArguments) (hearing : RequestHearing) (poli
 
 -- The licence of a crate is the one that has priority by what the answers to its own reads say, and its reads are kept
 -- as they were made. Of all crates this follows from their turns.
-pub record IsLicenseHeard (scanner : Scanner) (policy : ValidConfig) (one : ReadsOfCrate) (license : KrateLicense) : Type 0 where
+pub record IsLicenseHeard (scanner : Scanner) (policy : ValidConfig) (one : ReadsOfCrate)
+    (license : KrateLicense) : Type 0 where
   pub krate : krate_of license ≡ one.krate
   pub reads : license.reads ≡ records_of_reads one.reads
   pub expression : expression_of license.lic_info ≡ expression_in (priority_heard scanner policy one)
@@ -43,14 +45,16 @@ pub record IsLicenseHeard (scanner : Scanner) (policy : ValidConfig) (one : Read
 
 -- The calls of what was read were made, and no other, all that is printed of the load was written, and this is so of
 -- what was read.
-pub record HearsSo (given : CommandArguments) (tree : TreeSeen) (err : SinkSeen) (IsSo : RequestHearing → Type 0) : Type 0 where
+pub record HearsSo (given : CommandArguments) (tree : TreeSeen) (err : SinkSeen)
+    (IsSo : RequestHearing → Type 0) : Type 0 where
   pub hearing : RequestHearing
   pub heard : IsHeard given tree hearing
   pub written : Gained err.old err.new (load_heard given hearing)
   pub is_so : IsSo hearing
 
 -- this is so of a value, or the command was refused before it did its own
-abbrev pub AnswersSo : {X : Type 0} → CommandArguments → TreeSeen → SinkSeen → (X → RequestHearing → Type 0) → Result X Error → Type 0
+abbrev pub AnswersSo : {X : Type 0} → CommandArguments → TreeSeen → SinkSeen → (X → RequestHearing → Type 0)
+    → Result X Error → Type 0
 AnswersSo {X} given tree err IsSo (Ok value) = HearsSo given tree err (IsSo value)
 AnswersSo {X} given tree err IsSo (Err error) = Stops given tree err error
 
@@ -63,19 +67,24 @@ IsCutBy out text (refused_write first last) = IsRefusedIn out text first last
 IsCutBy out text _ = ⊥
 
 -- a value was found, and its text was written, or a prefix of that
-pub record WritesAll {X : Type 0} (given : CommandArguments) (tree : TreeSeen) (err out : SinkSeen) (IsSo : X → RequestHearing → Type 0) (text : X → List ℕ) (IsAnswer : X → Type 0) : Type 0 where
+pub record WritesAll {X : Type 0} (given : CommandArguments) (tree : TreeSeen) (err out : SinkSeen)
+    (IsSo : X → RequestHearing → Type 0) (text : X → List ℕ) (IsAnswer : X → Type 0) : Type 0 where
   pub value : X
   pub hears : HearsSo given tree err (IsSo value)
   pub written : Gained out.old out.new (text value)
   pub is_answer : IsAnswer value
 
-pub record CutsOut {X : Type 0} (given : CommandArguments) (tree : TreeSeen) (err out : SinkSeen) (IsSo : X → RequestHearing → Type 0) (text : X → List ℕ) (cause : Cause) : Type 0 where
+pub record CutsOut {X : Type 0} (given : CommandArguments) (tree : TreeSeen) (err out : SinkSeen)
+    (IsSo : X → RequestHearing → Type 0) (text : X → List ℕ) (cause : Cause) : Type 0 where
   pub value : X
   pub hears : HearsSo given tree err (IsSo value)
   pub cut : IsCutBy out (text value) cause
 
--- A command that answers a part of a value, once the text of the value is written to `out`; it may be refused before, and then nothing is on
--- `out`.
-abbrev pub WritesOut : {X A : Type 0} → CommandArguments → TreeSeen → SinkSeen → SinkSeen → (X → RequestHearing → Type 0) → (X → List ℕ) → (X → A) → Result A Error → Type 0
-WritesOut {X} {A} given tree err out IsSo text answer (Ok told) = WritesAll given tree err out IsSo text (λ value. told ≡ answer value)
-WritesOut {X} {A} given tree err out IsSo text answer (Err error) = (Stops given tree err error × IsSilent out) ⊎ CutsOut given tree err out IsSo text (cause_of error)
+-- A command that answers a part of a value, once the text of the value is written to `out`; it may be refused before,
+-- and then nothing is on `out`.
+abbrev pub WritesOut : {X A : Type 0} → CommandArguments → TreeSeen → SinkSeen → SinkSeen
+    → (X → RequestHearing → Type 0) → (X → List ℕ) → (X → A) → Result A Error → Type 0
+WritesOut {X} {A} given tree err out IsSo text answer (Ok told) =
+    WritesAll given tree err out IsSo text (λ value. told ≡ answer value)
+WritesOut {X} {A} given tree err out IsSo text answer (Err error) =
+    (Stops given tree err error × IsSilent out) ⊎ CutsOut given tree err out IsSo text (cause_of error)

@@ -18,13 +18,14 @@ use Rattle.run_found.specs.Licenses.{HaveTurns}
 use Rattle.run_found.specs.Policy.{GraphAt, PolicyAt}
 pub use Rattle.run_found.specs.Selection.{PolicyAndCrates}
 use Rattle.run_found.specs.Written.{SinkSeen, TextWritten}
-use Rattle.run_command.specs.Found.{AreSelected, HearsAllDue, IsHeard, PutsInOrder, calls_of, choice_in, input_of, load_heard, scanner_of_given}
+use Rattle.run_command.specs.Found.{AreSelected, HearsAllDue, IsHeard, PutsInOrder, calls_of, choice_in, input_of}
+use Rattle.run_command.specs.Found.{load_heard, scanner_of_given}
 use Rattle.run_command.specs.Given.{CommandArguments}
 
 -- ---- what is asked for
 
--- All of the request is carried, and it sets no code and no level twice; the policy and the metadata are of their forms, and ask for
--- these crates.
+-- All of the request is carried, and it sets no code and no level twice; the policy and the metadata are of their
+-- forms, and ask for these crates.
 pub record Asks (given : CommandArguments) (hearing : RequestHearing) (asked : PolicyAndCrates) : Type 0 where
   pub carried : given.options.unsupported ≡ None
   pub policy : PolicyAt given.request hearing asked.policy
@@ -37,7 +38,8 @@ pub record Asks (given : CommandArguments) (hearing : RequestHearing) (asked : P
 
 -- no root is left
 abbrev pub RefusesSelection : CommandArguments → PolicyAndGraph → Error → Type 0
-RefusesSelection given found (NoRoots base excluded unpublished) = LacksRoots found.graph (choice_in given found.policy) base excluded unpublished
+RefusesSelection given found (NoRoots base excluded unpublished) =
+    LacksRoots found.graph (choice_in given found.policy) base excluded unpublished
 RefusesSelection given found _ = ⊥
 
 -- of what is looked for, else of the selection
@@ -61,12 +63,14 @@ pub record AreSettling (given : CommandArguments) (hearing : RequestHearing) (lo
   pub ordered : PutsInOrder given found.policy policy
   pub chosen : List CrateRecord
   pub selected : AreSelected given found.policy found.graph chosen
-  pub turns : HaveTurns (scanner_of_given given policy) policy (files_loaded given.request hearing) chosen hearing.crates lost
+  pub turns : HaveTurns (scanner_of_given given policy) policy (files_loaded given.request hearing) chosen
+      hearing.crates lost
 
 -- Where a command was given up, what was read before is all that was due there, and nothing was read behind: on the way
 -- to the policy, at the read of the metadata, or among the crates, perhaps in a call that found no memory.
 pub data StopsAt (given : CommandArguments) (hearing : RequestHearing) (lost : List Call) : Type 0 where
-  at_policy : StopsBeforePolicy given.request hearing → hearing.metadata ≡ None → hearing.crates ≡ [] → lost ≡ [] → StopsAt given hearing lost
+  at_policy : StopsBeforePolicy given.request hearing → hearing.metadata ≡ None → hearing.crates ≡ [] → lost ≡ []
+      → StopsAt given hearing lost
   at_metadata : HearsPolicy given.request hearing → hearing.crates ≡ [] → lost ≡ [] → StopsAt given hearing lost
   at_crates : HearsAllDue given hearing → AreSettling given hearing lost → StopsAt given hearing lost
 

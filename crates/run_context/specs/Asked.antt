@@ -1,5 +1,6 @@
 -- What a request asks for, and the crates that it looks at.
-use Rattle.std.specs.Prelude.{◌≡◌, ◌↔◌, ◌⊎◌, ℕ, ◌||◌, Bool, false, List, ◌++◌, Option, Some, None, is_none, Result, Err, if◌then◌else◌}
+use Rattle.std.specs.Prelude.{◌≡◌, ◌↔◌, ◌⊎◌, ℕ, ◌||◌, Bool, false, List, ◌++◌, Option, Some, None, is_none, Result, Err}
+use Rattle.std.specs.Prelude.{if◌then◌else◌}
 use Rattle.std.specs.List.{filter_map, list_any}
 use Rattle.tree_core.specs.Call.{Call}
 use Rattle.run_request.specs.declared.context.KrateContext.{KrateContext}
@@ -19,7 +20,8 @@ use Rattle.graph_workspace.specs.Krates.{GathersBy}
 abbrev pub unsupported_part : KrateContext → List (List ℕ) → Option UnsupportedPart
 unsupported_part context cfg_excludes =
     if is_none context.metadata_path then Some MetadataPath
-    else (if list_any is_unsupported context.exclude || list_any is_unsupported cfg_excludes then Some ExcludeSpec else None)
+    else (if list_any is_unsupported context.exclude || list_any is_unsupported cfg_excludes then Some ExcludeSpec
+    else None)
 
 -- ---- what it selects by
 
@@ -59,11 +61,13 @@ IsRefused context cfg_excludes result =
 
 -- where a part is not carried, no call is made
 abbrev pub IsUnasked : KrateContext → List (List ℕ) → List Call → List Call → Type 0
-IsUnasked context cfg_excludes old new = (what : UnsupportedPart) → unsupported_part context cfg_excludes ≡ Some what → new ≡ old
+IsUnasked context cfg_excludes old new =
+    (what : UnsupportedPart) → unsupported_part context cfg_excludes ≡ Some what → new ≡ old
 
 -- else the file at its path is read, and the crates are gathered by what its answer says; memory may be wanting before
 -- the read
-abbrev pub IsAnswerBy : KrateContext → LeavesOut → ℕ → ℕ → List Call → List Call → Result ReachedCrates KratesError → Type 0
+abbrev pub IsAnswerBy : KrateContext → LeavesOut → ℕ → ℕ → List Call → List Call → Result ReachedCrates KratesError
+    → Type 0
 IsAnswerBy context policy before after old new result =
     (path : List ℕ) → context.metadata_path ≡ Some path → unsupported_part context policy.exclude ≡ None
     → ((result ≡ Err Memory) × (new ≡ old)) ⊎ GathersBy (choice_asked context policy) before after old new path result

@@ -19,7 +19,11 @@ use Rattle.spdx_own_names.specs.declared.error.StoreError.{StoreError}
 use Rattle.spdx_own_names.specs.declared.error.StoreError.TheVariants as stored
 use Rattle.spdx_own_names.specs.declared.error.StoreFault.TheVariants as store
 use Rattle.run_found.specs.declared.error.Error.{Error}
-use Rattle.run_found.specs.declared.error.Error.TheVariants.{Memory, NotCarried, ManifestPath, ManifestRead, CatalogRead, CatalogSyntax, StoreRead, ConfigRead, ConfigSyntax, ConfigShape, ConfigInvalid, OverrideTwice, MetadataRead, MetadataSyntax, MetadataShape, NoRoots, RecordRead, RecordSyntax, WriteFault}
+use Rattle.run_found.specs.declared.error.Error.TheVariants.{Memory, NotCarried, ManifestPath, ManifestRead}
+use Rattle.run_found.specs.declared.error.Error.TheVariants.{CatalogRead, CatalogSyntax, StoreRead, ConfigRead}
+use Rattle.run_found.specs.declared.error.Error.TheVariants.{ConfigSyntax, ConfigShape, ConfigInvalid, OverrideTwice}
+use Rattle.run_found.specs.declared.error.Error.TheVariants.{MetadataRead, MetadataSyntax, MetadataShape, NoRoots}
+use Rattle.run_found.specs.declared.error.Error.TheVariants.{RecordRead, RecordSyntax, WriteFault}
 use Rattle.run_found.specs.declared.policy.PolicyRefusal.{PolicyRefusal}
 use Rattle.run_found.specs.declared.policy.PolicyRefusal.TheVariants as refusal
 

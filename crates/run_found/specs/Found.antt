@@ -1,6 +1,7 @@
--- What is found on the way to the licences of crates: where the policy's files are, what comes of its load, the graph of the metadata;
--- which calls that takes. A command puts its own steps between.
-use Rattle.std.specs.Prelude.{◌≡◌, ◌≢◌, ◌&&◌, ℕ, Bool, List, [], ◌++◌, Option, Some, None, Result, Ok, Err, if◌then◌else◌}
+-- What is found on the way to the licences of crates: where the policy's files are, what comes of its load, the graph
+-- of the metadata; which calls that takes. A command puts its own steps between.
+use Rattle.std.specs.Prelude.{◌≡◌, ◌≢◌, ◌&&◌, ℕ, Bool, List, [], ◌++◌, Option, Some, None, Result, Ok, Err}
+use Rattle.std.specs.Prelude.{if◌then◌else◌}
 use Rattle.std.specs.Option.{option_and_then}
 use Rattle.deny_text.specs.Path.{join_of}
 use Rattle.tree_core.specs.Call.{Call}
@@ -32,7 +33,8 @@ use Rattle.run_found.specs.declared.error.Error.{Error}
 use Rattle.run_found.specs.declared.error.Error.TheVariants.{ConfigRead, NotCarried}
 use Rattle.run_found.specs.Error.{error_of_krates, error_of_load}
 use Rattle.run_found.specs.Given.{RequestArguments}
-use Rattle.run_found.specs.Hearing.{RequestHearing, LooksResult, look_failed, nowhere, at, unended, count_behind, is_ended, is_read_where_due, look_calls, looks_by, read_calls, text_by}
+use Rattle.run_found.specs.Hearing.{RequestHearing, LooksResult, look_failed, nowhere, at, unended, count_behind}
+use Rattle.run_found.specs.Hearing.{is_ended, is_read_where_due, look_calls, looks_by, read_calls, text_by}
 use Rattle.run_found.specs.Steps.{◌>>=◌, unless_refused}
 
 -- ---- where the policy's files are
@@ -75,10 +77,12 @@ abbrev pub paths_looked : RequestArguments → RequestHearing → List (List ℕ
 paths_looked given hearing = looked_behind given.context.manifest_path (config_in given hearing)
 
 abbrev pub count_looked : RequestArguments → RequestHearing → ℕ
-count_looked given hearing = faults_after (count_sought given hearing) (look_calls (paths_looked given hearing) hearing.looks)
+count_looked given hearing =
+    faults_after (count_sought given hearing) (look_calls (paths_looked given hearing) hearing.looks)
 
 abbrev pub exceptions_in : RequestArguments → RequestHearing → Result (Option (List ℕ)) Error
-exceptions_in given hearing = path_by hearing.begun (count_looked given hearing) (looks_by (paths_looked given hearing) hearing.looks)
+exceptions_in given hearing =
+    path_by hearing.begun (count_looked given hearing) (looks_by (paths_looked given hearing) hearing.looks)
 
 -- where the two files are, or the failed look
 abbrev pub paths_found : RequestArguments → RequestHearing → Result PolicyPaths Error
@@ -138,7 +142,8 @@ graph_heard heard = or_krates_error (graph_in heard)
 
 -- the policy, where no look failed
 abbrev pub policy_due : RequestArguments → RequestHearing → Option (List ℕ)
-policy_due given hearing = option_and_then (λ (paths : PolicyPaths). paths.policy) (unless_refused (paths_found given hearing))
+policy_due given hearing =
+    option_and_then (λ (paths : PolicyPaths). paths.policy) (unless_refused (paths_found given hearing))
 
 -- a file that is found by the path is the policy, and is not read for a second time
 abbrev pub unless_known : Option ℕ → List ℕ → Option (List ℕ)
@@ -155,14 +160,17 @@ due_behind files path (Ok root) = due_at files path
 due_behind files path (Err refused) = None
 
 abbrev pub due_by_text : CatalogLists → PolicyPaths → Result ConfigText ConfigError → Option (List ℕ)
-due_by_text lists paths (Ok text) = due_behind (with_policy [] paths text) paths.exceptions (config_of_text lists text.text)
+due_by_text lists paths (Ok text) =
+    due_behind (with_policy [] paths text) paths.exceptions (config_of_text lists text.text)
 due_by_text lists paths (Err refused) = None
 
 abbrev pub exceptions_due : RequestArguments → RequestHearing → Option (List ℕ)
 exceptions_due given hearing =
-    option_and_then (λ paths. due_by_text given.lists paths (config_text_of (load_heard given hearing).policy)) (unless_refused (paths_found given hearing))
+    option_and_then (λ paths. due_by_text given.lists paths (config_text_of (load_heard given hearing).policy))
+    (unless_refused (paths_found given hearing))
 
--- The calls on the way to the policy, in order: the looks; the policy and the exceptions file, each where it is due and was read.
+-- The calls on the way to the policy, in order: the looks; the policy and the exceptions file, each where it is due and
+-- was read.
 abbrev pub policy_calls : RequestArguments → RequestHearing → List Call
 policy_calls given hearing =
     look_calls (paths_sought given) hearing.sought
@@ -170,10 +178,11 @@ policy_calls given hearing =
     ++ read_calls (policy_due given hearing) hearing.policy
     ++ read_calls (exceptions_due given hearing) hearing.exceptions
 
--- All calls: these, then the metadata, where it is due and was read, and crate after crate its reads. Where the metadata is due a
--- command says.
+-- All calls: these, then the metadata, where it is due and was read, and crate after crate its reads. Where the
+-- metadata is due a command says.
 abbrev pub calls_with : RequestArguments → RequestHearing → Option (List ℕ) → List Call
-calls_with given hearing metadata = policy_calls given hearing ++ read_calls metadata hearing.metadata ++ calls_of_all hearing.crates
+calls_with given hearing metadata =
+    policy_calls given hearing ++ read_calls metadata hearing.metadata ++ calls_of_all hearing.crates
 
 -- all looks for a policy were made that were due
 abbrev pub SoughtEnds : RequestArguments → RequestHearing → Type 0
@@ -203,7 +212,8 @@ abbrev pub is_load_heard : RequestArguments → RequestHearing → Bool
 is_load_heard given hearing =
     is_ended (looks_by (paths_sought given) hearing.sought)
     && (is_ended (looks_by (paths_looked given hearing) hearing.looks)
-    && (is_read_where_due (policy_due given hearing) hearing.policy && is_read_where_due (exceptions_due given hearing) hearing.exceptions))
+    && (is_read_where_due (policy_due given hearing) hearing.policy
+    && is_read_where_due (exceptions_due given hearing) hearing.exceptions))
 
 -- What is printed of a load by what was read. Nothing is reported of a policy or an exceptions file that was not read
 -- where it was due.

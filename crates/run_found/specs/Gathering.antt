@@ -1,5 +1,5 @@
--- What is answered between a policy and the licences of its crates: what the metadata tells, which crates there are, and where memory
--- was wanting.
+-- What is answered between a policy and the licences of its crates: what the metadata tells, which crates there are,
+-- and where memory was wanting.
 use Rattle.std.specs.Prelude.{◌≡◌, ℕ, List, [], ◌∷◌, Option, Some, Result, Ok, Err}
 use Rattle.tree_core.specs.Call.{CallAnswer}
 use Rattle.tree_core.specs.Trace.{fault_behind}
@@ -14,14 +14,16 @@ use Rattle.graph_workspace.specs.declared.error.KratesError.TheVariants as krate
 use Rattle.run_found.specs.Hearing.{MadeOn, TreeSeen, read_calls}
 
 -- the metadata that was read tells of this graph, and a root of it is left
-pub record TellsGraph (choice : Choice) (tree : TreeSeen) (begun : ℕ) (answer : CallAnswer) (graph : Graph) : Type 0 where
+pub record TellsGraph (choice : Choice) (tree : TreeSeen) (begun : ℕ) (answer : CallAnswer)
+    (graph : Graph) : Type 0 where
   pub heard : Result (List ℕ) ReadFault
   pub hears : text_answered begun (fault_behind tree.count_before answer) answer ≡ Some heard
   pub tells : graph_in heard ≡ Ok graph
   pub rooted : HasRoot graph choice
 
 -- why there are no crates, by what was read of the metadata's file, which was the one call
-pub record HasNoCrates (choice : Choice) (tree : TreeSeen) (begun : ℕ) (path : List ℕ) (error : KratesError) : Type 0 where
+pub record HasNoCrates (choice : Choice) (tree : TreeSeen) (begun : ℕ) (path : List ℕ)
+    (error : KratesError) : Type 0 where
   pub answer : CallAnswer
   pub heard : Result (List ℕ) ReadFault
   pub made : MadeOn tree (read_of path answer ∷ [])

@@ -1,5 +1,6 @@
 -- What is read on the way to the licences of crates, by what each call was answered.
-use Rattle.std.specs.Prelude.{◌≡◌, ℕ, Bool, true, false, List, [], ◌∷◌, map, is_some, Option, Some, None, unwrap_or, Result, Err}
+use Rattle.std.specs.Prelude.{◌≡◌, ℕ, Bool, true, false, List, [], ◌∷◌, map, is_some, Option, Some, None, unwrap_or}
+use Rattle.std.specs.Prelude.{Result, Err}
 use Rattle.tree_core.specs.Call as call
 use Rattle.tree_core.specs.Call.{CallAnswer, Call}
 use Rattle.tree_core.specs.Content.{Content}
@@ -12,9 +13,9 @@ use Rattle.tree_core.specs.declared.texts.fault.ReadFault.TheVariants.{Absent}
 use Rattle.tree_core.specs.texts.Looked.{look_of}
 use Rattle.gather_core.specs.Calls.{ReadsOfCrate}
 
--- The tree's count of faults when the run began, and what its calls were answered: the looks for a policy, path after path, where
--- none is given; those for an exceptions file; the reads of the policy, of the exceptions file and of the metadata, each where it
--- was made; and of each crate, in order, the reads of its files.
+-- The tree's count of faults when the run began, and what its calls were answered: the looks for a policy, path after
+-- path, where none is given; those for an exceptions file; the reads of the policy, of the exceptions file and of the
+-- metadata, each where it was made; and of each crate, in order, the reads of its files.
 pub record RequestHearing : Type 0 where
   pub begun : ℕ
   pub sought : List CallAnswer
@@ -35,11 +36,19 @@ pub record TreeSeen : Type 0 where
 
 abbrev pub tree_seen : Option Content → Option Content → ℕ → ℕ → List Call → List Call → TreeSeen
 tree_seen told tells before after old new =
-    record { told = told; tells = tells; count_before = before; count_after = after; calls_before = old; calls_after = new }
+    record {
+      told = told;
+      tells = tells;
+      count_before = before;
+      count_after = after;
+      calls_before = old;
+      calls_after = new;
+    }
 
 -- the same from one state of a tree to another one, by what it tells of its content, its count of faults and its calls
 abbrev pub seen_between : {A : Type 0} → (A → Option Content) → (A → ℕ) → (A → List Call) → A → A → TreeSeen
-seen_between {A} content count calls old new = tree_seen (content old) (content new) (count old) (count new) (calls old) (calls new)
+seen_between {A} content count calls old new =
+    tree_seen (content old) (content new) (count old) (count new) (calls old) (calls new)
 
 -- calls were made on it, and nothing else came of it
 abbrev pub HasMade : TreeSeen → Type 0
@@ -47,7 +56,8 @@ HasMade tree = MadeSome tree.told tree.tells tree.count_before tree.count_after 
 
 -- these calls were made on it, and no other
 abbrev pub MadeOn : TreeSeen → List Call → Type 0
-MadeOn tree calls = Made tree.told tree.tells tree.count_before tree.count_after tree.calls_before tree.calls_after calls
+MadeOn tree calls =
+    Made tree.told tree.tells tree.count_before tree.count_after tree.calls_before tree.calls_after calls
 
 abbrev pub crates_heard : RequestHearing → List CrateRecord
 crates_heard hearing = map (λ (one : ReadsOfCrate). one.krate) hearing.crates

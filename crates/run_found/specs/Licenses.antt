@@ -20,7 +20,8 @@ use Rattle.gather_license.specs.Clarification.{ClarificationView}
 use Rattle.gather_license.specs.Priority.{LicenseAnswer, folder_of, is_nothing, priority_of, records_of}
 use Rattle.diag_core.specs.File.{File}
 use Rattle.policy_core.specs.declared.valid.policy.ValidConfig.{ValidConfig}
-use Rattle.gather_core.specs.Calls.{AreTurnsBy, ReadsOfCrate, CrateTurn, HasOwnReads, calls_of_all, files_behind_all, reads_of_all, turn_by, turns_of}
+use Rattle.gather_core.specs.Calls.{AreTurnsBy, ReadsOfCrate, CrateTurn, HasOwnReads, calls_of_all, files_behind_all}
+use Rattle.gather_core.specs.Calls.{reads_of_all, turn_by, turns_of}
 use Rattle.gather_core.specs.Entries.{clarifications_of, entries_of}
 use Rattle.gather_core.specs.Gathered.{include_of, krate_of, threshold_of}
 use Rattle.gather_core.specs.Turns.{asks_manifest, in_order, records_in}
@@ -29,7 +30,8 @@ use Rattle.run_found.specs.Hearing.{MadeOn, TreeSeen}
 
 -- What texts are identified by: the catalogue, the identifier, and the least score that the policy asks for.
 abbrev pub scanner_of_policy : CatalogLists → (List ℕ → Match) → ValidConfig → Scanner
-scanner_of_policy lists match_of policy = record { lists = lists; match_of = match_of; threshold = threshold_of policy.confidence_threshold }
+scanner_of_policy lists match_of policy =
+    record { lists = lists; match_of = match_of; threshold = threshold_of policy.confidence_threshold }
 
 -- ---- one crate
 
@@ -44,7 +46,8 @@ abbrev pub expression_in : Option LicenseAnswer → Option ExpressionView
 expression_in answer = option_map (λ own. own.expression) answer
 
 -- the read of a crate's manifest, which is asked for where no clarification holds and the field is not null
-pub record IsManifestRead (clarifications : List ClarificationView) (krate : CrateRecord) (known_reads : FolderReads) (read : ReadRecord) : Type 0 where
+pub record IsManifestRead (clarifications : List ClarificationView) (krate : CrateRecord) (known_reads : FolderReads)
+    (read : ReadRecord) : Type 0 where
   pub asked : asks_manifest clarifications krate known_reads ≡ true
   pub kind : read.kind ≡ Manifest
   pub path : read.path ≡ krate.manifest_path
@@ -53,7 +56,8 @@ pub record IsManifestRead (clarifications : List ClarificationView) (krate : Cra
 -- perhaps the one of its manifest.
 pub record ReadsItsFiles (scanner : Scanner) (policy : ValidConfig) (one : ReadsOfCrate) : Type 0 where
   pub manifest : Option ReadRecord
-  pub of_manifest : IfSome manifest (IsManifestRead (clarifications_of one.krate (entries_of policy)) one.krate (known_reads_by one.reads))
+  pub of_manifest : IfSome manifest
+      (IsManifestRead (clarifications_of one.krate (entries_of policy)) one.krate (known_reads_by one.reads))
   pub are : records_of_reads one.reads
       ≡ in_order (is_nothing (clarifications_of one.krate (entries_of policy))) manifest
       (records_of scanner (clarifications_of one.krate (entries_of policy)) one.krate (known_reads_by one.reads))
@@ -66,34 +70,40 @@ turns_heard scanner policy files crates = turns_of scanner policy.file_id (entri
 
 -- ---- over a tree
 
--- The licences of the crates that a choice selects, which these reads settled, turn after turn from a file table on to the one that is
--- left: the calls of these reads were made on the tree, and no other.
-pub record IsGatheredOn (scanner : Scanner) (policy : ValidConfig) (tree : TreeSeen) (files last : List File) (graph : Graph) (choice : Choice) (licenses : List KrateLicense) : Type 0 where
+-- The licences of the crates that a choice selects, which these reads settled, turn after turn from a file table on to
+-- the one that is left: the calls of these reads were made on the tree, and no other.
+pub record IsGatheredOn (scanner : Scanner) (policy : ValidConfig) (tree : TreeSeen) (files last : List File)
+    (graph : Graph) (choice : Choice) (licenses : List KrateLicense) : Type 0 where
   pub crates : List ReadsOfCrate
   pub made : MadeOn tree (calls_of_all crates)
   pub records : AreReads tree.count_before (reads_of_all crates)
   pub selected : IsListOf graph (Selected graph choice (include_of policy)) (map krate_of licenses)
   pub turns : AreTurnsBy files (turns_heard scanner policy files crates) licenses last
 
--- The turn of one more crate was begun: its reads, and the call that found no memory, are the first ones of those that its turn
--- asks for.
-pub record IsTurnBegun (scanner : Scanner) (policy : ValidConfig) (files : List File) (earlier crates : List ReadsOfCrate) (lost : List Call) : Type 0 where
+-- The turn of one more crate was begun: its reads, and the call that found no memory, are the first ones of those that
+-- its turn asks for.
+pub record IsTurnBegun (scanner : Scanner) (policy : ValidConfig) (files : List File)
+    (earlier crates : List ReadsOfCrate) (lost : List Call) : Type 0 where
   pub one : ReadsOfCrate
   pub next : Option ReadRecord
   pub crates_are : crates ≡ earlier ++ one ∷ []
   pub lost_is : lost ≡ call_lost (folder_of one.krate) next
   pub front : IsFront (records_of_reads one.reads ++ option_to_list next)
-      (records_in (turn_by scanner policy.file_id (entries_of policy) (files_behind_all files (turns_heard scanner policy files earlier)) one).turn)
+      (records_in (turn_by scanner policy.file_id (entries_of policy)
+      (files_behind_all files (turns_heard scanner policy files earlier)) one).turn)
 
--- The first ones of these crates had their turns, from a file table on, each by its own reads, and perhaps one more was begun.
-pub record HaveTurns (scanner : Scanner) (policy : ValidConfig) (files : List File) (checked : List CrateRecord) (crates : List ReadsOfCrate) (lost : List Call) : Type 0 where
+-- The first ones of these crates had their turns, from a file table on, each by its own reads, and perhaps one more was
+-- begun.
+pub record HaveTurns (scanner : Scanner) (policy : ValidConfig) (files : List File) (checked : List CrateRecord)
+    (crates : List ReadsOfCrate) (lost : List Call) : Type 0 where
   pub earlier : List ReadsOfCrate
   pub own : All HasOwnReads (turns_heard scanner policy files earlier)
   pub ends : ((crates ≡ earlier) × (lost ≡ [])) ⊎ IsTurnBegun scanner policy files earlier crates lost
   pub among : IsFront (map (λ (one : ReadsOfCrate). one.krate) crates) checked
 
 -- memory was wanting, and the first ones of the crates that a choice selects had their turns
-pub record IsGatherCut (scanner : Scanner) (policy : ValidConfig) (tree : TreeSeen) (files : List File) (graph : Graph) (choice : Choice) : Type 0 where
+pub record IsGatherCut (scanner : Scanner) (policy : ValidConfig) (tree : TreeSeen) (files : List File) (graph : Graph)
+    (choice : Choice) : Type 0 where
   pub crates : List ReadsOfCrate
   pub lost : List Call
   pub made : MadeOn tree (calls_of_all crates ++ lost)

@@ -32,7 +32,8 @@ IsTextOf heard text = config_text_of heard ≡ Ok text
 
 -- An exceptions file that is there: its path is another one than the policy's, it is a text, the text has a value, and
 -- nothing is wrong with the shape of the value.
-pub record ExceptionsFileAt (lists : CatalogLists) (files : List File) (path : List ℕ) (heard : Result (List ℕ) ReadFault) (read : ExceptionsRead) : Type 0 where
+pub record ExceptionsFileAt (lists : CatalogLists) (files : List File) (path : List ℕ)
+    (heard : Result (List ℕ) ReadFault) (read : ExceptionsRead) : Type 0 where
   pub apart : file_id_at files path ≡ None
   pub text : List ℕ
   pub text_heard : heard ≡ Ok text
@@ -42,14 +43,16 @@ pub record ExceptionsFileAt (lists : CatalogLists) (files : List File) (path : L
   pub is : read ≡ value toml
 
 -- there is no exceptions file, or there is one
-abbrev pub ExceptionsAt : CatalogLists → List File → Option (List ℕ) → Result (List ℕ) ReadFault → ExceptionsRead → Type 0
+abbrev pub ExceptionsAt : CatalogLists → List File → Option (List ℕ) → Result (List ℕ) ReadFault → ExceptionsRead
+    → Type 0
 ExceptionsAt lists files None heard read = read ≡ no_file
 ExceptionsAt lists files (Some path) heard read = ExceptionsFileAt lists files path heard read
 
 -- What is read of the two files is a policy: the policy's text has a value, the value has the shape of a policy, which
 -- leaves out no crate by a spec that is not carried; an exceptions file that is there is one; and nothing that is
 -- reported of the two is an error.
-pub record IsPolicyAt (lists : CatalogLists) (paths : PolicyPaths) (heard : LoadHeard) (found : PolicyFound) : Type 0 where
+pub record IsPolicyAt (lists : CatalogLists) (paths : PolicyPaths) (heard : LoadHeard)
+    (found : PolicyFound) : Type 0 where
   pub text : ConfigText
   pub text_of : IsTextOf heard.policy text
   pub toml : Toml
@@ -59,7 +62,9 @@ pub record IsPolicyAt (lists : CatalogLists) (paths : PolicyPaths) (heard : Load
   pub carried : list_any is_unsupported root.graph.exclude ≡ false
   pub read : ExceptionsRead
   pub exceptions : ExceptionsAt lists (policy_file paths.policy text.text ∷ []) paths.exceptions heard.exceptions read
-  pub is : found ≡ policy_found lists (record { policy = 0; exceptions = 1 }) (absence_findings text.is_there paths.policy) read root
+  pub is : found
+      ≡ policy_found lists (record { policy = 0; exceptions = 1 }) (absence_findings text.is_there paths.policy)
+      read root
   pub valid : list_any is_error found.findings ≡ false
 
 -- ---- over a hearing
@@ -70,7 +75,8 @@ pub record PolicyAt (given : RequestArguments) (hearing : RequestHearing) (polic
   pub config_found : config_in given hearing ≡ Ok config
   pub exceptions : Option (List ℕ)
   pub exceptions_found : exceptions_in given hearing ≡ Ok exceptions
-  pub is : IsPolicyAt given.lists (record { policy = config; exceptions = exceptions }) (load_heard given hearing) policy
+  pub is : IsPolicyAt given.lists (record { policy = config; exceptions = exceptions })
+      (load_heard given hearing) policy
 
 -- the metadata's bytes: the file is a text, and as metadata it tells of this graph
 pub record GraphAt (given : RequestArguments) (hearing : RequestHearing) (graph : Graph) : Type 0 where

@@ -20,7 +20,8 @@ pub record PolicyAndCrates : Type 0 where
 
 -- what a policy leaves out
 abbrev pub left_by : GraphConfig → LeavesOut
-left_by graph = record { exclude = graph.exclude; exclude_dev = graph.exclude_dev; exclude_unpublished = graph.exclude_unpublished }
+left_by graph =
+    record { exclude = graph.exclude; exclude_dev = graph.exclude_dev; exclude_unpublished = graph.exclude_unpublished }
 
 -- the crates that are left out: by the words, and by the policy behind them
 abbrev pub choice_in : RequestArguments → PolicyFound → Choice
@@ -32,4 +33,5 @@ included_in policy = include_of policy.licenses
 
 -- the crates that are checked, in the order of their ids
 abbrev pub AreSelected : RequestArguments → PolicyFound → Graph → List CrateRecord → Type 0
-AreSelected given policy graph crates = IsListOf graph (Selected graph (choice_in given policy) (included_in policy)) crates
+AreSelected given policy graph crates =
+    IsListOf graph (Selected graph (choice_in given policy) (included_in policy)) crates

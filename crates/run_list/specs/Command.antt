@@ -27,9 +27,11 @@ reads_in crates = flat_map (λ crate. crate.reads) crates
 abbrev pub FailedReadsRise : TreeSeen → List CrateRead → Type 0
 FailedReadsRise tree crates = RiseInOrder tree.count_before (reads_in crates) tree.count_after
 
-pub record IsListRun (given : ListArguments) (tree : TreeSeen) (err out : SinkSeen) (result : Result (List CrateRead) Error) : Type 0 where
+pub record IsListRun (given : ListArguments) (tree : TreeSeen) (err out : SinkSeen)
+    (result : Result (List CrateRead) Error) : Type 0 where
   -- Where a part of the request is not carried, that is the refusal; no call is made, and nothing is written.
-  pub unsupported : (what : UnsupportedPart) → given.command.options.unsupported ≡ Some what → (result ≡ Err (NotCarried what)) × IsUntouched tree × IsSilent err × IsSilent out
+  pub unsupported : (what : UnsupportedPart) → given.command.options.unsupported ≡ Some what
+      → (result ≡ Err (NotCarried what)) × IsUntouched tree × IsSilent err × IsSilent out
   -- Else the listing that is asked for by what was read is written, whatever the tree tells of its content, and nothing
   -- else was read; each refusal is the first one, by its cause.
   pub lists : given.command.options.unsupported ≡ None → Lists given tree err out result
@@ -40,6 +42,8 @@ pub record IsListRun (given : ListArguments) (tree : TreeSeen) (err out : SinkSe
   pub later : err.before ≤ err.after
   pub out_later : out.before ≤ out.after
   -- Lawful input without a fault is listed, or memory was wanting: by what was read.
-  pub complete_read : (hearing : RequestHearing) (behind : List Call) (asked : PolicyAndCrates) → IsLawfulRead given.command tree hearing behind asked → AreQuiet err out → EndsLawful result
+  pub complete_read : (hearing : RequestHearing) (behind : List Call) (asked : PolicyAndCrates)
+      → IsLawfulRead given.command tree hearing behind asked → AreQuiet err out → EndsLawful result
   -- The same by the content, where the tree tells it.
-  pub complete : ForSome tree.told (λ content. (hearing : RequestHearing) (asked : PolicyAndCrates) → IsLawfulIn given.command content tree hearing asked → AreQuiet err out → EndsLawful result)
+  pub complete : ForSome tree.told (λ content. (hearing : RequestHearing) (asked : PolicyAndCrates)
+      → IsLawfulIn given.command content tree hearing asked → AreQuiet err out → EndsLawful result)

@@ -11,7 +11,12 @@ use Rattle.run_command.specs.Given.{CommandArguments, CommandOptions, command_ar
 -- The flags of the policy's graph leave no crate out, and the least score of a text is the one that is asked for.
 abbrev pub list_options : LogContext → ListArgs → KrateContext → CommandOptions
 list_options log args context =
-    record { unsupported = unsupported_of log context; levels = no_levels; with_flags = false; threshold = Some args.threshold }
+    record {
+      unsupported = unsupported_of log context;
+      levels = no_levels;
+      with_flags = false;
+      threshold = Some args.threshold;
+    }
 
 -- what each command is given, and the options of `list`
 pub record ListArguments : Type 0 where

@@ -34,4 +34,5 @@ FindsListing given tree err answer = AnswersSo given.command tree err (IsListing
 -- The listing is written to `out`, and the reads of its crates are answered.
 abbrev pub Lists : ListArguments → TreeSeen → SinkSeen → SinkSeen → Result (List CrateRead) Error → Type 0
 Lists given tree err out answer =
-    WritesOut given.command tree err out (IsListing given) (λ listing. listing_text given listing.crates) (λ listing. listing.reads) answer
+    WritesOut given.command tree err out (IsListing given) (λ listing. listing_text given listing.crates)
+    (λ listing. listing.reads) answer

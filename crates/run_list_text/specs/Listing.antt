@@ -1,5 +1,6 @@
 -- The text of a listing, in each of its forms.
-use Rattle.std.specs.Prelude.{ℕ, ◌==◌, Bool, List, [], ◌∷◌, ◌++◌, length, map, codes, decimal, Some, None, if◌then◌else◌}
+use Rattle.std.specs.Prelude.{ℕ, ◌==◌, Bool, List, [], ◌∷◌, ◌++◌, length, map, codes, decimal, Some, None}
+use Rattle.std.specs.Prelude.{if◌then◌else◌}
 use Rattle.std.specs.List.{flat_map}
 use Rattle.serde_json.specs.Data.{Data, string, array, object, item, no_items, member, no_members}
 use Rattle.serde_json.specs.View.{items_of}
@@ -61,7 +62,8 @@ abbrev pub human_by_crate : List ListedCrate → List ℕ
 human_by_crate crates = flat_map crate_line crates
 
 abbrev pub human_by_license : List ListedCrate → List ℕ
-human_by_license crates = flat_map (license_line crates) (all_licenses crates) ++ unlicensed_line (names_under None crates)
+human_by_license crates =
+    flat_map (license_line crates) (all_licenses crates) ++ unlicensed_line (names_under None crates)
 
 -- ---- columns with tabs between
 
@@ -76,7 +78,8 @@ abbrev pub marks : List (List ℕ) → List (List ℕ) → List ℕ
 marks columns licenses = flat_map (λ column. mark_if (has_text licenses column)) columns
 
 abbrev pub crate_row : List (List ℕ) → ListedCrate → List ℕ
-crate_row columns listed = plain_text listed.name ++ (marks columns listed.licenses ++ (mark_if (has_none listed.licenses) ++ codes "\n"))
+crate_row columns listed =
+    plain_text listed.name ++ (marks columns listed.licenses ++ (mark_if (has_none listed.licenses) ++ codes "\n"))
 
 abbrev pub table_of : List ListedCrate → List ℕ
 table_of crates = head_row (all_licenses crates) ++ flat_map (crate_row (all_licenses crates)) crates
@@ -87,10 +90,12 @@ abbrev pub texts_data : List (List ℕ) → Data
 texts_data texts = array (items_of (map string texts))
 
 abbrev pub license_data : List ListedCrate → List ℕ → Data
-license_data crates license = array (item (string license) (item (texts_data (names_under (Some license) crates)) no_items))
+license_data crates license =
+    array (item (string license) (item (texts_data (names_under (Some license) crates)) no_items))
 
 abbrev pub crate_data : ListedCrate → Data
-crate_data listed = object (member (codes "crate") (string listed.name) (member (codes "licenses") (texts_data listed.licenses) no_members))
+crate_data listed = object
+    (member (codes "crate") (string listed.name) (member (codes "licenses") (texts_data listed.licenses) no_members))
 
 abbrev pub data_by_crate : List ListedCrate → Data
 data_by_crate crates = array (items_of (map crate_data crates))

@@ -19,7 +19,8 @@ rest_if false licenses = licenses
 -- each column is marked where it is the first of the licences that are left, which is then used up
 abbrev pub column_marks : List (List ℕ) → List (List ℕ) → List ℕ
 column_marks [] licenses = []
-column_marks (column ∷ columns) licenses = mark_if (is_next licenses column) ++ column_marks columns (rest_if (is_next licenses column) licenses)
+column_marks (column ∷ columns) licenses =
+    mark_if (is_next licenses column) ++ column_marks columns (rest_if (is_next licenses column) licenses)
 
 -- the columns are in order, and so are the licences, each of which has a column
 pub record HasColumns (columns licenses : List (List ℕ)) : Type 0 where

@@ -1,5 +1,6 @@
 -- What words say of codes and levels, and the levels of findings that they ask for.
-use Rattle.std.specs.Prelude.{ℕ, Bool, false, List, [], ◌∷◌, ◌++◌, map, bytes_eq, Option, Some, None, unwrap_or, if◌then◌else◌}
+use Rattle.std.specs.Prelude.{ℕ, Bool, false, List, [], ◌∷◌, ◌++◌, map, bytes_eq, Option, Some, None, unwrap_or}
+use Rattle.std.specs.Prelude.{if◌then◌else◌}
 use Rattle.diag_core.specs.Code.{code_name}
 use Rattle.diag_core.specs.Severity.{is_same_severity}
 use Rattle.diag_core.specs.declared.severity.Severity.{Severity}
@@ -13,7 +14,8 @@ use Rattle.run_overrides.specs.declared.items.LevelItem.{LevelItem}
 abbrev pub set_to : Severity → CodeOrLevel → LevelItem
 set_to severity subject = record { subject = subject; severity = severity }
 
--- In order, what the words allow, which is set to a note; what they warn of, to a warning; and what they deny, to an error.
+-- In order, what the words allow, which is set to a note; what they warn of, to a warning; and what they deny, to an
+-- error.
 abbrev pub items_of : LintLevels → List LevelItem
 items_of levels = map (set_to Note) levels.allow ++ map (set_to Warning) levels.warn ++ map (set_to Error) levels.deny
 
@@ -49,7 +51,7 @@ by_code items code severity = unwrap_or (asked_of (is_code code) items) severity
 abbrev pub by_level : List LevelItem → Severity → Severity
 by_level items severity = unwrap_or (asked_of (is_level severity) items) severity
 
--- The level that words ask for, of a finding with a code: what the code is set to, or else the finding's own severity; and then,
--- once, what the level that this is is set to.
+-- The level that words ask for, of a finding with a code: what the code is set to, or else the finding's own severity;
+-- and then, once, what the level that this is is set to.
 abbrev pub level_asked : LintLevels → List ℕ → Severity → Severity
 level_asked levels code severity = by_level (items_of levels) (by_code (items_of levels) code severity)

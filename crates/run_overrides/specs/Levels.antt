@@ -25,7 +25,8 @@ packs_at levels packs = map (pack_at levels) packs
 
 -- the overrides put each finding of each pack at the level that is asked for
 abbrev pub PutAtLevels : LintLevels → DiagnosticOverrides → Type 0
-PutAtLevels levels overrides = (packs : List PackOf) → map (pack_overridden (Some overrides)) packs ≡ packs_at levels packs
+PutAtLevels levels overrides =
+    (packs : List PackOf) → map (pack_overridden (Some overrides)) packs ≡ packs_at levels packs
 
 -- nothing is allowed, warned of or denied
 pub record HasNoOverrides (levels : LintLevels) : Type 0 where

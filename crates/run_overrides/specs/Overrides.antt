@@ -16,7 +16,8 @@ use Rattle.run_overrides.specs.Twice.{Twice}
 
 -- each finding with a code comes out at the level that the words ask for
 abbrev pub AreAsked : LintLevels → DiagnosticOverrides → Type 0
-AreAsked levels overrides = (code : List ℕ) (severity : Severity) → level_of overrides code severity ≡ level_asked levels code severity
+AreAsked levels overrides =
+    (code : List ℕ) (severity : Severity) → level_of overrides code severity ≡ level_asked levels code severity
 
 abbrev pub HaveOtherInputs : LevelPair → LevelPair → Type 0
 HaveOtherInputs one other = is_same_severity one.input other.input ≡ false
@@ -29,4 +30,5 @@ pub record StandOnce (overrides : DiagnosticOverrides) : Type 0 where
 -- a refusal tells the first that is there twice, or it comes for want of memory
 abbrev pub IsFirstTold : Option Twice → OverrideError → Type 0
 IsFirstTold twice Memory = ⊤
-IsFirstTold twice (OverrideTwice name first second) = twice ≡ Some (record { name = name; first = first; second = second })
+IsFirstTold twice (OverrideTwice name first second) =
+    twice ≡ Some (record { name = name; first = first; second = second })

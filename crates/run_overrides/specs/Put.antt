@@ -47,7 +47,8 @@ IsAgain before name severity (OverrideTwice told first second) = (first ≡ befo
 -- the same, where it was set before
 abbrev pub IsTold : Option Severity → List ℕ → Severity → OverrideError → Type 0
 IsTold before name severity Memory = ⊤
-IsTold before name severity (OverrideTwice told first second) = (before ≡ Some first) × (told ≡ name) × (second ≡ severity)
+IsTold before name severity (OverrideTwice told first second) =
+    (before ≡ Some first) × (told ≡ name) × (second ≡ severity)
 
 -- the codes and levels of these items are set to what they say, and nothing else is set
 pub record AreSet (items : List LevelItem) (overrides : DiagnosticOverrides) : Type 0 where

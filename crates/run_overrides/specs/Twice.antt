@@ -36,7 +36,8 @@ twice_of item first = record { name = name_of item.subject; first = first; secon
 abbrev pub twice_behind : List LevelItem → List LevelItem → Option Twice
 twice_behind earlier [] = None
 twice_behind earlier (item ∷ items) =
-    option_or (option_map (twice_of item) (asked_of (is_same item.subject) earlier)) (twice_behind (earlier ++ item ∷ []) items)
+    option_or (option_map (twice_of item) (asked_of (is_same item.subject) earlier))
+    (twice_behind (earlier ++ item ∷ []) items)
 
 -- the first code or level that is there twice
 abbrev pub first_twice : LintLevels → Option Twice

@@ -12,12 +12,15 @@ use Rattle.run_record.specs.declared.verdicts.VerifiedCrates.{VerifiedCrates}
 use Rattle.run_record.specs.Verified.{Tells}
 
 -- it is reported so, whatever answer lets this be read of the file
-abbrev pub TellsHeard : ValidConfig → List KrateLicense → Result (List ℕ) ReadFault → Result VerifiedCrates Error → Type 0
+abbrev pub TellsHeard : ValidConfig → List KrateLicense → Result (List ℕ) ReadFault → Result VerifiedCrates Error
+    → Type 0
 TellsHeard policy licenses heard result =
-    (count : ℕ) (answer : CallAnswer) → text_answered count (fault_behind count answer) answer ≡ Some heard → Tells result policy licenses count answer
+    (count : ℕ) (answer : CallAnswer) → text_answered count (fault_behind count answer) answer ≡ Some heard
+    → Tells result policy licenses count answer
 
 -- the file was read, and no other call was made
-pub record IsRead (policy : ValidConfig) (licenses : List KrateLicense) (path : List ℕ) (tree : TreeSeen) (result : Result VerifiedCrates Error) : Type 0 where
+pub record IsRead (policy : ValidConfig) (licenses : List KrateLicense) (path : List ℕ) (tree : TreeSeen)
+    (result : Result VerifiedCrates Error) : Type 0 where
   pub answer : CallAnswer
   pub made : MadeOn tree (read_of path answer ∷ [])
   pub tells : Tells result policy licenses tree.count_before answer

@@ -14,7 +14,8 @@ use Rattle.check_record.specs.Decoded.{Spells}
 use Rattle.check_verify.specs.declared.answer.VerifyAnswer.{VerifyAnswer}
 use Rattle.check_verify.specs.declared.answer.VerifyAnswer.TheVariants.{Yes, No}
 use Rattle.check_verify.specs.declared.answer.NoReason.{NoReason}
-use Rattle.check_verify.specs.declared.answer.NoReason.TheVariants.{Crates, Variant, NotAChoice, NotSatisfied, HasHit, NotBlocking}
+use Rattle.check_verify.specs.declared.answer.NoReason.TheVariants.{Crates, Variant, NotAChoice, NotSatisfied, HasHit}
+use Rattle.check_verify.specs.declared.answer.NoReason.TheVariants.{NotBlocking}
 use Rattle.check_verify.specs.Verified.{IsVerified}
 use Rattle.run_found.specs.declared.error.Error.{Error}
 use Rattle.run_found.specs.declared.error.Error.TheVariants.{Memory, RecordRead, RecordSyntax}
@@ -46,7 +47,8 @@ answer_text (No reason) = codes "not verified: " ++ reason_words reason ++ codes
 -- ---- what is reported of a file, by the policy, the licences and the answer to its read, from a count of faults on
 
 -- it is the spelling of a record, and the answer tells whether that is right
-pub record TellsVerified (crates : VerifiedCrates) (policy : ValidConfig) (licenses : List KrateLicense) (count : ℕ) (answer : CallAnswer) : Type 0 where
+pub record TellsVerified (crates : VerifiedCrates) (policy : ValidConfig) (licenses : List KrateLicense) (count : ℕ)
+    (answer : CallAnswer) : Type 0 where
   pub text : List ℕ
   pub hears : text_answered count (fault_behind count answer) answer ≡ Some (Ok text)
   pub items : List RecordItem
@@ -55,13 +57,15 @@ pub record TellsVerified (crates : VerifiedCrates) (policy : ValidConfig) (licen
   pub reads : crates.reads ≡ reads_gathered licenses
 
 -- it is a text, and the spelling of no record
-pub record TellsNoRecord (policy : ValidConfig) (licenses : List KrateLicense) (count : ℕ) (answer : CallAnswer) : Type 0 where
+pub record TellsNoRecord (policy : ValidConfig) (licenses : List KrateLicense) (count : ℕ)
+    (answer : CallAnswer) : Type 0 where
   pub text : List ℕ
   pub hears : text_answered count (fault_behind count answer) answer ≡ Some (Ok text)
   pub not_spelled : (items : List RecordItem) → Spells text items → ⊥
 
 -- it is no text, or was not read
-pub record TellsUnread (fault : ReadFault) (reads : List CrateRead) (policy : ValidConfig) (licenses : List KrateLicense) (count : ℕ) (answer : CallAnswer) : Type 0 where
+pub record TellsUnread (fault : ReadFault) (reads : List CrateRead) (policy : ValidConfig)
+    (licenses : List KrateLicense) (count : ℕ) (answer : CallAnswer) : Type 0 where
   pub hears : text_answered count (fault_behind count answer) answer ≡ Some (Err fault)
   pub reads_are : reads ≡ reads_gathered licenses
 
@@ -78,7 +82,8 @@ Tells (Err _) = λ policy licenses count answer. ⊥
 -- The licences of the crates were settled, and then the file at a path was read; the calls of that were made, and no
 -- other; all that is printed of the load was written; and this is so of the policy, the licences, the count of faults
 -- before the read and its answer.
-pub record SettlesBy (given : CommandArguments) (path : List ℕ) (tree : TreeSeen) (err : SinkSeen) (IsSo : ValidConfig → List KrateLicense → ℕ → CallAnswer → Type 0) : Type 0 where
+pub record SettlesBy (given : CommandArguments) (path : List ℕ) (tree : TreeSeen) (err : SinkSeen)
+    (IsSo : ValidConfig → List KrateLicense → ℕ → CallAnswer → Type 0) : Type 0 where
   pub hearing : RequestHearing
   pub policy : ValidConfig
   pub licenses : List KrateLicense
@@ -94,10 +99,12 @@ pub record SettlesBy (given : CommandArguments) (path : List ℕ) (tree : TreeSe
 -- did its own.
 abbrev pub VerifiesFirst : CommandArguments → List ℕ → TreeSeen → SinkSeen → Result VerifiedCrates Error → Type 0
 VerifiesFirst given path tree err (Ok crates) = SettlesBy given path tree err (Tells (Ok crates))
-VerifiesFirst given path tree err (Err error) = Stops given tree err error ⊎ SettlesBy given path tree err (Tells (Err error))
+VerifiesFirst given path tree err (Err error) =
+    Stops given tree err error ⊎ SettlesBy given path tree err (Tells (Err error))
 
 -- the answer was reported, and a prefix of it written, behind which a write was refused
-pub record CutsAnswer (given : CommandArguments) (path : List ℕ) (tree : TreeSeen) (err out : SinkSeen) (error : Error) : Type 0 where
+pub record CutsAnswer (given : CommandArguments) (path : List ℕ) (tree : TreeSeen) (err out : SinkSeen)
+    (error : Error) : Type 0 where
   pub crates : VerifiedCrates
   pub settles : SettlesBy given path tree err (Tells (Ok crates))
   pub refused : IsWriteFault out.before out.after error
@@ -105,5 +112,7 @@ pub record CutsAnswer (given : CommandArguments) (path : List ℕ) (tree : TreeS
 
 -- The answer is written. A refusal leaves nothing on `out`, or it is that of the write.
 abbrev pub Verifies : CommandArguments → List ℕ → TreeSeen → SinkSeen → SinkSeen → Result VerifiedCrates Error → Type 0
-Verifies given path tree err out (Ok crates) = SettlesBy given path tree err (Tells (Ok crates)) × Gained out.old out.new (answer_text crates.answer)
-Verifies given path tree err out (Err error) = (VerifiesFirst given path tree err (Err error) × IsSilent out) ⊎ CutsAnswer given path tree err out error
+Verifies given path tree err out (Ok crates) =
+    SettlesBy given path tree err (Tells (Ok crates)) × Gained out.old out.new (answer_text crates.answer)
+Verifies given path tree err out (Err error) =
+    (VerifiesFirst given path tree err (Err error) × IsSilent out) ⊎ CutsAnswer given path tree err out error

@@ -1,5 +1,6 @@
 -- What the options of each subcommand ask for.
-use Rattle.std.specs.Prelude.{ℕ, pos, ◌&&◌, List, Option, None, Some, is_some, Result, Ok, Err, unwrap_or, codes, if◌then◌else◌}
+use Rattle.std.specs.Prelude.{ℕ, pos, ◌&&◌, List, Option, None, Some, is_some, Result, Ok, Err, unwrap_or, codes}
+use Rattle.std.specs.Prelude.{if◌then◌else◌}
 use Rattle.clap.specs.Words.{Row, first_of}
 use Rattle.run_request.specs.declared.error.ArgsError.{ArgsError}
 use Rattle.run_request.specs.declared.error.ArgsError.TheVariants.{DepthWithHide}

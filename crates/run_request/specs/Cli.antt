@@ -115,7 +115,8 @@ app_of_shape shape = record { top = shape; subs = [] }
 
 -- the command line but for its subcommands: it tells its version, and asks for a subcommand
 abbrev pub top_shape : Shape
-top_shape = record (new_app (codes "cargo-deny")).top { rules = main_rules; has_version = true; subcommand_required = true }
+top_shape =
+    record (new_app (codes "cargo-deny")).top { rules = main_rules; has_version = true; subcommand_required = true }
 
 -- the whole command line
 abbrev pub cli : App

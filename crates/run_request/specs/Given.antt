@@ -1,9 +1,11 @@
 -- Which answer words get.
-use Rattle.std.specs.Prelude.{◌≡◌, ◌≤◌, ◌≢◌, ◌⊎◌, Bool, true, false, not, List, [], Option, None, Some, Ok, is_err, map, string_bytes}
+use Rattle.std.specs.Prelude.{◌≡◌, ◌≤◌, ◌≢◌, ◌⊎◌, Bool, true, false, not, List, [], Option, None, Some, Ok, is_err, map}
+use Rattle.std.specs.Prelude.{string_bytes}
 use Rattle.std.specs.List.{list_any}
 use Rattle.std.specs.Option.{IsSomeAnd}
 use Rattle.std.specs.declared.string.String.{String}
-use Rattle.clap.specs.Words.{Text, Row, Kinds, fault_of, found_of, rows_of, matches_of, subcommand_of, subcommand_rows_of}
+use Rattle.clap.specs.Words.{Text, Row, Kinds, fault_of, found_of, rows_of, matches_of, subcommand_of}
+use Rattle.clap.specs.Words.{subcommand_rows_of}
 use Rattle.clap.specs.declared.parser.matches.ArgMatches.{ArgMatches}
 use Rattle.clap.specs.declared.error.kind.ErrorKind.{ErrorKind}
 use Rattle.clap.specs.declared.error.kind.ErrorKind.TheVariants.{DisplayHelp, DisplayVersion, OutOfMemory}
@@ -47,7 +49,8 @@ may_refuse kinds = list_any (λ kind. not (is_display kind)) kinds
 abbrev pub IsGivenFor : List Text → Text → CliAnswer → Type 0
 IsGivenFor words cwd (Asked request) = Takes words × (request_in words cwd ≡ Some request)
 IsGivenFor words cwd (Shown text) = may_show (word_faults words) ≡ true
-IsGivenFor words cwd (Usage text) = (may_refuse (word_faults words) ≡ true) ⊎ (Takes words × (request_in words cwd ≡ None))
+IsGivenFor words cwd (Usage text) =
+    (may_refuse (word_faults words) ≡ true) ⊎ (Takes words × (request_in words cwd ≡ None))
 
 -- the same of a command line, of which a second word `deny` is dropped
 abbrev pub IsGiven : List Text → Text → CliAnswer → Type 0
@@ -87,7 +90,8 @@ IsUsage (Usage text) = Unit {0}
 
 -- words that are taken and ask for a request are answered with it
 abbrev pub AnswersRequest : List Text → Text → CliAnswer → Type 0
-AnswersRequest words cwd given = (request : Request) → Takes words → request_in words cwd ≡ Some request → given ≡ Asked request
+AnswersRequest words cwd given =
+    (request : Request) → Takes words → request_in words cwd ≡ Some request → given ≡ Asked request
 
 -- words that can be taken for nothing but a call for help or the version are answered with a text to show
 abbrev pub AnswersHelp : List Text → CliAnswer → Type 0
@@ -96,7 +100,8 @@ AnswersHelp words given = may_show (word_faults words) ≡ true → may_refuse (
 -- words that can be taken for nothing but a mistake, and words that are taken and ask for nothing, are refused
 abbrev pub AnswersMistake : List Text → Text → CliAnswer → Type 0
 AnswersMistake words cwd given =
-    may_show (word_faults words) ≡ false → (may_refuse (word_faults words) ≡ true) ⊎ (request_in words cwd ≡ None) → IsUsage given
+    may_show (word_faults words) ≡ false → (may_refuse (word_faults words) ≡ true) ⊎ (request_in words cwd ≡ None)
+    → IsUsage given
 
 -- the matches are those of words that the command line takes
 pub record HasMatches (words : List Text) (matches : ArgMatches) : Type 0 where

@@ -11,7 +11,8 @@ use Rattle.run_request.specs.Given.{IsGiven}
 -- A second word `deny` changes nothing: the words with it and without it have the same answers, where no further `deny`
 -- is behind it.
 abbrev pub SecondDenyChangesNothing : Type 0
-SecondDenyChangesNothing = (program : Text) (words : List Text) (cwd : Text) (given : CliAnswer) → without_deny words ≡ words
+SecondDenyChangesNothing =
+    (program : Text) (words : List Text) (cwd : Text) (given : CliAnswer) → without_deny words ≡ words
     → IsGiven (program ∷ codes "deny" ∷ words) cwd given ↔ IsGiven (program ∷ words) cwd given
 
 -- a path of which it is only known that it is there
@@ -32,7 +33,11 @@ without_folder request = record request {
   manifest_path = hidden_path request.manifest_path;
   catalog = hidden_path request.catalog;
   store = hidden_path request.store;
-  krate_ctx = record request.krate_ctx { manifest_path = []; metadata_path = hidden_path request.krate_ctx.metadata_path; cwd = [] };
+  krate_ctx = record request.krate_ctx {
+    manifest_path = [];
+    metadata_path = hidden_path request.krate_ctx.metadata_path;
+    cwd = [];
+  };
   command = command_hidden request.command;
 }
 

@@ -1,5 +1,6 @@
 -- What the rows of a command line say of an option.
-use Rattle.std.specs.Prelude.{◌≡◌, ◌⊎◌, ◌==◌, ℕ, Bool, false, List, [], ◌∷◌, Option, None, Some, Result, Ok, Err, unwrap_or, codes}
+use Rattle.std.specs.Prelude.{◌≡◌, ◌⊎◌, ◌==◌, ℕ, Bool, false, List, [], ◌∷◌, Option, None, Some, Result, Ok, Err}
+use Rattle.std.specs.Prelude.{unwrap_or, codes}
 use Rattle.std.specs.Option.{option_map_or, ok_or}
 use Rattle.std.specs.Str.{bytes_eq}
 use Rattle.clap.specs.Words.{Text, Row, first_of, all_of}
@@ -33,7 +34,8 @@ first_read read option rows = maybe_read read option (first_of option rows)
 abbrev pub words_read : {T : Type 0} → (Text → Option T) → Text → List Text → Result (List T) ArgsError
 words_read read option [] = Ok []
 words_read read option (word ∷ words) =
-    and_then (λ value. and_then (λ values. Ok (value ∷ values)) (words_read read option words)) (option_value read option word)
+    and_then (λ value. and_then (λ values. Ok (value ∷ values)) (words_read read option words))
+    (option_value read option word)
 
 -- the words of an option, of all its uses
 abbrev pub option_words : Text → List Row → List Text

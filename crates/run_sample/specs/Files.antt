@@ -21,7 +21,9 @@ sample_policy = codes "[licenses]\nallow = [\"MIT\"]\n"
 
 -- the metadata and the policy
 abbrev pub with_texts : ℕ → Content
-with_texts n = with_file (with_file root_alone (resolve (codes "/s/m.json")) (sample_metadata n)) (resolve (codes "/s/p.toml")) sample_policy
+with_texts n =
+    with_file (with_file root_alone (resolve (codes "/s/m.json")) (sample_metadata n)) (resolve (codes "/s/p.toml"))
+    sample_policy
 
 -- the manifest of a crate
 abbrev pub manifest_path : ℕ → List ℕ

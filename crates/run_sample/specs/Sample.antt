@@ -16,7 +16,8 @@ use Rattle.run_command.specs.Complete.{IsHeardOf}
 use Rattle.run_command.specs.Given.{CommandArguments}
 use Rattle.run_command.specs.Stops.{Asks, PolicyAndCrates}
 use Rattle.run_check.specs.Headline.{HasVerdictsIn}
-use Rattle.run_check.specs.Named.{ReportsCertificates, ReportsFindings, ReportsOwnReads, ReportsPolicy, ReportsUnneeded, reads_in}
+use Rattle.run_check.specs.Named.{ReportsCertificates, ReportsFindings, ReportsOwnReads, ReportsPolicy, ReportsUnneeded}
+use Rattle.run_check.specs.Named.{reads_in}
 use Rattle.run_sample.specs.Files.{sample_content}
 use Rattle.run_sample.specs.Lines.{sample_lines}
 use Rattle.run_sample.specs.Request.{sample_request}
@@ -36,8 +37,8 @@ IsHeard WrongKind = ⊤
 IsHeard NotUtf8 = ⊤
 IsHeard (Failed before after) = ⊥
 
--- The report is that of a check of the sample's request over the sample's files: it gives each selected crate the verdict that is
--- asked for, and says all that the report of any check says, and none of its reads failed.
+-- The report is that of a check of the sample's request over the sample's files: it gives each selected crate the
+-- verdict that is asked for, and says all that the report of any check says, and none of its reads failed.
 pub record IsSampleReport (n : ℕ) (given : CommandArguments) (report : Report) : Type 0 where
   pub tree : TreeSeen
   pub of_sample : IsSampleTree n tree
@@ -56,21 +57,25 @@ IsSampled n lists match_of report = IsSampleReport n (sample_request lists match
 -- ---- what is written
 
 -- a prefix of the four lines of a sample
-pub record FrontsLines (n : ℕ) (lists : CatalogLists) (match_of : List ℕ → Match) (old new : Option (List ℕ)) : Type 0 where
+pub record FrontsLines (n : ℕ) (lists : CatalogLists) (match_of : List ℕ → Match)
+    (old new : Option (List ℕ)) : Type 0 where
   pub report : Report
   pub is : IsSampled n lists match_of report
   pub front : GainedPrefix old new (sample_lines report.crates)
 
 -- a refused write has the sink's counts, and a prefix of the lines was written; before any other refusal nothing was
-abbrev pub RefusalWritten : ℕ → CatalogLists → (List ℕ → Match) → Option (List ℕ) → Option (List ℕ) → ℕ → ℕ → Cause → Type 0
+abbrev pub RefusalWritten : ℕ → CatalogLists → (List ℕ → Match) → Option (List ℕ) → Option (List ℕ) → ℕ → ℕ → Cause
+    → Type 0
 RefusalWritten n lists match_of old new before after (refused_write first last) =
     (first ≡ before) × (last ≡ after) × Rose before after × FrontsLines n lists match_of old new
 RefusalWritten n lists match_of old new before after _ = new ≡ old
 
 -- the four lines of the report's crates were written
-abbrev pub WritesLines : ℕ → CatalogLists → (List ℕ → Match) → Option (List ℕ) → Option (List ℕ) → ℕ → ℕ → Result Report Error → Type 0
+abbrev pub WritesLines : ℕ → CatalogLists → (List ℕ → Match) → Option (List ℕ) → Option (List ℕ) → ℕ → ℕ
+    → Result Report Error → Type 0
 WritesLines n lists match_of old new before after (Ok report) = Gained old new (sample_lines report.crates)
-WritesLines n lists match_of old new before after (Err error) = RefusalWritten n lists match_of old new before after (cause_of error)
+WritesLines n lists match_of old new before after (Err error) =
+    RefusalWritten n lists match_of old new before after (cause_of error)
 
 -- what was written of the lines of these crates before a refusal: nothing for want of memory, else a prefix of them
 abbrev pub LinesCut : List CrateReport → Option (List ℕ) → Option (List ℕ) → ℕ → ℕ → Cause → Type 0
@@ -104,7 +109,9 @@ EndsSampled (Err error) = MayEndSample (cause_of error)
 -- where what is read of the sample's files asks for a check, there is no other refusal
 abbrev pub IsSampleComplete : ℕ → CatalogLists → (List ℕ → Match) → Result Report Error → Type 0
 IsSampleComplete n lists match_of answer =
-    (hearing : RequestHearing) (asked : PolicyAndCrates) → IsHeardOf (sample_request lists match_of) (sample_content n) 0 hearing → Asks (sample_request lists match_of) hearing asked
+    (hearing : RequestHearing) (asked : PolicyAndCrates)
+    → IsHeardOf (sample_request lists match_of) (sample_content n) 0 hearing
+    → Asks (sample_request lists match_of) hearing asked
     → EndsSampled answer
 
 -- With the built-in catalogue there is no other refusal at all, however many crates the sample has.

@@ -20,7 +20,8 @@ pub record TakesItem (mode : ParseMode) (old : Progress) (item : Item) (new : Pr
 
 abbrev pub StepAnswers : ParseMode → Progress → Item → Progress → Result (Unit {0}) ExprError → Type 0
 StepAnswers mode old item new (Ok done) = TakesItem mode old item new
-StepAnswers mode old item new (Err (Parse fault)) = item_fault mode old.wanted (has_open old.opened) item.what item.span ≡ Some fault
+StepAnswers mode old item new (Err (Parse fault)) =
+    item_fault mode old.wanted (has_open old.opened) item.what item.span ≡ Some fault
 StepAnswers mode old item new (Err Memory) = Unit {0}
 
 -- the items of a text without a fault are all taken

@@ -18,7 +18,8 @@ two_terms = (
   },
   Some (record {
     text = codes "MIT or MIT";
-    terms = term (Spdx (codes "MIT") 0 10 false false) None 0 3 ∷ term (Spdx (codes "MIT") 0 10 false false) None 7 10 ∷ [];
+    terms =
+        term (Spdx (codes "MIT") 0 10 false false) None 0 3 ∷ term (Spdx (codes "MIT") 0 10 false false) None 7 10 ∷ [];
     tree = either (leaf 0) (leaf 1);
   }),
 )

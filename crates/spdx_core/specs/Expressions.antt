@@ -24,7 +24,8 @@ pub record AreNodesKept (text : List ℕ) (terms : List ExpressionReq) (nodes : 
   pub is : IsExpression text terms (tree_of nodes)
 
 -- a text is read, and spelled as the grammar has it
-pub record IsExpressionRead (mode : ParseMode) (lists : CatalogLists) (text : List ℕ) (read : ExpressionView) : Type 0 where
+pub record IsExpressionRead (mode : ParseMode) (lists : CatalogLists) (text : List ℕ)
+    (read : ExpressionView) : Type 0 where
   pub text_kept : read.text ≡ text
   pub spelled : Spells mode lists text read.tree read.terms
   pub fine : first_fault mode lists text ≡ None

@@ -32,14 +32,16 @@ allowed_in mode = record { deprecated = mode.allow_deprecated; gnu_plus = mode.a
 
 -- the marks of a term are allowed
 abbrev pub takes : AllowedForms → LicenseMarks → Bool
-takes allowed marks = (allowed.deprecated || not marks.deprecated) && (allowed.gnu_plus || not (marks.gnu && marks.plus))
+takes allowed marks =
+    (allowed.deprecated || not marks.deprecated) && (allowed.gnu_plus || not (marks.gnu && marks.plus))
 
 -- what is from one place to another
 abbrev pub item : ItemKind → ℕ → ℕ → Item
 item what start end = record { what = what; span = record { start = start; end = end } }
 
 abbrev pub term : LicenseItem → Option (List ℕ) → ℕ → ℕ → ExpressionReq
-term license exception start end = record { req = record { item = license; exception = exception }; span = record { start = start; end = end } }
+term license exception start end =
+    record { req = record { item = license; exception = exception }; span = record { start = start; end = end } }
 
 -- By a rule, items spell a tree and its terms, whose places are counted from a number on.
 pub data ReadsAs (allowed : AllowedForms) : Rule → ℕ → List Item → ExpressionTree → List ExpressionReq → Type 0 where
@@ -50,7 +52,8 @@ pub data ReadsAs (allowed : AllowedForms) : Rule → ℕ → List Item → Expre
   -- with an exception
   simple_with : (n : ℕ) (named : Simple) (exception : List ℕ) (start mid from to last end : ℕ)
       → IsTrue (takes allowed named.marks)
-      → ReadsAs allowed part n (item (Term named) start mid ∷ item With from to ∷ item (Exception exception) last end ∷ []) (leaf n)
+      → ReadsAs allowed part n
+      (item (Term named) start mid ∷ item With from to ∷ item (Exception exception) last end ∷ []) (leaf n)
       (term named.item (Some exception) start end ∷ [])
   -- an expression in parentheses, which make no node
   grouped : (n from to last end : ℕ) (items : List Item) (tree : ExpressionTree) (terms : List ExpressionReq)

@@ -3,7 +3,8 @@ use Rattle.std.specs.Prelude.{Bool, true, false, List, [], ◌∷◌, ◌++◌, 
 use Rattle.deny_text.specs.declared.span.Span.{Span}
 use Rattle.spdx_terms.specs.declared.term.ExpressionReq.{ExpressionReq}
 use Rattle.spdx_terms.specs.declared.item.ItemKind.{ItemKind}
-use Rattle.spdx_terms.specs.declared.item.ItemKind.TheVariants.{Term, Exception, And, Or, With, Open, Close, Plus, Word, Other}
+use Rattle.spdx_terms.specs.declared.item.ItemKind.TheVariants.{Term, Exception, And, Or, With, Open, Close, Plus, Word}
+use Rattle.spdx_terms.specs.declared.item.ItemKind.TheVariants.{Other}
 use Rattle.spdx_terms.specs.declared.item.Item.{Item}
 use Rattle.spdx_core.specs.declared.node.ExprNode.{ExprNode}
 use Rattle.spdx_core.specs.declared.node.ExprNode.TheVariants.{Term as term_node, And as and_node, Or as or_node}
@@ -19,7 +20,8 @@ pub record Machine : Type 0 where
   pub terms : List ExpressionReq
 
 abbrev pub machine_of : Reader → Machine
-machine_of reader = record { outer = reader.outer; level = reader.level; nodes = reader.nodes.items; terms = reader.terms.items }
+machine_of reader =
+    record { outer = reader.outer; level = reader.level; nodes = reader.nodes.items; terms = reader.terms.items }
 
 abbrev pub nothing_waits : OpenOperators
 nothing_waits = record { or = false; and = false }
@@ -33,22 +35,39 @@ nodes_with true node nodes = nodes ++ node ∷ []
 nodes_with false node nodes = nodes
 
 abbrev pub after_part : Machine → Machine
-after_part m = record { outer = m.outer; level = record { or = m.level.or; and = true }; nodes = nodes_with m.level.and and_node m.nodes; terms = m.terms }
+after_part m = record {
+  outer = m.outer;
+  level = record { or = m.level.or; and = true };
+  nodes = nodes_with m.level.and and_node m.nodes;
+  terms = m.terms;
+}
 
 abbrev pub after_or : Machine → Machine
-after_or m = record { outer = m.outer; level = record { or = true; and = false }; nodes = nodes_with m.level.or or_node m.nodes; terms = m.terms }
+after_or m = record {
+  outer = m.outer;
+  level = record { or = true; and = false };
+  nodes = nodes_with m.level.or or_node m.nodes;
+  terms = m.terms;
+}
 
 abbrev pub after_open : Machine → Machine
 after_open m = record { outer = m.level ∷ m.outer; level = nothing_waits; nodes = m.nodes; terms = m.terms }
 
 abbrev pub after_close : List OpenOperators → Machine → Machine
 after_close [] m = m
-after_close (last ∷ outer) m = after_part (record { outer = outer; level = last; nodes = nodes_with m.level.or or_node m.nodes; terms = m.terms })
+after_close (last ∷ outer) m =
+    after_part (record { outer = outer; level = last; nodes = nodes_with m.level.or or_node m.nodes; terms = m.terms })
 
 abbrev pub machine_after : Machine → ItemKind → Span → Machine
 machine_after m (Term named) span =
-    after_part (record { outer = m.outer; level = m.level; nodes = m.nodes ++ term_node (length m.terms) ∷ []; terms = m.terms ++ term named.item None span.start span.end ∷ [] })
-machine_after m (Exception name) span = record { outer = m.outer; level = m.level; nodes = m.nodes; terms = with_exception m.terms name span.end }
+    after_part (record {
+      outer = m.outer;
+      level = m.level;
+      nodes = m.nodes ++ term_node (length m.terms) ∷ [];
+      terms = m.terms ++ term named.item None span.start span.end ∷ [];
+    })
+machine_after m (Exception name) span =
+    record { outer = m.outer; level = m.level; nodes = m.nodes; terms = with_exception m.terms name span.end }
 machine_after m And span = m
 machine_after m Or span = after_or m
 machine_after m With span = m

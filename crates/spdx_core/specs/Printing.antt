@@ -1,5 +1,6 @@
 -- Terms as they are printed, and names that are joined.
-use Rattle.std.specs.Prelude.{◌≡◌, ℕ, ◌+◌, Bool, true, false, ◌||◌, IsTrue, All, List, [], ◌∷◌, ◌++◌, Option, Some, None, length, codes}
+use Rattle.std.specs.Prelude.{◌≡◌, ℕ, ◌+◌, Bool, true, false, ◌||◌, IsTrue, All, List, [], ◌∷◌, ◌++◌, Option, Some}
+use Rattle.std.specs.Prelude.{None, length, codes}
 use Rattle.std.specs.List.{AllByRecursion, AllZip, flat_map}
 use Rattle.spdx_terms.specs.declared.catalog.catalog.LicenseEntry.{LicenseEntry}
 use Rattle.spdx_terms.specs.catalog.Catalog.{CatalogLists, IsCatalog, entry_of}
@@ -54,15 +55,19 @@ printed_mode = record {
 -- a printed term reads back: its whole text is this one term
 abbrev pub PrintedReadsBack : Type 0
 PrintedReadsBack = (lists : CatalogLists) (req : LicenseReq) → IsCatalog lists → IsTermOf lists req
-    → Spells printed_mode lists (req_text req) (leaf 0) (record { req = req; span = record { start = 0; end = length (req_text req) } } ∷ [])
+    → Spells printed_mode lists (req_text req) (leaf 0)
+    (record { req = req; span = record { start = 0; end = length (req_text req) } } ∷ [])
 
 -- the terms of an expression are terms over its catalogue, and so are licensees
 abbrev pub TermsAreOfCatalog : Type 0
-TermsAreOfCatalog = (mode : ParseMode) (lists : CatalogLists) (text : List ℕ) (tree : ExpressionTree) (terms : List ExpressionReq)
+TermsAreOfCatalog =
+    (mode : ParseMode) (lists : CatalogLists) (text : List ℕ) (tree : ExpressionTree) (terms : List ExpressionReq)
     → Spells mode lists text tree terms → All (λ term. IsTermOf lists term.req) terms
 
 abbrev pub LicenseesAreOfCatalog : Type 0
-LicenseesAreOfCatalog = (mode : ParseMode) (lists : CatalogLists) (text : List ℕ) (req : LicenseReq) → IsLicensee mode lists text req → IsTermOf lists req
+LicenseesAreOfCatalog =
+    (mode : ParseMode) (lists : CatalogLists) (text : List ℕ) (req : LicenseReq) → IsLicensee mode lists text req
+    → IsTermOf lists req
 
 -- ---- joined names
 
@@ -99,5 +104,9 @@ pub record IsNameOf (lists : CatalogLists) (name : List ℕ) (term : ExpressionR
 
 -- joined names have a tree: their terms are these names, from left to right
 abbrev pub JoinedNamesAreRead : Type 0
-JoinedNamesAreRead = (lists : CatalogLists) (first : List ℕ) (names : List (List ℕ)) → IsCatalog lists → IsKnown lists first → AllByRecursion (IsKnown lists) names
-    → (terms : List ExpressionReq) × Spells named_mode lists (joined_names first names) (with_names (leaf 0) 1 names) terms × AllZip (IsNameOf lists) (first ∷ names) terms
+JoinedNamesAreRead =
+    (lists : CatalogLists) (first : List ℕ) (names : List (List ℕ)) → IsCatalog lists → IsKnown lists first
+    → AllByRecursion (IsKnown lists) names
+    → (terms : List ExpressionReq)
+    × Spells named_mode lists (joined_names first names) (with_names (leaf 0) 1 names) terms
+    × AllZip (IsNameOf lists) (first ∷ names) terms

@@ -1,5 +1,6 @@
 -- A plain reader of items: the expression that a text is.
-use Rattle.std.specs.Prelude.{ℕ, ◌+◌, ◌==◌, Bool, true, false, List, [], ◌∷◌, ◌++◌, Option, Some, None, is_none, length, if◌then◌else◌}
+use Rattle.std.specs.Prelude.{ℕ, ◌+◌, ◌==◌, Bool, true, false, List, [], ◌∷◌, ◌++◌, Option, Some, None, is_none, length}
+use Rattle.std.specs.Prelude.{if◌then◌else◌}
 use Rattle.std.specs.Option.{option_map, option_and_then}
 use Rattle.deny_text.specs.declared.span.Span.{Span}
 use Rattle.spdx_terms.specs.declared.mode.ParseMode.{ParseMode}
@@ -7,7 +8,8 @@ use Rattle.spdx_core.specs.declared.node.ExprNode.{ExprNode}
 use Rattle.spdx_core.specs.declared.node.ExprNode.TheVariants.{Term as term_node, And as and_node, Or as or_node}
 use Rattle.spdx_terms.specs.declared.term.ExpressionReq.{ExpressionReq}
 use Rattle.spdx_terms.specs.declared.item.ItemKind.{ItemKind}
-use Rattle.spdx_terms.specs.declared.item.ItemKind.TheVariants.{Term, Exception, And, Or, With, Open, Close, Plus, Word, Other}
+use Rattle.spdx_terms.specs.declared.item.ItemKind.TheVariants.{Term, Exception, And, Or, With, Open, Close, Plus, Word}
+use Rattle.spdx_terms.specs.declared.item.ItemKind.TheVariants.{Other}
 use Rattle.spdx_terms.specs.declared.item.Item.{Item}
 use Rattle.spdx_terms.specs.catalog.Catalog.{CatalogLists}
 use Rattle.spdx_terms.specs.Items.{items_of}
@@ -104,7 +106,8 @@ nothing_read = record { outer = []; level = empty_level; terms = [] }
 -- a `)` makes a part of its level
 abbrev pub state_after_close : List ParenthesisLevel → ParenthesisLevel → List ExpressionReq → ReaderState
 state_after_close [] level terms = record { outer = []; level = level; terms = terms }
-state_after_close (last ∷ outer) level terms = record { outer = outer; level = with_part last (level_tree level); terms = terms }
+state_after_close (last ∷ outer) level terms =
+    record { outer = outer; level = with_part last (level_tree level); terms = terms }
 
 abbrev pub after_item : ReaderState → ItemKind → Span → ReaderState
 after_item read (Term simple) span = record {
@@ -112,9 +115,11 @@ after_item read (Term simple) span = record {
   level = with_part read.level (Some (leaf (length read.terms)));
   terms = read.terms ++ term simple.item None span.start span.end ∷ [];
 }
-after_item read (Exception name) span = record { outer = read.outer; level = read.level; terms = with_exception read.terms name span.end }
+after_item read (Exception name) span =
+    record { outer = read.outer; level = read.level; terms = with_exception read.terms name span.end }
 after_item read And span = read
-after_item read Or span = record { outer = read.outer; level = or_behind read.level (level_tree read.level); terms = read.terms }
+after_item read Or span =
+    record { outer = read.outer; level = or_behind read.level (level_tree read.level); terms = read.terms }
 after_item read With span = read
 after_item read Open span = record { outer = read.level ∷ read.outer; level = empty_level; terms = read.terms }
 after_item read Close span = state_after_close read.outer read.level read.terms
@@ -128,8 +133,10 @@ after_items read (item ∷ items) = after_items (after_item read item.what item.
 
 abbrev pub expression_if : Bool → List ℕ → ReaderState → Option ExpressionView
 expression_if false text read = None
-expression_if true text read = option_map (λ tree. record { text = text; terms = read.terms; tree = tree }) (level_tree read.level)
+expression_if true text read =
+    option_map (λ tree. record { text = text; terms = read.terms; tree = tree }) (level_tree read.level)
 
 -- the expression that a text is; none where it has a fault
 abbrev pub expression_of_text : ParseMode → CatalogLists → List ℕ → Option ExpressionView
-expression_of_text mode lists text = expression_if (is_none (first_fault mode lists text)) text (after_items nothing_read (items_of mode lists text))
+expression_of_text mode lists text =
+    expression_if (is_none (first_fault mode lists text)) text (after_items nothing_read (items_of mode lists text))

@@ -1,5 +1,6 @@
 -- The bytes of a catalogue file: their first fault, or the catalogue that they define.
-use Rattle.std.specs.Prelude.{◌≡◌, ℕ, ◌+◌, Bool, true, false, not, ◌&&◌, ◌||◌, List, [], ◌∷◌, ◌++◌, length, take, count_by, Option, Some, None, if◌then◌else◌}
+use Rattle.std.specs.Prelude.{◌≡◌, ℕ, ◌+◌, Bool, true, false, not, ◌&&◌, ◌||◌, List, [], ◌∷◌, ◌++◌, length, take}
+use Rattle.std.specs.Prelude.{count_by, Option, Some, None, if◌then◌else◌}
 use Rattle.std.specs.List.{list_any, slice_split, filter_map}
 use Rattle.std.specs.Str.{is_utf8, bytes_eq, str_eq_ignore_ascii_case}
 use Rattle.std.specs.Str.Lossy.{utf8_valid_len}
@@ -55,24 +56,26 @@ names_in lines = names_of (lists_of lines).licenses
 abbrev pub is_among : List ℕ → List (List ℕ) → Bool
 is_among name names = list_any (bytes_eq name) names
 
--- Whether a line has a fault, in a file whose licences have these names, behind lines that list this: it has none of the forms; what
--- should be a name or an imprecise text can be none; it repeats a name of its kind, or an imprecise text in whatever case; or an
--- imprecise text means no licence of the file.
+-- Whether a line has a fault, in a file whose licences have these names, behind lines that list this: it has none of
+-- the forms; what should be a name or an imprecise text can be none; it repeats a name of its kind, or an imprecise
+-- text in whatever case; or an imprecise text means no licence of the file.
 abbrev pub has_fault : List (List ℕ) → CatalogLists → Option LineForm → Bool
 has_fault names before None = true
 has_fault names before (Some nothing) = false
 has_fault names before (Some (license name entry)) = not (is_name name) || is_among name (names_of before.licenses)
 has_fault names before (Some (exception name)) = not (is_name name) || is_among name before.exceptions
 has_fault names before (Some (imprecise text name)) =
-    not (is_name name && is_imprecise text) || list_any (str_eq_ignore_ascii_case text) (names_of before.imprecise) || not (is_among name names)
+    not (is_name name && is_imprecise text) || list_any (str_eq_ignore_ascii_case text) (names_of before.imprecise)
+    || not (is_among name names)
 
--- The number, from 1, of the first line with a fault, behind these lines. What follows the last line feed is a line without an end, if
--- it is anything.
+-- The number, from 1, of the first line with a fault, behind these lines. What follows the last line feed is a line
+-- without an end, if it is anything.
 abbrev pub fault_behind : List (List ℕ) → List (List ℕ) → List (List ℕ) → Option ℕ
 fault_behind names before [] = None
 fault_behind names before (last ∷ []) = if has_some last then Some (length before + 1) else None
 fault_behind names before (line ∷ next ∷ lines) =
-    if has_fault names (lists_of before) (form_of line) then Some (length before + 1) else fault_behind names (before ++ line ∷ []) (next ∷ lines)
+    if has_fault names (lists_of before) (form_of line) then Some (length before + 1)
+    else fault_behind names (before ++ line ∷ []) (next ∷ lines)
 
 abbrev pub fault_in : List (List ℕ) → Option ℕ
 fault_in lines = fault_behind (names_in lines) [] lines

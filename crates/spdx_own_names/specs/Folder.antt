@@ -1,5 +1,6 @@
 -- A folder of licence texts: which of its files are texts, and what is read of them.
-use Rattle.std.specs.Prelude.{◌≡◌, ◌≤◌, ℕ, ◌-◌, true, false, List, [], ◌∷◌, ◌++◌, codes, length, take, nat_eq, Option, Some, None, option_map, Result, Ok, Err, if◌then◌else◌}
+use Rattle.std.specs.Prelude.{◌≡◌, ◌≤◌, ℕ, ◌-◌, true, false, List, [], ◌∷◌, ◌++◌, codes, length, take, nat_eq, Option}
+use Rattle.std.specs.Prelude.{Some, None, option_map, Result, Ok, Err, if◌then◌else◌}
 use Rattle.std.specs.List.{filter_map, ends_with}
 use Rattle.deny_text.specs.Path.{join_of}
 use Rattle.tree_core.specs.Call as call
@@ -79,9 +80,11 @@ fault_of file read.Folder = Absent
 fault_of file (read.NotUtf8 place) = NotUtf8 file
 
 -- by what is read of a text and of those behind it; behind one that is not found no other is read
-abbrev pub heard_with : TextFile → Option (Result (List ℕ) ReadFault) → List CallAnswer → Option StoreHeard → Option StoreHeard
+abbrev pub heard_with : TextFile → Option (Result (List ℕ) ReadFault) → List CallAnswer → Option StoreHeard
+    → Option StoreHeard
 heard_with text None answers rest = None
-heard_with text (Some (Ok body)) answers rest = option_map (with_text (record { name = text.license; body = body })) rest
+heard_with text (Some (Ok body)) answers rest =
+    option_map (with_text (record { name = text.license; body = body })) rest
 heard_with text (Some (Err fault)) [] rest = Some (Err (fault_of text.file fault))
 heard_with text (Some (Err fault)) (answer ∷ answers) rest = None
 
@@ -120,7 +123,8 @@ AnswersStore heard (Err Memory) = Unit {0}
 
 -- These texts of a folder were read, in order, up to the first that is not found, and nothing else was asked; this is
 -- answered.
-pub record AreTextsRead (begun after : ℕ) (old new : List Call) (dir : List ℕ) (texts : List TextFile) (result : Result (List StoreText) StoreError) : Type 0 where
+pub record AreTextsRead (begun after : ℕ) (old new : List Call) (dir : List ℕ) (texts : List TextFile)
+    (result : Result (List StoreText) StoreError) : Type 0 where
   pub reads : List CallAnswer
   pub within : length reads ≤ length texts
   pub made : new ≡ old ++ reads_of dir texts reads
@@ -128,7 +132,8 @@ pub record AreTextsRead (begun after : ℕ) (old new : List Call) (dir : List �
 
 -- The folder was listed, and then its texts were read, in order, up to the first that is not found, and nothing else
 -- was asked; this is answered.
-pub record IsStoreRead (begun after : ℕ) (old new : List Call) (dir : List ℕ) (result : Result (List StoreText) StoreError) : Type 0 where
+pub record IsStoreRead (begun after : ℕ) (old new : List Call) (dir : List ℕ)
+    (result : Result (List StoreText) StoreError) : Type 0 where
   pub listing : CallAnswer
   pub reads : List CallAnswer
   pub made : new ≡ old ++ list_of dir listing ∷ reads_of dir (texts_due listing) reads
@@ -140,7 +145,8 @@ one_text (Ok text) = Ok (text ∷ [])
 one_text (Err error) = Err error
 
 -- these texts were read behind those that were found
-abbrev pub ReadsOn : ℕ → ℕ → List Call → List Call → List ℕ → List TextFile → List StoreText → Result (List StoreText) StoreError → Type 0
+abbrev pub ReadsOn : ℕ → ℕ → List Call → List Call → List ℕ → List TextFile → List StoreText
+    → Result (List StoreText) StoreError → Type 0
 ReadsOn begun after old new dir texts had (Ok all) =
     (more : List StoreText) × (all ≡ had ++ more) × AreTextsRead begun after old new dir texts (Ok more)
 ReadsOn begun after old new dir texts had (Err error) = AreTextsRead begun after old new dir texts (Err error)

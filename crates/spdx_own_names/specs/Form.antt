@@ -1,5 +1,6 @@
 -- The lines of a catalogue file: what each of them says.
-use Rattle.std.specs.Prelude.{ℕ, ◌==◌, ◌^◌, nat_lt, Bool, true, false, not, ◌&&◌, List, [], ◌∷◌, ◌++◌, codes, Option, Some, None, if◌then◌else◌}
+use Rattle.std.specs.Prelude.{ℕ, ◌==◌, ◌^◌, nat_lt, Bool, true, false, not, ◌&&◌, List, [], ◌∷◌, ◌++◌, codes, Option}
+use Rattle.std.specs.Prelude.{Some, None, if◌then◌else◌}
 use Rattle.std.specs.Char.{is_ascii_digit}
 use Rattle.std.specs.List.{find, list_all, join_with_byte}
 use Rattle.std.specs.Str.{byte, bytes_eq}
@@ -9,8 +10,8 @@ use Rattle.spdx_terms.specs.declared.catalog.catalog.LicenseEntry.{LicenseEntry}
 use Rattle.spdx_terms.specs.catalog.TextWords.{has_some}
 use Rattle.spdx_terms.specs.catalog.Words.{is_space}
 
--- Nothing, as an empty line and a remark; what is known of a licence; the name of an exception; or an imprecise text, and the
--- name of the licence that it means.
+-- Nothing, as an empty line and a remark; what is known of a licence; the name of an exception; or an imprecise text,
+-- and the name of the licence that it means.
 pub data LineForm : Type 0 where
   nothing : LineForm
   license : List ℕ → LicenseEntry → LineForm
@@ -29,7 +30,8 @@ is_decimal word = has_some word && list_all is_ascii_digit word && not (has_lead
 
 -- the number below 2 ^ 32 that a word is
 unfoldable pub decimal_of : List ℕ → Option ℕ
-decimal_of word = if is_decimal word && nat_lt (digits_value 10 word) (2 ^ 32) then Some (digits_value 10 word) else None
+decimal_of word =
+    if is_decimal word && nat_lt (digits_value 10 word) (2 ^ 32) then Some (digits_value 10 word) else None
 
 -- ---- marks
 
@@ -49,12 +51,14 @@ no_marks = marks_from false false false
 abbrev pub some_marks : List MarksSet
 some_marks =
     marks_from false false true ∷ marks_from false true false ∷ marks_from false true true
-    ∷ marks_from true false false ∷ marks_from true false true ∷ marks_from true true false ∷ marks_from true true true ∷ []
+    ∷ marks_from true false false ∷ marks_from true false true ∷ marks_from true true false ∷ marks_from true true true
+    ∷ []
 
 -- the words for marks, in this order
 abbrev pub marks_words : MarksSet → List (List ℕ)
 marks_words marks =
-    (if marks.later then codes "later" ∷ [] else []) ++ (if marks.deprecated then codes "deprecated" ∷ [] else []) ++ (if marks.gnu then codes "gnu" ∷ [] else [])
+    (if marks.later then codes "later" ∷ [] else []) ++ (if marks.deprecated then codes "deprecated" ∷ [] else [])
+    ++ (if marks.gnu then codes "gnu" ∷ [] else [])
 
 -- the marks that are written so, with single spaces between
 unfoldable pub marks_of : List ℕ → Option MarksSet
@@ -77,12 +81,19 @@ abbrev pub license_form : List ℕ → Option ℕ → Option (ℕ × MarksSet) �
 license_form name None ranked = None
 license_form name (Some family) None = None
 license_form name (Some family) (Some ranked) =
-    Some (license name (record { family = family; rank = ranked.0; later = ranked.1.later; deprecated = ranked.1.deprecated; gnu = ranked.1.gnu }))
+    Some (license name (record {
+      family = family;
+      rank = ranked.0;
+      later = ranked.1.later;
+      deprecated = ranked.1.deprecated;
+      gnu = ranked.1.gnu;
+    }))
 
 -- the family's number, and behind a space the rank with the marks
 abbrev pub license_numbered : List ℕ → Option (List ℕ × List ℕ) → Option LineForm
 license_numbered name None = None
-license_numbered name (Some numbers) = license_form name (decimal_of numbers.0) (rank_of numbers.1 (cut_at is_space numbers.1))
+license_numbered name (Some numbers) =
+    license_form name (decimal_of numbers.0) (rank_of numbers.1 (cut_at is_space numbers.1))
 
 -- a name, and behind a space its numbers
 abbrev pub license_cut : Option (List ℕ × List ℕ) → Option LineForm
@@ -110,7 +121,7 @@ abbrev pub says_nothing : List ℕ → Bool
 says_nothing [] = true
 says_nothing (first ∷ rest) = first == byte "#"
 
--- What a line says, where it has one of the forms: it is empty, or begins with `#`, or is with single spaces `license NAME FAMILY RANK` with
--- the marks, `exception NAME`, or `imprecise NAME TEXT`.
+-- What a line says, where it has one of the forms: it is empty, or begins with `#`, or is with single spaces `license
+-- NAME FAMILY RANK` with the marks, `exception NAME`, or `imprecise NAME TEXT`.
 unfoldable pub form_of : List ℕ → Option LineForm
 form_of line = if says_nothing line then Some nothing else form_cut (cut_at is_space line)

@@ -19,11 +19,19 @@ abbrev pub with_form : CatalogLists → Option LineForm → CatalogLists
 with_form lists None = lists
 with_form lists (Some nothing) = lists
 with_form lists (Some (license name entry)) =
-    record { licenses = lists.licenses ++ (name, entry) ∷ []; exceptions = lists.exceptions; imprecise = lists.imprecise }
+    record {
+      licenses = lists.licenses ++ (name, entry) ∷ [];
+      exceptions = lists.exceptions;
+      imprecise = lists.imprecise;
+    }
 with_form lists (Some (exception name)) =
     record { licenses = lists.licenses; exceptions = lists.exceptions ++ name ∷ []; imprecise = lists.imprecise }
 with_form lists (Some (imprecise text name)) =
-    record { licenses = lists.licenses; exceptions = lists.exceptions; imprecise = lists.imprecise ++ (text, name) ∷ [] }
+    record {
+      licenses = lists.licenses;
+      exceptions = lists.exceptions;
+      imprecise = lists.imprecise ++ (text, name) ∷ [];
+    }
 
 -- a licence with this form is none of them
 abbrev pub IsNewIn : CatalogLists → LineForm → Type 0

@@ -21,7 +21,8 @@ pub record AreInOrder (listed : List (List ℕ × List ℕ)) (ordered : List Mea
   pub sorted : AreSorted ordered
   pub within : All (λ pair. length pair.0 ≤ longest) listed
 
--- So many bytes at the start of a text are one of them in whatever case, which means this licence, and its last word ends there.
+-- So many bytes at the start of a text are one of them in whatever case, which means this licence, and its last word
+-- ends there.
 pub record Means (ordered : List Meaning) (text : List ℕ) (len : ℕ) (name : List ℕ) : Type 0 where
   pub is_listed : Contains (meanings_listed ordered) (str_to_ascii_lowercase (take len text), name)
   pub ends : IsTrue (ends_word (drop len text))
@@ -34,7 +35,8 @@ MeansSome ordered text len = (name : List ℕ) × Means ordered text len name
 
 -- this length, where so many bytes mean a licence; else the one before
 abbrev pub IsLaterOf : List Meaning → List ℕ → ℕ → ℕ → ℕ → Type 0
-IsLaterOf ordered text last len later = (MeansSome ordered text len × (later ≡ len)) ⊎ (MeansNothing ordered text len × (later ≡ last))
+IsLaterOf ordered text last len later =
+    (MeansSome ordered text len × (later ≡ len)) ⊎ (MeansNothing ordered text len × (later ≡ last))
 
 -- The last length up to one at which so many bytes mean a licence, or 0.
 pub record IsLastUpto (ordered : List Meaning) (text : List ℕ) (most last : ℕ) : Type 0 where

@@ -1,14 +1,20 @@
 -- The first fault of a licence expression: what may not are at a place, by what is before it.
-use Rattle.std.specs.Prelude.{ℕ, Bool, true, false, not, ◌&&◌, ◌||◌, List, [], ◌∷◌, Option, Some, None, if◌then◌else◌, length, drop}
+use Rattle.std.specs.Prelude.{ℕ, Bool, true, false, not, ◌&&◌, ◌||◌, List, [], ◌∷◌, Option, Some, None, if◌then◌else◌}
+use Rattle.std.specs.Prelude.{length, drop}
 use Rattle.deny_text.specs.declared.span.Span.{Span}
 use Rattle.spdx_terms.specs.declared.mode.ParseMode.{ParseMode}
 use Rattle.spdx_terms.specs.declared.error.ParseReason.{ParseReason}
-use Rattle.spdx_terms.specs.declared.error.ParseReason.TheVariants.{Empty, InvalidCharacters, SeparatedPlus, UnopenedParens, Unexpected, UnknownTerm, UnknownException, DeprecatedId, GplNoPlus, UnclosedParens}
+use Rattle.spdx_terms.specs.declared.error.ParseReason.TheVariants.{Empty, InvalidCharacters, SeparatedPlus}
+use Rattle.spdx_terms.specs.declared.error.ParseReason.TheVariants.{UnopenedParens, Unexpected, UnknownTerm}
+use Rattle.spdx_terms.specs.declared.error.ParseReason.TheVariants.{UnknownException, DeprecatedId, GplNoPlus}
+use Rattle.spdx_terms.specs.declared.error.ParseReason.TheVariants.{UnclosedParens}
 use Rattle.spdx_terms.specs.declared.error.ParseError.{ParseError}
 use Rattle.spdx_terms.specs.declared.item.WantedItem.{WantedItem}
-use Rattle.spdx_terms.specs.declared.item.WantedItem.TheVariants.{Term as wants_term, Exception as wants_exception, AfterTerm, AfterPart}
+use Rattle.spdx_terms.specs.declared.item.WantedItem.TheVariants.{Term as wants_term, Exception as wants_exception}
+use Rattle.spdx_terms.specs.declared.item.WantedItem.TheVariants.{AfterTerm, AfterPart}
 use Rattle.spdx_terms.specs.declared.item.ItemKind.{ItemKind}
-use Rattle.spdx_terms.specs.declared.item.ItemKind.TheVariants.{Term, Exception, And, Or, With, Open, Close, Plus, Word, Other}
+use Rattle.spdx_terms.specs.declared.item.ItemKind.TheVariants.{Term, Exception, And, Or, With, Open, Close, Plus, Word}
+use Rattle.spdx_terms.specs.declared.item.ItemKind.TheVariants.{Other}
 use Rattle.spdx_terms.specs.declared.item.Item.{Item}
 use Rattle.spdx_terms.specs.declared.item.LicenseMarks.{LicenseMarks}
 use Rattle.spdx_terms.specs.declared.item.Simple.{Simple}
@@ -57,7 +63,8 @@ word_reason AfterPart = Unexpected
 
 -- a mode takes the marks of a term
 abbrev pub marks_allowed : ParseMode → LicenseMarks → Bool
-marks_allowed mode marks = (mode.allow_deprecated || not marks.deprecated) && (mode.allow_postfix_plus_on_gpl || not (marks.gnu && marks.plus))
+marks_allowed mode marks =
+    (mode.allow_deprecated || not marks.deprecated) && (mode.allow_postfix_plus_on_gpl || not (marks.gnu && marks.plus))
 
 -- a mark of a term that the mode refuses
 abbrev pub mark_fault : ParseMode → Simple → Span → Option ParseError
@@ -77,13 +84,15 @@ has_open (last ∷ rest) = true
 
 -- what is wrong with an item, by what is wanted and by whether a parenthesis is open
 abbrev pub item_fault : ParseMode → WantedItem → Bool → ItemKind → Span → Option ParseError
-item_fault mode wanted opened (Term simple) span = first_of (fault_unless (takes_term wanted) Unexpected span) (mark_fault mode simple span)
+item_fault mode wanted opened (Term simple) span =
+    first_of (fault_unless (takes_term wanted) Unexpected span) (mark_fault mode simple span)
 item_fault mode wanted opened (Exception name) span = fault_unless (takes_exception wanted) Unexpected span
 item_fault mode wanted opened And span = fault_unless (takes_operator wanted) Unexpected span
 item_fault mode wanted opened Or span = fault_unless (takes_operator wanted) Unexpected span
 item_fault mode wanted opened With span = fault_unless (takes_with wanted) Unexpected span
 item_fault mode wanted opened Open span = fault_unless (takes_term wanted) Unexpected span
-item_fault mode wanted opened Close span = if opened then fault_unless (takes_operator wanted) Unexpected span else fault_over UnopenedParens span
+item_fault mode wanted opened Close span =
+    if opened then fault_unless (takes_operator wanted) Unexpected span else fault_over UnopenedParens span
 item_fault mode wanted opened Plus span = fault_over SeparatedPlus span
 item_fault mode wanted opened Word span = fault_over (word_reason wanted) span
 item_fault mode wanted opened Other span = fault_over InvalidCharacters span
@@ -142,12 +151,14 @@ is_alone Word = true
 is_alone Other = true
 
 abbrev pub lone_fault : ParseMode → WantedItem → ItemKind → Span → Option ParseError
-lone_fault mode wanted what span = first_of (fault_unless (is_alone what) Unexpected span) (item_fault mode wanted false what span)
+lone_fault mode wanted what span =
+    first_of (fault_unless (is_alone what) Unexpected span) (item_fault mode wanted false what span)
 
 abbrev pub licensee_fault_from : ParseMode → ℕ → WantedItem → List Item → Option ParseError
 licensee_fault_from mode len wanted [] = end_fault len wanted None
 licensee_fault_from mode len wanted (item ∷ items) =
-    first_of (lone_fault mode wanted item.what item.span) (licensee_fault_from mode len (wanted_after wanted item.what) items)
+    first_of (lone_fault mode wanted item.what item.span)
+    (licensee_fault_from mode len (wanted_after wanted item.what) items)
 
 abbrev pub licensee_fault_of : ParseMode → ℕ → List Item → Option ParseError
 licensee_fault_of mode len [] = fault Empty 0 len
@@ -164,4 +175,5 @@ licensee_mode mode = record {
 
 -- the first fault of a licensee's text
 abbrev pub licensee_fault : ParseMode → CatalogLists → List ℕ → Option ParseError
-licensee_fault mode lists text = licensee_fault_of (licensee_mode mode) (length text) (items_of (licensee_mode mode) lists text)
+licensee_fault mode lists text =
+    licensee_fault_of (licensee_mode mode) (length text) (items_of (licensee_mode mode) lists text)

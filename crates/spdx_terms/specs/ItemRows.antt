@@ -4,14 +4,16 @@ use Rattle.spdx_terms.specs.declared.catalog.catalog.LicenseEntry.{LicenseEntry}
 use Rattle.spdx_terms.specs.catalog.Catalog.{CatalogLists}
 use Rattle.spdx_terms.specs.declared.mode.ParseMode.{ParseMode}
 use Rattle.spdx_terms.specs.declared.item.ItemKind.{ItemKind}
-use Rattle.spdx_terms.specs.declared.item.ItemKind.TheVariants.{Term, Exception, And, Or, With, Open, Close, Plus, Word, Other}
+use Rattle.spdx_terms.specs.declared.item.ItemKind.TheVariants.{Term, Exception, And, Or, With, Open, Close, Plus, Word}
+use Rattle.spdx_terms.specs.declared.item.ItemKind.TheVariants.{Other}
 use Rattle.spdx_terms.specs.declared.item.Item.{Item}
 use Rattle.spdx_terms.specs.declared.item.LicenseMarks.{LicenseMarks}
 use Rattle.spdx_terms.specs.Items.{items_of}
 use Rattle.spdx_terms.specs.Terms.{item_text}
 
 abbrev pub entry : ℕ → ℕ → Bool → Bool → Bool → LicenseEntry
-entry family rank later deprecated gnu = record { family = family; rank = rank; later = later; deprecated = deprecated; gnu = gnu }
+entry family rank later deprecated gnu =
+    record { family = family; rank = rank; later = later; deprecated = deprecated; gnu = gnu }
 
 -- Five licences and two exceptions, of which one has a licence's name. An imprecise text holds an operator, one means
 -- a licence that is deprecated, one begins as a reference does, and one is the name of a licence but for case.
@@ -46,7 +48,8 @@ abbrev pub mark : Bool → List ℕ → List ℕ
 mark is_there name = if is_there then name else []
 
 abbrev pub marks_text : LicenseMarks → List ℕ
-marks_text marks = mark marks.later (codes " later") ++ (mark marks.deprecated (codes " deprecated") ++ mark marks.gnu (codes " gnu"))
+marks_text marks =
+    mark marks.later (codes " later") ++ (mark marks.deprecated (codes " deprecated") ++ mark marks.gnu (codes " gnu"))
 
 -- what a row calls an item
 abbrev pub what_text : ItemKind → List ℕ
@@ -87,7 +90,10 @@ plain_rows =
     )
     ∷ (codes "GPL-2.0-or-later", (codes "GPL-2.0-or-later later gnu", 0, 16) ∷ [])
     ∷ (codes "MIT/ISC", (codes "MIT", 0, 3) ∷ (codes "other", 3, 4) ∷ (codes "word", 4, 7) ∷ [])
-    ∷ (codes "MIT and Or ISC", (codes "MIT", 0, 3) ∷ (codes "AND", 4, 7) ∷ (codes "word", 8, 10) ∷ (codes "ISC", 11, 14) ∷ [])
+    ∷ (
+      codes "MIT and Or ISC",
+      (codes "MIT", 0, 3) ∷ (codes "AND", 4, 7) ∷ (codes "word", 8, 10) ∷ (codes "ISC", 11, 14) ∷ [],
+    )
     ∷ (codes "MIT WITH MIT", (codes "MIT", 0, 3) ∷ (codes "WITH", 4, 8) ∷ (codes "word", 9, 12) ∷ [])
     ∷ (codes "ISC WITH ISC", (codes "ISC", 0, 3) ∷ (codes "WITH", 4, 8) ∷ (codes "exception ISC", 9, 12) ∷ [])
     ∷ (codes "LLVM-exception", (codes "word", 0, 14) ∷ [])
@@ -119,7 +125,8 @@ slash_rows =
     ∷ (codes "mit or/MIT", (codes "word", 0, 3) ∷ (codes "OR", 4, 6) ∷ (codes "OR", 6, 7) ∷ (codes "MIT", 7, 10) ∷ [])
     ∷ (
       codes "(MIT)AND(ISC)",
-      (codes "(", 0, 1) ∷ (codes "MIT", 1, 4) ∷ (codes ")", 4, 5) ∷ (codes "AND", 5, 8) ∷ (codes "(", 8, 9) ∷ (codes "ISC", 9, 12) ∷ (codes ")", 12, 13) ∷ [],
+      (codes "(", 0, 1) ∷ (codes "MIT", 1, 4) ∷ (codes ")", 4, 5) ∷ (codes "AND", 5, 8) ∷ (codes "(", 8, 9)
+          ∷ (codes "ISC", 9, 12) ∷ (codes ")", 12, 13) ∷ [],
     )
     ∷ (codes "WITH LLVM-exception", (codes "WITH", 0, 4) ∷ (codes "exception LLVM-exception", 5, 19) ∷ [])
     ∷ []
@@ -128,7 +135,10 @@ slash_rows =
 abbrev pub lax_rows : List ItemRow
 lax_rows =
     (codes "mit or/MIT or", (codes "MIT", 0, 6) ∷ (codes "OR", 6, 7) ∷ (codes "MIT", 7, 13) ∷ [])
-    ∷ (codes "OLD ONE AND mit or", (codes "Old-1.0 deprecated", 0, 7) ∷ (codes "AND", 8, 11) ∷ (codes "MIT", 12, 18) ∷ [])
+    ∷ (
+      codes "OLD ONE AND mit or",
+      (codes "Old-1.0 deprecated", 0, 7) ∷ (codes "AND", 8, 11) ∷ (codes "MIT", 12, 18) ∷ [],
+    )
     ∷ (codes "licenseref-Z Q+", (codes "ISC+", 0, 15) ∷ [])
     ∷ (codes "LicenseRef-z  q", (codes "LicenseRef-z", 0, 12) ∷ (codes "word", 14, 15) ∷ [])
     ∷ (codes "GPL-2.0 +", (codes "GPL-2.0 deprecated gnu", 0, 7) ∷ (codes "plus", 8, 9) ∷ [])

@@ -1,5 +1,6 @@
 -- The items of a licence expression: its terms and exceptions where they are wanted, operators, marks, and all else.
-use Rattle.std.specs.Prelude.{ℕ, ◌+◌, ◌==◌, nat_lt, nat_le, Bool, true, false, not, ◌&&◌, ◌||◌, List, [], ◌∷◌, Option, Some, None, is_some, if◌then◌else◌, unwrap_or, take, drop, length, slice_get}
+use Rattle.std.specs.Prelude.{ℕ, ◌+◌, ◌==◌, nat_lt, nat_le, Bool, true, false, not, ◌&&◌, ◌||◌, List, [], ◌∷◌, Option}
+use Rattle.std.specs.Prelude.{Some, None, is_some, if◌then◌else◌, unwrap_or, take, drop, length, slice_get}
 use Rattle.std.specs.Str.{byte, str_eq_ignore_ascii_case}
 use Rattle.std.specs.Option.{option_map, option_or}
 use Rattle.deny_text.specs.declared.span.Span.{Span}
@@ -7,11 +8,14 @@ use Rattle.spdx_terms.specs.declared.catalog.catalog.LicenseEntry.{LicenseEntry}
 use Rattle.spdx_terms.specs.declared.catalog.catalog.Imprecise.{Imprecise}
 use Rattle.spdx_terms.specs.declared.mode.ParseMode.{ParseMode}
 use Rattle.spdx_terms.specs.declared.item.Token.{Token}
-use Rattle.spdx_terms.specs.declared.item.Token.TheVariants.{Word as a_word, Plus as a_plus, Open as an_open, Close as a_close, Slash as a_slash, Other as another}
+use Rattle.spdx_terms.specs.declared.item.Token.TheVariants.{Word as a_word, Plus as a_plus, Open as an_open}
+use Rattle.spdx_terms.specs.declared.item.Token.TheVariants.{Close as a_close, Slash as a_slash, Other as another}
 use Rattle.spdx_terms.specs.declared.item.WantedItem.{WantedItem}
-use Rattle.spdx_terms.specs.declared.item.WantedItem.TheVariants.{Term as wants_term, Exception as wants_exception, AfterTerm, AfterPart}
+use Rattle.spdx_terms.specs.declared.item.WantedItem.TheVariants.{Term as wants_term, Exception as wants_exception}
+use Rattle.spdx_terms.specs.declared.item.WantedItem.TheVariants.{AfterTerm, AfterPart}
 use Rattle.spdx_terms.specs.declared.item.ItemKind.{ItemKind}
-use Rattle.spdx_terms.specs.declared.item.ItemKind.TheVariants.{Term, Exception, And, Or, With, Open, Close, Plus, Word, Other}
+use Rattle.spdx_terms.specs.declared.item.ItemKind.TheVariants.{Term, Exception, And, Or, With, Open, Close, Plus, Word}
+use Rattle.spdx_terms.specs.declared.item.ItemKind.TheVariants.{Other}
 use Rattle.spdx_terms.specs.declared.item.Item.{Item}
 use Rattle.spdx_terms.specs.declared.item.LicenseMarks.{LicenseMarks}
 use Rattle.spdx_terms.specs.declared.term.LicenseItem.{LicenseItem}
@@ -54,7 +58,8 @@ plus_behind text len = unwrap_or (option_map (λ b. b == byte "+") (slice_get te
 -- a term with a `+` or without
 abbrev pub term_of : LicenseItem → LicenseMarks → ℕ → ℕ → Item
 term_of item marks place len =
-    item_at (Term (record { item = item; marks = marks; name_end = place + len })) place (if marks.plus then len + 1 else len)
+    item_at (Term (record { item = item; marks = marks; name_end = place + len })) place
+    (if marks.plus then len + 1 else len)
 
 abbrev pub license_of : List ℕ → LicenseEntry → Bool → ℕ → ℕ → Item
 license_of name entry plus place len =
@@ -68,11 +73,14 @@ license_at lists name place text len =
 
 abbrev pub reference_at : List ℕ → ℕ → ℕ → Option Item
 reference_at word place len =
-    option_map (λ item. term_of item (record { later = false; deprecated = false; gnu = false; plus = false }) place len) (reference_of word)
+    option_map
+    (λ item. term_of item (record { later = false; deprecated = false; gnu = false; plus = false }) place len)
+    (reference_of word)
 
 -- an imprecise text begins a text without regard to ASCII case, and its last word ends there
 abbrev pub begins : List ℕ → List ℕ → Bool
-begins imprecise text = str_eq_ignore_ascii_case imprecise (take (length imprecise) text) && ends_word (drop (length imprecise) text)
+begins imprecise text =
+    str_eq_ignore_ascii_case imprecise (take (length imprecise) text) && ends_word (drop (length imprecise) text)
 
 -- the longer of two, and of equally long ones the second
 abbrev pub longer_match : ℕ × List ℕ → Option (ℕ × List ℕ) → Option (ℕ × List ℕ)
@@ -82,7 +90,8 @@ longer_match found (Some best) = if nat_le found.0 best.0 then Some best else So
 -- the longest listed text that begins a text: its length and the licence that it means
 abbrev pub longest_match : List (List ℕ × List ℕ) → List ℕ → Option (ℕ × List ℕ)
 longest_match [] text = None
-longest_match (one ∷ rest) text = if begins one.0 text then longer_match (length one.0, one.1) (longest_match rest text) else longest_match rest text
+longest_match (one ∷ rest) text =
+    if begins one.0 text then longer_match (length one.0, one.1) (longest_match rest text) else longest_match rest text
 
 -- what a catalogue found at the start of a text: its length and the licence that is meant
 abbrev pub imprecise_of : Imprecise → ℕ × List ℕ
@@ -96,13 +105,15 @@ has_reading lists word = is_operator_text word || is_some (reference_of word) ||
 abbrev pub imprecise_at : CatalogLists → ℕ → List ℕ → ℕ → Option (ℕ × List ℕ) → Option Item
 imprecise_at lists place text len None = None
 imprecise_at lists place text len (Some found) =
-    if nat_lt len found.0 || not (has_reading lists (take len text)) then license_at lists found.1 place text found.0 else None
+    if nat_lt len found.0 || not (has_reading lists (take len text)) then license_at lists found.1 place text found.0
+    else None
 
 abbrev pub imprecise_if : Bool → CatalogLists → ℕ → List ℕ → ℕ → Option Item
 imprecise_if true lists place text len = imprecise_at lists place text len (longest_match lists.imprecise text)
 imprecise_if false lists place text len = None
 
--- a word of a text where a term is wanted, without imprecise texts: a reference, a licence name, or what it is everywhere
+-- a word of a text where a term is wanted, without imprecise texts: a reference, a licence name, or what it is
+-- everywhere
 abbrev pub plain_item : CatalogLists → ℕ → List ℕ → ℕ → Item
 plain_item lists place text len =
     unwrap_or (option_or (reference_at (take len text) place len) (license_at lists (take len text) place text len))

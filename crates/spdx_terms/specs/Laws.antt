@@ -18,15 +18,20 @@ SatisfiesOwnFamily = (licensee term : LicenseReq) → Satisfies licensee term �
 
 -- licensees that print the same are equal, and so neither is less
 abbrev pub PrintedAlikeIsEqual : Type 0
-PrintedAlikeIsEqual = (licensee other : LicenseReq) → req_text licensee ≡ req_text other → printed_order licensee other ≡ Equal
+PrintedAlikeIsEqual =
+    (licensee other : LicenseReq) → req_text licensee ≡ req_text other → printed_order licensee other ≡ Equal
 
 -- the spans of a text's items follow one another in it, are not empty, and stand on character borders
 abbrev pub ItemsRise : Type 0
-ItemsRise = (mode : ParseMode) (lists : CatalogLists) (text : List ℕ) → IsCatalog lists → IsUtf8 text → Rise text 0 (map (λ item. item.span) (items_of mode lists text)) (length text)
+ItemsRise =
+    (mode : ParseMode) (lists : CatalogLists) (text : List ℕ) → IsCatalog lists → IsUtf8 text
+    → Rise text 0 (map (λ item. item.span) (items_of mode lists text)) (length text)
 
 -- a text's items cover it: all else is white space
 abbrev pub ItemsCover : Type 0
-ItemsCover = (mode : ParseMode) (lists : CatalogLists) (text : List ℕ) → IsCatalog lists → IsUtf8 text → WhiteBetween text 0 (map (λ item. item.span) (items_of mode lists text))
+ItemsCover =
+    (mode : ParseMode) (lists : CatalogLists) (text : List ℕ) → IsCatalog lists → IsUtf8 text
+    → WhiteBetween text 0 (map (λ item. item.span) (items_of mode lists text))
 
 -- the mode with the slash, or without
 abbrev pub with_slash : Bool → ParseMode → ParseMode
@@ -43,4 +48,6 @@ has_no_slash text = list_all (λ b. not (b == byte "/")) text
 
 -- where none is in a text, the slash changes no item
 abbrev pub SlashChangesNothing : Type 0
-SlashChangesNothing = (mode : ParseMode) (lists : CatalogLists) (text : List ℕ) → IsTrue (has_no_slash text) → items_of (with_slash true mode) lists text ≡ items_of (with_slash false mode) lists text
+SlashChangesNothing =
+    (mode : ParseMode) (lists : CatalogLists) (text : List ℕ) → IsTrue (has_no_slash text)
+    → items_of (with_slash true mode) lists text ≡ items_of (with_slash false mode) lists text

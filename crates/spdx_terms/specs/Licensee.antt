@@ -13,7 +13,8 @@ use Rattle.spdx_terms.specs.declared.item.Item.{Item}
 use Rattle.spdx_terms.specs.declared.item.Simple.{Simple}
 use Rattle.spdx_terms.specs.declared.item.LicenseMarks.{LicenseMarks}
 use Rattle.spdx_terms.specs.declared.item.ItemKind.{ItemKind}
-use Rattle.spdx_terms.specs.declared.item.ItemKind.TheVariants.{Term, Exception, And, Or, With, Open, Close, Plus, Word, Other}
+use Rattle.spdx_terms.specs.declared.item.ItemKind.TheVariants.{Term, Exception, And, Or, With, Open, Close, Plus, Word}
+use Rattle.spdx_terms.specs.declared.item.ItemKind.TheVariants.{Other}
 use Rattle.spdx_terms.specs.declared.error.ExprError.{ExprError}
 use Rattle.spdx_terms.specs.declared.error.ExprError.TheVariants.{Parse, Memory}
 use Rattle.spdx_terms.specs.catalog.Catalog.{CatalogLists}
@@ -45,8 +46,10 @@ licensee_req named exception = record { item = without_plus named.item named.mar
 pub data IsOnePart (mode : ParseMode) : List Item → LicenseReq → Type 0 where
   alone : (named : Simple) (span : Span) → IsTrue (marks_allowed mode named.marks)
       → IsOnePart mode (record { what = Term named; span = span } ∷ []) (licensee_req named None)
-  with_exception : (named : Simple) (name : List ℕ) (first second third : Span) → IsTrue (marks_allowed mode named.marks)
-      → IsOnePart mode (record { what = Term named; span = first } ∷ record { what = With; span = second } ∷ record { what = Exception name; span = third } ∷ [])
+  with_exception : (named : Simple) (name : List ℕ) (first second third : Span)
+      → IsTrue (marks_allowed mode named.marks)
+      → IsOnePart mode (record { what = Term named; span = first } ∷ record { what = With; span = second }
+      ∷ record { what = Exception name; span = third } ∷ [])
       (licensee_req named (Some name))
 
 -- a text is a licensee

@@ -12,10 +12,12 @@ abbrev pub items_behind : ParseMode → CatalogLists → WantedItem → ℕ → 
 items_behind mode lists wanted place text = items_from mode lists wanted place place (drop place text)
 
 -- an item is the first one from a place on, and the others are behind it
-pub record StandsNext (mode : ParseMode) (lists : CatalogLists) (wanted : WantedItem) (place : ℕ) (text : List ℕ) (item : Item) : Type 0 where
+pub record StandsNext (mode : ParseMode) (lists : CatalogLists) (wanted : WantedItem) (place : ℕ) (text : List ℕ)
+    (item : Item) : Type 0 where
   pub later : place < item.span.end
   pub border : IsCharBoundary text item.span.end
-  pub items : items_behind mode lists wanted place text ≡ item ∷ items_behind mode lists (wanted_after wanted item.what) item.span.end text
+  pub items : items_behind mode lists wanted place text
+      ≡ item ∷ items_behind mode lists (wanted_after wanted item.what) item.span.end text
 
 -- the first item from a place on, where there is one
 abbrev pub IsNext : ParseMode → CatalogLists → WantedItem → ℕ → List ℕ → Option Item → Type 0

@@ -1,7 +1,10 @@
 -- How faults are reported.
 use Rattle.std.specs.Prelude.{ℕ, List, codes}
 use Rattle.spdx_terms.specs.declared.error.ParseReason.{ParseReason}
-use Rattle.spdx_terms.specs.declared.error.ParseReason.TheVariants.{Empty, InvalidCharacters, SeparatedPlus, UnopenedParens, Unexpected, UnknownTerm, UnknownException, DeprecatedId, GplNoPlus, UnclosedParens}
+use Rattle.spdx_terms.specs.declared.error.ParseReason.TheVariants.{Empty, InvalidCharacters, SeparatedPlus}
+use Rattle.spdx_terms.specs.declared.error.ParseReason.TheVariants.{UnopenedParens, Unexpected, UnknownTerm}
+use Rattle.spdx_terms.specs.declared.error.ParseReason.TheVariants.{UnknownException, DeprecatedId, GplNoPlus}
+use Rattle.spdx_terms.specs.declared.error.ParseReason.TheVariants.{UnclosedParens}
 
 abbrev pub reason_text : ParseReason → List ℕ
 reason_text Empty = codes "expression is empty"

@@ -4,7 +4,8 @@ use Rattle.std.specs.Str.{IsCharBoundary}
 use Rattle.deny_text.specs.declared.span.Span.{Span}
 use Rattle.spdx_terms.specs.Tokens.{is_white}
 
--- from a place on and up to another, each span lies behind the one before, is not empty, and stands on character borders
+-- from a place on and up to another, each span lies behind the one before, is not empty, and stands on character
+-- borders
 pub record LiesFrom (text : List ℕ) (place : ℕ) (span : Span) : Type 0 where
   pub behind : place ≤ span.start
   pub some : span.start < span.end

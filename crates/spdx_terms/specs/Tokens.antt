@@ -1,5 +1,6 @@
 -- The tokens of a licence expression: words, marks, and characters of neither kind (SPDX 2.3, Annex D).
-use Rattle.std.specs.Prelude.{ℕ, false, ◌==◌, Bool, ◌&&◌, ◌||◌, List, [], ◌∷◌, Option, Some, None, if◌then◌else◌, codes, nat_eq, drop, length}
+use Rattle.std.specs.Prelude.{ℕ, false, ◌==◌, Bool, ◌&&◌, ◌||◌, List, [], ◌∷◌, Option, Some, None, if◌then◌else◌, codes}
+use Rattle.std.specs.Prelude.{nat_eq, drop, length}
 use Rattle.std.specs.Str.{byte, bytes_eq}
 use Rattle.std.specs.List.{list_any, prefix_len, starts_with, before_first, after_first}
 use Rattle.deny_text.specs.Character.{goes_on}
@@ -69,7 +70,9 @@ own_license doc (Some id) = if is_word id then Some (Reference doc id) else None
 abbrev pub in_document : Option (List ℕ) → Option LicenseItem
 in_document None = None
 in_document (Some text) =
-    if is_word (before_first is_colon text) then own_license (Some (before_first is_colon text)) (after_prefix (codes "LicenseRef-") (after_first is_colon text))
+    if is_word (before_first is_colon text)
+    then own_license (Some (before_first is_colon text))
+    (after_prefix (codes "LicenseRef-") (after_first is_colon text))
     else None
 
 abbrev pub or_else : Option LicenseItem → Option LicenseItem → Option LicenseItem
@@ -79,4 +82,5 @@ or_else (Some item) other = Some item
 -- the reference that a word is: `LicenseRef-` and an id, or `DocumentRef-`, a document, `:LicenseRef-` and an id
 abbrev pub reference_of : List ℕ → Option LicenseItem
 reference_of word =
-    or_else (own_license None (after_prefix (codes "LicenseRef-") word)) (in_document (after_prefix (codes "DocumentRef-") word))
+    or_else (own_license None (after_prefix (codes "LicenseRef-") word))
+    (in_document (after_prefix (codes "DocumentRef-") word))

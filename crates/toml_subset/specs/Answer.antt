@@ -16,7 +16,8 @@ fault_at reason i j = record { reason = reason; span = from_to i j }
 -- Nothing can go on at a place: another character is there, or the text ends.
 abbrev pub stop_error : List ℕ → ℕ → SyntaxError
 stop_error text i =
-    if nat_lt i (length text) then fault_at Unexpected i (char_end text i) else fault_at UnexpectedEnd (length text) (length text)
+    if nat_lt i (length text) then fault_at Unexpected i (char_end text i)
+    else fault_at UnexpectedEnd (length text) (length text)
 
 -- reading on behind what was read
 abbrev pub then_read : {A B : Type 0} → (A → TomlReading B) → TomlReading A → TomlReading B

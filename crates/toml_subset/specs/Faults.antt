@@ -1,19 +1,25 @@
 -- What a fault says of a text.
-use Rattle.std.specs.Prelude.{◌≡◌, ℕ, zero, suc, ◌+◌, ◌<◌, ◌≤◌, ◌==◌, if◌then◌else◌, Bool, not, ◌||◌, ◌⊎◌, IsTrue, IsFalse, List, [], ◌∷◌, ◌++◌, Some, None, length, take, drop, ⊤}
+use Rattle.std.specs.Prelude.{◌≡◌, ℕ, zero, suc, ◌+◌, ◌<◌, ◌≤◌, ◌==◌, if◌then◌else◌, Bool, not, ◌||◌, ◌⊎◌, IsTrue}
+use Rattle.std.specs.Prelude.{IsFalse, List, [], ◌∷◌, ◌++◌, Some, None, length, take, drop, ⊤}
 use Rattle.std.specs.List.{prefix_len}
 use Rattle.std.specs.Str.{IsCharBoundary}
 use Rattle.deny_text.specs.declared.span.Span.{Span}
-use Rattle.toml_subset.specs.Bytes.{line_feed, backslash, equals, hash, open_bracket, close_bracket, open_brace, may_stand, is_run, begins_run}
+use Rattle.toml_subset.specs.Bytes.{line_feed, backslash, equals, hash, open_bracket, close_bracket, open_brace}
+use Rattle.toml_subset.specs.Bytes.{may_stand, is_run, begins_run}
 use Rattle.toml_subset.specs.Data.{Toml}
 use Rattle.toml_subset.specs.Keys.{AreKeys}
 use Rattle.toml_subset.specs.Numbers.{Class, unsupported, number_form, number_range, class_of, is_special, is_digit_in}
-use Rattle.toml_subset.specs.Places.{from_to, passes_at, stands, run_end, run_at, after_blanks, behind_line_end, char_end}
+use Rattle.toml_subset.specs.Places.{from_to, passes_at, stands, run_end, run_at, after_blanks, behind_line_end}
+use Rattle.toml_subset.specs.Places.{char_end}
 use Rattle.toml_subset.specs.Strings.{Quoting, has_escapes, StringPiece, StringPart, piece, broken, opening, part_at}
 use Rattle.toml_subset.specs.Text.{IsText}
 use Rattle.toml_subset.specs.declared.string.Key.{Key}
 use Rattle.toml_subset.specs.declared.error.SyntaxError.{SyntaxError}
 use Rattle.toml_subset.specs.declared.error.SyntaxReason.{SyntaxReason}
-use Rattle.toml_subset.specs.declared.error.SyntaxReason.TheVariants.{UnexpectedEnd, Unexpected, InvalidEscape, ControlCharacter, NumberForm, NumberRange, Unsupported, DuplicateKey, RedefinedTable, TooDeep}
+use Rattle.toml_subset.specs.declared.error.SyntaxReason.TheVariants.{UnexpectedEnd, Unexpected, InvalidEscape}
+use Rattle.toml_subset.specs.declared.error.SyntaxReason.TheVariants.{ControlCharacter, NumberForm, NumberRange}
+use Rattle.toml_subset.specs.declared.error.SyntaxReason.TheVariants.{Unsupported, DuplicateKey, RedefinedTable}
+use Rattle.toml_subset.specs.declared.error.SyntaxReason.TheVariants.{TooDeep}
 
 -- a number run begins with a digit or a sign, or is `inf` or `nan`
 abbrev pub begins_number : List ℕ → ℕ → Bool
@@ -42,12 +48,15 @@ abbrev pub IsKeyOf : Role → List ℕ → ℕ → ℕ → Type 0
 IsKeyOf of_pair text i next = IsTrue (stands text (after_blanks text next) equals)
 IsKeyOf of_header text i next =
     (line : ℕ) × LineBegins text line × IsTrue (stands text (after_blanks text line) open_bracket)
-    × IsFalse (stands text (after_blanks text line + 1) open_bracket) × (i ≡ after_blanks text (after_blanks text line + 1))
+    × IsFalse (stands text (after_blanks text line + 1) open_bracket)
+    × (i ≡ after_blanks text (after_blanks text line + 1))
     × IsTrue (stands text (after_blanks text next) close_bracket)
 IsKeyOf of_array_header text i next =
     (line : ℕ) × LineBegins text line × IsTrue (stands text (after_blanks text line) open_bracket)
-    × IsTrue (stands text (after_blanks text line + 1) open_bracket) × (i ≡ after_blanks text (after_blanks text line + 2))
-    × IsTrue (stands text (after_blanks text next) close_bracket) × IsTrue (stands text (after_blanks text next + 1) close_bracket)
+    × IsTrue (stands text (after_blanks text line + 1) open_bracket)
+    × (i ≡ after_blanks text (after_blanks text line + 2))
+    × IsTrue (stands text (after_blanks text next) close_bracket)
+    × IsTrue (stands text (after_blanks text next + 1) close_bracket)
 
 -- a part of a key is here, without its quotes, these further parts behind it
 pub record IsKeyPart (role : Role) (behind : List Key) (text : List ℕ) (span : Span) : Type 0 where
@@ -93,7 +102,8 @@ pub record IsCutComment (text : List ℕ) (i : ℕ) : Type 0 where
 -- where so many hexadecimal digits end that name no scalar value, or behind the first character that is none
 abbrev pub digits_end : ℕ → List ℕ → ℕ → ℕ
 digits_end digits text i =
-    let found = prefix_len (is_digit_in 16) (take digits (drop i text)) in if found == digits then i + digits else char_end text (i + found)
+    let found = prefix_len (is_digit_in 16) (take digits (drop i text)) in
+    if found == digits then i + digits else char_end text (i + found)
 
 -- the place behind a wrong escape: behind its digits, or behind the character at which it goes wrong
 abbrev pub escape_end : List ℕ → ℕ → ℕ
@@ -104,7 +114,8 @@ escape_end text i =
 -- an opening bracket or brace is here
 abbrev pub IsOpening : List ℕ → Span → Type 0
 IsOpening text span =
-    (IsTrue (stands text span.start open_bracket) ⊎ IsTrue (stands text span.start open_brace)) × (span.end ≡ span.start + 1)
+    (IsTrue (stands text span.start open_bracket) ⊎ IsTrue (stands text span.start open_brace))
+    × (span.end ≡ span.start + 1)
 
 -- what is at a fault, by its reason
 abbrev pub StandsThere : SyntaxReason → List ℕ → Span → Type 0
@@ -136,4 +147,5 @@ pub record IsSyntaxFault (text : List ℕ) (from : ℕ) (fault : SyntaxError) : 
 pub record IsFirstFault (text : List ℕ) (fault : SyntaxError) : Type 0 where
   pub is_fault : IsSyntaxFault text 0 fault
   pub outside : (value : Toml) → IsText text value → ⊥
-  pub fronts : (i : ℕ) (value : Toml) → fault.span.start ≤ i → IsTrue (stands text i line_feed) → IsText (take (i + 1) text) value → ⊥
+  pub fronts : (i : ℕ) (value : Toml) → fault.span.start ≤ i → IsTrue (stands text i line_feed)
+      → IsText (take (i + 1) text) value → ⊥

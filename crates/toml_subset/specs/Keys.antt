@@ -13,7 +13,8 @@ pub record IsBareKey (text : List ℕ) (i : ℕ) (key : Key) (next : ℕ) : Type
 
 -- a quoted key is a string of one line
 abbrev pub IsQuotedKey : List ℕ → ℕ → Key → ℕ → Type 0
-IsQuotedKey text i key next = IsString text i basic key.name key.span next ⊎ IsString text i literal key.name key.span next
+IsQuotedKey text i key next =
+    IsString text i basic key.name key.span next ⊎ IsString text i literal key.name key.span next
 
 -- a key, or a part of a dotted key
 abbrev pub IsKey : List ℕ → ℕ → Key → ℕ → Type 0
@@ -24,5 +25,6 @@ abbrev pub AreKeys : List ℕ → ℕ → List Key → ℕ → Type 0
 AreKeys text i [] next = ⊥
 AreKeys text i (key ∷ more) next =
     (k : ℕ) × IsKey text i key k
-    × ((IsTrue (stands text (after_blanks text k) dot) × AreKeys text (after_blanks text (after_blanks text k + 1)) more next)
+    × ((IsTrue (stands text (after_blanks text k) dot)
+    × AreKeys text (after_blanks text (after_blanks text k + 1)) more next)
     ⊎ (IsFalse (stands text (after_blanks text k) dot) × (more ≡ []) × (next ≡ k)))

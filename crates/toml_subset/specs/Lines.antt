@@ -1,11 +1,13 @@
 -- A text as its lines (TOML 1.0: Spec, Key/Value Pair, Table, Array of Tables).
-use Rattle.std.specs.Prelude.{◌≡◌, ℕ, ◌+◌, ◌<◌, IsTrue, IsFalse, List, [], ◌∷◌, Option, Some, length, option_map, option_and_then}
+use Rattle.std.specs.Prelude.{◌≡◌, ℕ, ◌+◌, ◌<◌, IsTrue, IsFalse, List, [], ◌∷◌, Option, Some, length, option_map}
+use Rattle.std.specs.Prelude.{option_and_then}
 use Rattle.deny_text.specs.declared.span.Span.{Span}
 use Rattle.toml_subset.specs.Bytes.{open_bracket, close_bracket}
 use Rattle.toml_subset.specs.Keys.{AreKeys}
 use Rattle.toml_subset.specs.Places.{from_to, stands, after_blanks, next_line}
 use Rattle.toml_subset.specs.Raw.{Raw, IsPair}
-use Rattle.toml_subset.specs.Tables.{Branches, unbranched, closed, implicit, edit_along, branches_with_value, through_any, open_table, open_array, edit_within, meant}
+use Rattle.toml_subset.specs.Tables.{Branches, unbranched, closed, implicit, edit_along, branches_with_value}
+use Rattle.toml_subset.specs.Tables.{through_any, open_table, open_array, edit_within, meant}
 use Rattle.toml_subset.specs.declared.string.Key.{Key}
 
 -- what a line says; headers have the span from bracket to bracket
@@ -27,7 +29,8 @@ IsStatement text i (table_header span keys) next =
 IsStatement text i (array_header span keys) next =
     IsTrue (stands text i open_bracket) × IsTrue (stands text (i + 1) open_bracket)
     × ((k : ℕ) × AreKeys text (after_blanks text (i + 2)) keys k
-    × IsTrue (stands text (after_blanks text k) close_bracket) × IsTrue (stands text (after_blanks text k + 1) close_bracket)
+    × IsTrue (stands text (after_blanks text k) close_bracket)
+    × IsTrue (stands text (after_blanks text k + 1) close_bracket)
     × (next ≡ after_blanks text k + 2) × (span ≡ from_to i next))
 
 -- A line begins at a place, and the next one at a further place: blanks, a statement, and then nothing but blanks and a
@@ -39,7 +42,8 @@ IsLine text i statement next =
 -- the lines from a place up to the text's end
 abbrev pub AreLines : List ℕ → ℕ → List Statement → Type 0
 AreLines text i [] = i ≡ length text
-AreLines text i (statement ∷ more) = (i < length text) × ((next : ℕ) × IsLine text i statement next × AreLines text next more)
+AreLines text i (statement ∷ more) =
+    (i < length text) × ((next : ℕ) × IsLine text i statement next × AreLines text next more)
 
 -- the tables that some lines make, and the header whose table the next lines fill
 pub record Document : Type 0 where
@@ -57,9 +61,11 @@ after_line (pair keys span value) document =
     option_map (λ root. record { root = root; section = document.section })
     (edit_within document.section (branches_with_value keys (closed span content)) document.root)) (meant value)
 after_line (table_header span keys) document =
-    option_map (λ root. record { root = root; section = keys }) (edit_along implicit through_any (open_table span) keys document.root)
+    option_map (λ root. record { root = root; section = keys })
+    (edit_along implicit through_any (open_table span) keys document.root)
 after_line (array_header span keys) document =
-    option_map (λ root. record { root = root; section = keys }) (edit_along implicit through_any (open_array span) keys document.root)
+    option_map (λ root. record { root = root; section = keys })
+    (edit_along implicit through_any (open_array span) keys document.root)
 
 -- what some lines make of a document, one after another
 abbrev pub after_lines : List Statement → Document → Option Document

@@ -1,6 +1,7 @@
 -- Number runs and their classes (TOML 1.0: Integer, Float, Offset Date-Time and the three after it). What TOML has and
 -- the subset has not is Unsupported; what neither has is a wrong form.
-use Rattle.std.specs.Prelude.{ℕ, ◌+◌, ◌-◌, ◌*◌, ◌^◌, Bool, false, ◌||◌, ◌&&◌, not, ◌==◌, nat_eq, nat_le, nat_lt, if◌then◌else◌, List, [], ◌∷◌, length, take, drop, ℤ, pos, neg_ℤ, codes}
+use Rattle.std.specs.Prelude.{ℕ, ◌+◌, ◌-◌, ◌*◌, ◌^◌, Bool, false, ◌||◌, ◌&&◌, not, ◌==◌, nat_eq, nat_le, nat_lt}
+use Rattle.std.specs.Prelude.{if◌then◌else◌, List, [], ◌∷◌, length, take, drop, ℤ, pos, neg_ℤ, codes}
 use Rattle.std.specs.List.{list_all, before_first, after_first, prefix_len, starts_with, slice_split}
 use Rattle.std.specs.Str.{bytes_eq}
 use Rattle.toml_subset.specs.Bytes.{colon, minus, underscore, is_digit, is_letter, is_sign, is_point, is_e}
@@ -82,7 +83,8 @@ has_long_fraction s = is_whole (whole_part s) && are_grouped 10 (fraction s) && 
 
 -- so many digits at the front, and then a mark
 abbrev pub digits_before : ℕ → ℕ → List ℕ → Bool
-digits_before digits mark s = (prefix_len is_digit (take digits s) == digits) && front_is (λ c. c == mark) (drop digits s)
+digits_before digits mark s =
+    (prefix_len is_digit (take digits s) == digits) && front_is (λ c. c == mark) (drop digits s)
 
 -- four digits and `-`, or two digits and `:`
 abbrev pub begins_date : List ℕ → Bool
@@ -135,7 +137,8 @@ based_form base digits = if are_grouped base digits then number_class integer fa
 abbrev pub decimal_or_whole : List ℕ → Class
 decimal_or_whole run =
     if is_whole (unsigned run) then number_class integer (is_negative run) (count 10 (unsigned run))
-    else (if is_decimal (unsigned run) then number_class decimal (is_negative run) (decimal_count (unsigned run)) else number_form)
+    else (if is_decimal (unsigned run) then number_class decimal (is_negative run) (decimal_count (unsigned run))
+    else number_form)
 
 -- the form of a run that is not unsupported
 abbrev pub form_of : List ℕ → Class

@@ -1,10 +1,12 @@
 -- Places in a text, counted in bytes from 0: what is at one, and how far a run goes from it
 -- (TOML 1.0: Spec on white space and line ends, Comment).
-use Rattle.std.specs.Prelude.{ℕ, zero, suc, ◌+◌, Bool, false, not, ◌&&◌, ◌==◌, if◌then◌else◌, List, [], ◌∷◌, Option, Some, None, length, take, drop}
+use Rattle.std.specs.Prelude.{ℕ, zero, suc, ◌+◌, Bool, false, not, ◌&&◌, ◌==◌, if◌then◌else◌, List, [], ◌∷◌, Option}
+use Rattle.std.specs.Prelude.{Some, None, length, take, drop}
 use Rattle.std.specs.List.{prefix_len}
 use Rattle.deny_text.specs.declared.span.Span.{Span}
 use Rattle.deny_text.specs.Character.{goes_on}
-use Rattle.toml_subset.specs.Bytes.{line_feed, carriage_return, hash, is_blank, is_bare, is_run, is_digit, is_point, is_e, may_stand}
+use Rattle.toml_subset.specs.Bytes.{line_feed, carriage_return, hash, is_blank, is_bare, is_run, is_digit, is_point}
+use Rattle.toml_subset.specs.Bytes.{is_e, may_stand}
 use Rattle.toml_subset.specs.declared.scan.RunKind.{RunKind}
 use Rattle.toml_subset.specs.declared.scan.RunKind.TheVariants as run
 
@@ -72,7 +74,8 @@ after_blanks_and_comment text i = after_comment text (after_blanks text i)
 -- The number bounds how many lines there are.
 abbrev pub lines_over : (List ℕ → ℕ → ℕ) → ℕ → List ℕ → ℕ → ℕ
 lines_over over zero text i = i
-lines_over over (suc n) text i = elim (behind_line_end text (over text i)) [ Some next ↦ lines_over over n text next | None ↦ i ]
+lines_over over (suc n) text i =
+    elim (behind_line_end text (over text i)) [ Some next ↦ lines_over over n text next | None ↦ i ]
 
 abbrev pub after_lines_of : (List ℕ → ℕ → ℕ) → List ℕ → ℕ → ℕ
 after_lines_of over text = lines_over over (length text) text

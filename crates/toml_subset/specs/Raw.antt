@@ -2,7 +2,8 @@
 -- dotted keys and all.
 use Rattle.std.specs.Prelude.{◌≡◌, ℕ, ◌+◌, Bool, true, false, ◌⊎◌, IsTrue, List, ℤ, length, take, drop, codes}
 use Rattle.deny_text.specs.declared.span.Span.{Span}
-use Rattle.toml_subset.specs.Bytes.{comma, equals, open_bracket, close_bracket, open_brace, close_brace, is_run, begins_run}
+use Rattle.toml_subset.specs.Bytes.{comma, equals, open_bracket, close_bracket, open_brace, close_brace, is_run}
+use Rattle.toml_subset.specs.Bytes.{begins_run}
 use Rattle.toml_subset.specs.Keys.{AreKeys}
 use Rattle.toml_subset.specs.Numbers.{Class, integer, decimal, class_of}
 use Rattle.toml_subset.specs.Places.{from_to, passes_at, stands, run_end, run_at, after_blanks, after_space}
@@ -62,9 +63,11 @@ abbrev mutual
   IsValue text i span (raw_decimal z) next = IsNumber text i (decimal z) span next
   IsValue text i span (raw_boolean b) next = IsWord text i b span next
   IsValue text i span (raw_array items) next =
-      IsTrue (stands text i open_bracket) × AreItems text (after_space text (i + 1)) items next × (span ≡ from_to i next)
+      IsTrue (stands text i open_bracket) × AreItems text (after_space text (i + 1)) items next
+      × (span ≡ from_to i next)
   IsValue text i span (raw_table entries) next =
-      IsTrue (stands text i open_brace) × AreEntries text (after_blanks text (i + 1)) entries next × (span ≡ from_to i next)
+      IsTrue (stands text i open_brace) × AreEntries text (after_blanks text (i + 1)) entries next
+      × (span ≡ from_to i next)
 
   -- the rest of an array, from an item's place on
   pub AreItems : List ℕ → ℕ → RawItems → ℕ → Type 0
@@ -76,16 +79,19 @@ abbrev mutual
   pub AreItemsBehind : List ℕ → ℕ → RawItems → ℕ → Type 0
   AreItemsBehind text i raw_none next =
       (IsTrue (stands text i close_bracket) × (next ≡ i + 1))
-      ⊎ (IsTrue (stands text i comma) × IsTrue (stands text (after_space text (i + 1)) close_bracket) × (next ≡ after_space text (i + 1) + 1))
+      ⊎ (IsTrue (stands text i comma) × IsTrue (stands text (after_space text (i + 1)) close_bracket)
+      × (next ≡ after_space text (i + 1) + 1))
   AreItemsBehind text i (raw_item span value more) next =
       IsTrue (stands text i comma)
-      × ((k : ℕ) × IsValue text (after_space text (i + 1)) span value k × AreItemsBehind text (after_space text k) more next)
+      × ((k : ℕ) × IsValue text (after_space text (i + 1)) span value k
+      × AreItemsBehind text (after_space text k) more next)
 
   -- the entries of an inline table, from behind its opening on
   pub AreEntries : List ℕ → ℕ → RawEntries → ℕ → Type 0
   AreEntries text i raw_empty next = IsTrue (stands text i close_brace) × (next ≡ i + 1)
   AreEntries text i (raw_entry keys span value more) next =
-      (k : ℕ) × IsPairOf (λ a b. IsValue text a span value b) text i keys k × AreEntriesBehind text (after_blanks text k) more next
+      (k : ℕ) × IsPairOf (λ a b. IsValue text a span value b) text i keys k
+      × AreEntriesBehind text (after_blanks text k) more next
 
   -- the rest of an inline table, from behind an entry on
   pub AreEntriesBehind : List ℕ → ℕ → RawEntries → ℕ → Type 0

@@ -1,12 +1,14 @@
 -- Strings and keys, read from left to right.
-use Rattle.std.specs.Prelude.{ℕ, zero, suc, ◌+◌, Bool, ◌||◌, ◌&&◌, ◌==◌, nat_le, nat_lt, if◌then◌else◌, false, List, [], ◌∷◌, Some, None, Ok, Err, length, take, drop}
+use Rattle.std.specs.Prelude.{ℕ, zero, suc, ◌+◌, Bool, ◌||◌, ◌&&◌, ◌==◌, nat_le, nat_lt, if◌then◌else◌, false, List, []}
+use Rattle.std.specs.Prelude.{◌∷◌, Some, None, Ok, Err, length, take, drop}
 use Rattle.std.specs.List.{prefix_len}
 use Rattle.deny_text.specs.declared.span.Span.{Span}
 use Rattle.toml_subset.specs.Answer.{TomlReading, fault_at, stop_error, then_read}
 use Rattle.toml_subset.specs.Bytes.{quote, apostrophe, backslash, dot, equals, is_bare}
 use Rattle.toml_subset.specs.Numbers.{is_digit_in}
 use Rattle.toml_subset.specs.Places.{from_to, passes_at, stands, run_end, run_at, after_blanks, char_end}
-use Rattle.toml_subset.specs.Strings.{Quoting, mark_of, is_long, has_escapes, marks_in_row, opening, StringPiece, StringPart, piece, closing, broken, part_at, written_of}
+use Rattle.toml_subset.specs.Strings.{Quoting, mark_of, is_long, has_escapes, marks_in_row, opening, StringPiece}
+use Rattle.toml_subset.specs.Strings.{StringPart, piece, closing, broken, part_at, written_of}
 use Rattle.toml_subset.specs.Written.{WrittenString}
 use Rattle.toml_subset.specs.declared.error.SyntaxError.{SyntaxError}
 use Rattle.toml_subset.specs.declared.error.SyntaxReason.TheVariants.{InvalidEscape, ControlCharacter}
@@ -17,9 +19,11 @@ abbrev pub scalar_fault : ℕ → List ℕ → ℕ → SyntaxError
 scalar_fault digits text i =
     let found = prefix_len (is_digit_in 16) (take digits (drop (i + 2) text)) in
     if found == digits then fault_at InvalidEscape i (i + 2 + digits)
-    else (if nat_lt (i + 2 + found) (length text) then fault_at InvalidEscape i (char_end text (i + 2 + found)) else stop_error text (length text))
+    else (if nat_lt (i + 2 + found) (length text) then fault_at InvalidEscape i (char_end text (i + 2 + found))
+    else stop_error text (length text))
 
--- whether the text ends before an escape does: behind the backslash, or behind the blanks that follow it in a long string
+-- whether the text ends before an escape does: behind the backslash, or behind the blanks that follow it in a long
+-- string
 abbrev pub escape_is_cut : Quoting → List ℕ → ℕ → Bool
 escape_is_cut kind text i = (i + 1 == length text) || (is_long kind && (after_blanks text (i + 1) == length text))
 
@@ -27,7 +31,8 @@ abbrev pub escape_fault : Quoting → List ℕ → ℕ → SyntaxError
 escape_fault kind text i =
     if stands text (i + 1) 117 then scalar_fault 4 text i
     else (if stands text (i + 1) 85 then scalar_fault 8 text i
-    else (if escape_is_cut kind text i then stop_error text (length text) else fault_at InvalidEscape i (char_end text (i + 1))))
+    else (if escape_is_cut kind text i then stop_error text (length text)
+    else fault_at InvalidEscape i (char_end text (i + 1))))
 
 -- What breaks a string at a place: a sixth mark in a row, an escape, a character that may not are in it, or the text's
 -- end.
@@ -57,7 +62,8 @@ StringFound = WrittenString × Span × ℕ
 
 abbrev pub string_from : List ℕ → Quoting × ℕ → TomlReading StringFound
 string_from text first =
-    then_read (λ (r : Pieces). Ok (written_of r.0, from_to first.1 r.1, r.2)) (read_pieces (suc (length text)) first.0 text first.1)
+    then_read (λ (r : Pieces). Ok (written_of r.0, from_to first.1 r.1, r.2))
+    (read_pieces (suc (length text)) first.0 text first.1)
 
 abbrev pub read_string : List ℕ → ℕ → TomlReading StringFound
 read_string text i = elim (opening text i) [ Some first ↦ string_from text first | None ↦ Err (stop_error text i) ]
@@ -69,8 +75,10 @@ abbrev pub KeyFound : Type 0
 KeyFound = Key × ℕ
 
 abbrev pub bare_key : List ℕ → ℕ → KeyFound
-bare_key text i =
-    (record { name = record { text = run_at is_bare text i; escaped = false }; span = from_to i (run_end is_bare text i) }, run_end is_bare text i)
+bare_key text i = (
+  record { name = record { text = run_at is_bare text i; escaped = false }; span = from_to i (run_end is_bare text i) },
+  run_end is_bare text i,
+)
 
 -- three marks begin no key
 abbrev pub quoted_key : List ℕ → ℕ → TomlReading KeyFound
@@ -89,7 +97,8 @@ KeysFound = List Key × ℕ
 abbrev pub keys_behind : (ℕ → TomlReading KeysFound) → List ℕ → KeyFound → TomlReading KeysFound
 keys_behind rest text key =
     if stands text (after_blanks text key.1) dot
-    then then_read (λ (more : KeysFound). Ok (key.0 ∷ more.0, more.1)) (rest (after_blanks text (after_blanks text key.1 + 1)))
+    then then_read (λ (more : KeysFound). Ok (key.0 ∷ more.0, more.1))
+    (rest (after_blanks text (after_blanks text key.1 + 1)))
     else Ok (key.0 ∷ [], key.1)
 
 abbrev pub read_keys : ℕ → List ℕ → ℕ → TomlReading KeysFound

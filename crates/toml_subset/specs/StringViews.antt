@@ -1,12 +1,14 @@
 -- What the program's kinds of strings and parts of strings stand for.
-use Rattle.std.specs.Prelude.{◌≡◌, ℕ, suc, ◌+◌, ◌<◌, ◌≤◌, Bool, true, false, not, ◌||◌, ◌&&◌, List, [], ◌++◌, Option, Some, None, is_some, Ok, slice_get, length, encode_utf8, ⊤}
+use Rattle.std.specs.Prelude.{◌≡◌, ℕ, suc, ◌+◌, ◌<◌, ◌≤◌, Bool, true, false, not, ◌||◌, ◌&&◌, List, [], ◌++◌, Option}
+use Rattle.std.specs.Prelude.{Some, None, is_some, Ok, slice_get, length, encode_utf8, ⊤}
 use Rattle.std.specs.List.{list_any}
 use Rattle.std.specs.Str.{IsCharBoundary}
 use Rattle.toml_subset.specs.Answer.{TomlReading, then_read}
 use Rattle.toml_subset.specs.Bytes.{may_stand}
 use Rattle.toml_subset.specs.Places.{behind_line_end}
 use Rattle.toml_subset.specs.StringReading.{Pieces, read_pieces}
-use Rattle.toml_subset.specs.Strings.{Quoting, basic, literal, long_basic, long_literal, StringPiece, StringPart, piece, closing, broken, escaped_piece, part_at, pieces_text}
+use Rattle.toml_subset.specs.Strings.{Quoting, basic, literal, long_basic, long_literal, StringPiece, StringPart, piece}
+use Rattle.toml_subset.specs.Strings.{closing, broken, escaped_piece, part_at, pieces_text}
 use Rattle.toml_subset.specs.declared.strings.Quotes.{Quotes}
 use Rattle.toml_subset.specs.declared.strings.Quotes.TheVariants.{Basic, Literal, LongBasic, LongLiteral}
 use Rattle.toml_subset.specs.declared.strings.Special.{Special}
@@ -56,7 +58,8 @@ ClosesWithin text Broken = ⊤
 
 -- whether a byte that is no mark and no backslash may be at a place
 abbrev pub kept_at : Bool → List ℕ → ℕ → Bool
-kept_at long text i = elim (slice_get text i) [ Some c ↦ may_stand c || (long && is_some (behind_line_end text i)) | None ↦ false ]
+kept_at long text i =
+    elim (slice_get text i) [ Some c ↦ may_stand c || (long && is_some (behind_line_end text i)) | None ↦ false ]
 
 -- plain bytes are from a place up to another
 pub record IsPlainRun (kind : Quoting) (text : List ℕ) (i j : ℕ) : Type 0 where
@@ -67,10 +70,12 @@ abbrev pub pieces_after : List StringPiece → Pieces → TomlReading Pieces
 pieces_after before r = Ok (before ++ r.0, r.1, r.2)
 
 -- a string was read up to a place, so that its text so far, and whether an escape was read, are these
-pub record IsStringRead (kind : Quoting) (text : List ℕ) (first : ℕ) (means : List ℕ) (escaped : Bool) (i : ℕ) : Type 0 where
+pub record IsStringRead (kind : Quoting) (text : List ℕ) (first : ℕ) (means : List ℕ) (escaped : Bool)
+    (i : ℕ) : Type 0 where
   pub before : List StringPiece
   pub left : ℕ
   pub room : length text < i + left
-  pub is : read_pieces (suc (length text)) kind text first ≡ then_read (pieces_after before) (read_pieces left kind text i)
+  pub is : read_pieces (suc (length text)) kind text first
+      ≡ then_read (pieces_after before) (read_pieces left kind text i)
   pub text_so_far : pieces_text before ≡ means
   pub escapes_so_far : list_any (λ (p : StringPiece). p.escape) before ≡ escaped

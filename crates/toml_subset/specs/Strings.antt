@@ -1,5 +1,7 @@
 -- The four kinds of strings as lists of pieces (TOML 1.0: String).
-use Rattle.std.specs.Prelude.{◌≡◌, ℕ, ◌+◌, Bool, true, false, ◌||◌, ◌&&◌, ◌==◌, nat_le, nat_lt, if◌then◌else◌, List, [], ◌∷◌, ◌++◌, Option, Some, None, is_some, unwrap_or, slice_get, length, take, drop, encode_utf8}
+use Rattle.std.specs.Prelude.{◌≡◌, ℕ, ◌+◌, Bool, true, false, ◌||◌, ◌&&◌, ◌==◌, nat_le, nat_lt, if◌then◌else◌, List, []}
+use Rattle.std.specs.Prelude.{◌∷◌, ◌++◌, Option, Some, None, is_some, unwrap_or, slice_get, length, take, drop}
+use Rattle.std.specs.Prelude.{encode_utf8}
 use Rattle.std.specs.List.{prefix_len, list_all, list_any}
 use Rattle.deny_text.specs.declared.span.Span.{Span}
 use Rattle.toml_subset.specs.Bytes.{quote, apostrophe, backslash, may_stand}
@@ -53,7 +55,8 @@ marks_in_row mark text i = prefix_len (λ c. c == mark) (drop i text)
 -- the place behind an opening mark, or behind three and the line end that may follow them
 abbrev pub opening_of : Quoting → Quoting → ℕ → List ℕ → ℕ → Quoting × ℕ
 opening_of short long mark text i =
-    if nat_le 3 (marks_in_row mark text i) then (long, unwrap_or (behind_line_end text (i + 3)) (i + 3)) else (short, i + 1)
+    if nat_le 3 (marks_in_row mark text i) then (long, unwrap_or (behind_line_end text (i + 3)) (i + 3))
+    else (short, i + 1)
 
 -- the kind of the string that begins at a place, and where its first piece is
 abbrev pub opening : List ℕ → ℕ → Option (Quoting × ℕ)
@@ -75,7 +78,8 @@ scalar_of digits s =
 abbrev pub letter_escape : ℕ → Option ℕ
 letter_escape c =
     if c == 98 then Some 8 else (if c == 116 then Some 9 else (if c == 110 then Some 10 else (if c == 102 then Some 12
-    else (if c == 114 then Some 13 else (if c == quote then Some quote else (if c == backslash then Some backslash else None))))))
+    else (if c == 114 then Some 13
+    else (if c == quote then Some quote else (if c == backslash then Some backslash else None))))))
 
 abbrev pub escaped_piece : List ℕ → ℕ → StringPart
 escaped_piece means next = piece (record { means = means; escape = true }) next
@@ -86,7 +90,8 @@ plain_piece means next = piece (record { means = means; escape = false }) next
 -- `\uXXXX` and `\UXXXXXXXX`, the backslash standing at the place
 abbrev pub scalar_escape : ℕ → List ℕ → ℕ → StringPart
 scalar_escape digits text i =
-    elim (scalar_of digits (take digits (drop (i + 2) text))) [ Some bytes ↦ escaped_piece bytes (i + 2 + digits) | None ↦ broken ]
+    elim (scalar_of digits (take digits (drop (i + 2) text)))
+    [ Some bytes ↦ escaped_piece bytes (i + 2 + digits) | None ↦ broken ]
 
 -- In a string over lines a backslash at a line's end, with white space behind it alone, drops all white space and line
 -- ends up to the next other character.
@@ -120,7 +125,9 @@ mark_at kind text i =
 abbrev pub plain_at : Quoting → List ℕ → ℕ → StringPart
 plain_at kind text i =
     elim (slice_get text i) [
-      | Some c ↦ (if may_stand c || (is_long kind && is_some (behind_line_end text i)) then plain_piece (c ∷ []) (i + 1) else broken)
+      | Some c ↦
+          (if may_stand c || (is_long kind && is_some (behind_line_end text i)) then plain_piece (c ∷ []) (i + 1)
+          else broken)
       | None ↦ broken
     ]
 
@@ -133,7 +140,8 @@ part_at kind text i =
 -- these pieces are from a place up to the closing, which ends before a further place
 abbrev pub ArePieces : Quoting → List ℕ → ℕ → List StringPiece → ℕ → ℕ → Type 0
 ArePieces kind text i [] close next = (part_at kind text i ≡ closing next) × (close ≡ i)
-ArePieces kind text i (p ∷ ps) close next = (k : ℕ) × (part_at kind text i ≡ piece p k) × ArePieces kind text k ps close next
+ArePieces kind text i (p ∷ ps) close next =
+    (k : ℕ) × (part_at kind text i ≡ piece p k) × ArePieces kind text k ps close next
 
 -- what the pieces stand for one after another, and whether one of them is an escape
 abbrev pub pieces_text : List StringPiece → List ℕ

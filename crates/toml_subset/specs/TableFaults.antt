@@ -1,7 +1,8 @@
 -- Where the table rules refuse a key or a header: at the first of its parts that they refuse, reading from the root on.
 use Rattle.std.specs.Prelude.{ℕ, ◌+◌, ◌==◌, nat_lt, if◌then◌else◌, List, [], ◌∷◌, Option, Some, None}
 use Rattle.toml_subset.specs.Data.{depth_limit}
-use Rattle.toml_subset.specs.Tables.{Node, Branches, Bodies, by_header, implicit, dotted, closed, growing, tables, last, body, unbranched, branch, same_key, has_key}
+use Rattle.toml_subset.specs.Tables.{Node, Branches, Bodies, by_header, implicit, dotted, closed, growing, tables, last}
+use Rattle.toml_subset.specs.Tables.{body, unbranched, branch, same_key, has_key}
 use Rattle.toml_subset.specs.declared.error.SyntaxError.{SyntaxError}
 use Rattle.toml_subset.specs.declared.error.SyntaxReason.{SyntaxReason}
 use Rattle.toml_subset.specs.declared.error.SyntaxReason.TheVariants.{DuplicateKey, RedefinedTable, TooDeep}
@@ -38,7 +39,8 @@ inside_dotted (tables span bodies) = None
 
 -- The first part of a way that is refused, so many tables and arrays standing around its first: `inside` says which
 -- tables it goes through, `end` what its last part refuses.
-abbrev pub way_fault : (Node → Option Inside) → (Key → Branches → ℕ → Option SyntaxError) → List Key → Branches → ℕ → Option SyntaxError
+abbrev pub way_fault : (Node → Option Inside) → (Key → Branches → ℕ → Option SyntaxError) → List Key → Branches → ℕ
+    → Option SyntaxError
 way_fault inside end [] branches above = None
 way_fault inside end (key ∷ []) branches above = end key branches above
 way_fault inside end (key ∷ next ∷ more) branches above =
@@ -47,7 +49,8 @@ way_fault inside end (key ∷ next ∷ more) branches above =
         | Some found ↦ way_fault inside end (next ∷ more) found.0 (above + found.1)
         | None ↦ fault_at_key RedefinedTable key
       ]
-      | None ↦ (if above == depth_limit then fault_at_key TooDeep key else way_fault inside end (next ∷ more) unbranched (above + 1))
+      | None ↦ (if above == depth_limit then fault_at_key TooDeep key
+          else way_fault inside end (next ∷ more) unbranched (above + 1))
     ]
 
 abbrev pub new_key_fault : Key → Branches → ℕ → Option SyntaxError

@@ -1,11 +1,13 @@
 -- Which headers and keys may meet which tables (TOML 1.0: Table, Inline Table, Array of Tables, and Keys on dotted
 -- ones), as edits of a tree whose tables are marked by what made them.
-use Rattle.std.specs.Prelude.{Bool, true, false, if◌then◌else◌, List, [], ◌∷◌, Option, Some, None, option_map, option_and_then}
+use Rattle.std.specs.Prelude.{Bool, true, false, if◌then◌else◌, List, [], ◌∷◌, Option, Some, None, option_map}
+use Rattle.std.specs.Prelude.{option_and_then}
 use Rattle.std.specs.Str.{bytes_eq}
 use Rattle.deny_text.specs.declared.span.Span.{Span}
 use Rattle.toml_subset.specs.Data as «data»
 use Rattle.toml_subset.specs.Data.{TomlContent, Items, Entries}
-use Rattle.toml_subset.specs.Raw.{Raw, RawItems, RawEntries, raw_text, raw_integer, raw_decimal, raw_boolean, raw_array, raw_table, raw_none, raw_item, raw_empty, raw_entry}
+use Rattle.toml_subset.specs.Raw.{Raw, RawItems, RawEntries, raw_text, raw_integer, raw_decimal, raw_boolean, raw_array}
+use Rattle.toml_subset.specs.Raw.{raw_table, raw_none, raw_item, raw_empty, raw_entry}
 use Rattle.toml_subset.specs.declared.string.Key.{Key}
 
 -- what made a table: a header of its own, a part of a header before the last, or a part of a dotted key
@@ -93,13 +95,15 @@ through_dotted edit (tables span bodies) = None
 
 -- An edit at the last of some keys. Tables that are absent on the way are made with a mark, and are at the key part
 -- that made them; `through` says which tables the way may go through.
-abbrev pub edit_along : Mark → ((Branches → Option Branches) → Node → Option Node) → (Key → Branches → Option Branches) → List Key → Branches → Option Branches
+abbrev pub edit_along : Mark → ((Branches → Option Branches) → Node → Option Node) → (Key → Branches → Option Branches)
+    → List Key → Branches → Option Branches
 edit_along mark through edit [] branches = None
 edit_along mark through edit (key ∷ []) branches = edit key branches
 edit_along mark through edit (key ∷ next ∷ more) branches =
     elim (has_key key branches) [
       | true ↦ branches_with_edit (through (edit_along mark through edit (next ∷ more))) key branches
-      | false ↦ option_map (λ inner. branches_with_key key (growing key.span mark inner) branches) (edit_along mark through edit (next ∷ more) unbranched)
+      | false ↦ option_map (λ inner. branches_with_key key (growing key.span mark inner) branches)
+          (edit_along mark through edit (next ∷ more) unbranched)
     ]
 
 -- a key that its table has is refused
@@ -120,7 +124,8 @@ take_over at (tables span bodies) = None
 
 abbrev pub open_table : Span → Key → Branches → Option Branches
 open_table at key branches =
-    if has_key key branches then branches_with_edit (take_over at) key branches else Some (branches_with_key key (growing at by_header unbranched) branches)
+    if has_key key branches then branches_with_edit (take_over at) key branches
+    else Some (branches_with_key key (growing at by_header unbranched) branches)
 
 abbrev pub with_table : Span → Bodies → Bodies
 with_table at (last span branches) = body span branches (last at unbranched)
@@ -134,7 +139,8 @@ append_to at (tables span bodies) = Some (tables span (with_table at bodies))
 
 abbrev pub open_array : Span → Key → Branches → Option Branches
 open_array at key branches =
-    if has_key key branches then branches_with_edit (append_to at) key branches else Some (branches_with_key key (tables at (last at unbranched)) branches)
+    if has_key key branches then branches_with_edit (append_to at) key branches
+    else Some (branches_with_key key (tables at (last at unbranched)) branches)
 
 -- an edit in the table that a header opened
 abbrev pub edit_within : List Key → (Branches → Option Branches) → Branches → Option Branches
@@ -149,7 +155,8 @@ abbrev mutual
   meant (raw_decimal z) = Some (data.decimal z)
   meant (raw_boolean b) = Some (data.boolean b)
   meant (raw_array items) = option_map data.array (items_meant items)
-  meant (raw_table entries) = option_map (λ branches. data.table (entries_of branches)) (entries_meant entries unbranched)
+  meant (raw_table entries) =
+      option_map (λ branches. data.table (entries_of branches)) (entries_meant entries unbranched)
 
   pub items_meant : RawItems → Option Items
   items_meant raw_none = Some data.no_item
@@ -159,4 +166,6 @@ abbrev mutual
   pub entries_meant : RawEntries → Branches → Option Branches
   entries_meant raw_empty branches = Some branches
   entries_meant (raw_entry keys span value more) branches =
-      option_and_then (λ content. option_and_then (entries_meant more) (branches_with_value keys (closed span content) branches)) (meant value)
+      option_and_then
+      (λ content. option_and_then (entries_meant more) (branches_with_value keys (closed span content) branches))
+      (meant value)

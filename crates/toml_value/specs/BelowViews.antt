@@ -13,8 +13,10 @@ LeadsOn (Some found) = is_some (parts_of_dotted found.1) ≡ true
 
 -- The table below a key is taken out, and a hole is left at the key's place; where nothing is there, it is a new one.
 abbrev pub IsTakenOut : Key → Branches → Branches → Option ℕ → Span → Branches → Type 0
-IsTakenOut key old new None span inner = (found_at key old ≡ None) × (new ≡ old) × (span ≡ key.span) × (inner ≡ unbranched)
-IsTakenOut key old new (Some i) span inner = (found_at key old ≡ Some (i, growing span dotted inner)) × (new ≡ branches_with_node i (hole key) old)
+IsTakenOut key old new None span inner =
+    (found_at key old ≡ None) × (new ≡ old) × (span ≡ key.span) × (inner ≡ unbranched)
+IsTakenOut key old new (Some i) span inner =
+    (found_at key old ≡ Some (i, growing span dotted inner)) × (new ≡ branches_with_node i (hole key) old)
 
 -- a node may be at a place of a table, or at a further key of it
 abbrev pub HasRoom : Option ℕ → Key → Branches → Type 0

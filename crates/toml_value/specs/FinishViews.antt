@@ -25,4 +25,7 @@ item_of body = record { content = data.table (entries_of body.1); span = body.0 
 -- an array of some items and a last one, a table
 abbrev pub array_with : Span → Items → Span → Entries → Toml
 array_with span items last entries =
-    record { content = data.array (with_item items (record { content = data.table entries; span = last })); span = span }
+    record {
+      content = data.array (with_item items (record { content = data.table entries; span = last }));
+      span = span;
+    }

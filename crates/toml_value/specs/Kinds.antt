@@ -2,7 +2,8 @@
 use Rattle.toml_subset.specs.Data as «data»
 use Rattle.toml_subset.specs.Data.{TomlContent}
 use Rattle.toml_subset.specs.declared.shapes.shape.ValueKind.{ValueKind}
-use Rattle.toml_subset.specs.declared.shapes.shape.ValueKind.TheVariants.{String, Integer, Decimal, Boolean, Array, Table}
+use Rattle.toml_subset.specs.declared.shapes.shape.ValueKind.TheVariants.{String, Integer, Decimal, Boolean, Array}
+use Rattle.toml_subset.specs.declared.shapes.shape.ValueKind.TheVariants.{Table}
 
 abbrev pub kind_of : TomlContent → ValueKind
 kind_of (data.string w) = String

@@ -1,8 +1,10 @@
 -- What is in a value at a key, at a place, and along a path of both.
-use Rattle.std.specs.Prelude.{ℕ, zero, suc, ◌^◌, Bool, true, false, ◌&&◌, ◌==◌, nat_lt, if◌then◌else◌, List, [], ◌∷◌, Option, Some, None, option_and_then}
+use Rattle.std.specs.Prelude.{ℕ, zero, suc, ◌^◌, Bool, true, false, ◌&&◌, ◌==◌, nat_lt, if◌then◌else◌, List, [], ◌∷◌}
+use Rattle.std.specs.Prelude.{Option, Some, None, option_and_then}
 use Rattle.std.specs.List.{slice_split}
 use Rattle.std.specs.Str.{bytes_eq}
-use Rattle.toml_subset.specs.Data.{TomlContent, Items, Entries, Toml, string, integer, decimal, boolean, array, table, no_item, item, no_entry, entry}
+use Rattle.toml_subset.specs.Data.{TomlContent, Items, Entries, Toml, string, integer, decimal, boolean, array, table}
+use Rattle.toml_subset.specs.Data.{no_item, item, no_entry, entry}
 use Rattle.toml_subset.specs.Numbers.{is_whole, are_digits, count}
 use Rattle.toml_subset.specs.declared.string.Key.{Key}
 

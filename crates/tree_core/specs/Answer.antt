@@ -1,5 +1,6 @@
 -- What the calls of a tree that tells its content answer.
-use Rattle.std.specs.Prelude.{◌≡◌, ◌≢◌, ℕ, Bool, false, List, Option, Some, None, Result, Ok, Err, map, is_some, IsSorted}
+use Rattle.std.specs.Prelude.{◌≡◌, ◌≢◌, ℕ, Bool, false, List, Option, Some, None, Result, Ok, Err, map, is_some}
+use Rattle.std.specs.Prelude.{IsSorted}
 use Rattle.std.specs.Ordering.{nat_cmp, on}
 use Rattle.std.specs.Cmp.Lexicographic.{slice_cmp}
 use Rattle.tree_core.specs.Content.{Content, TreeNode, file, folder, is_file, node_at, entries_in, resolve, ListedEntry}
@@ -20,7 +21,8 @@ listed_entry entry = (entry.name, entry.is_file)
 
 -- `list`: the entries of a folder, Absent where nothing is there, WrongKind at a file
 abbrev pub ListAnswers : Content → List ℕ → Result (List Entry) TreeError → Type 0
-ListAnswers content path (Ok entries) = (node_at content path ≡ Some folder) × (map listed_entry entries ≡ entries_in content (resolve path))
+ListAnswers content path (Ok entries) =
+    (node_at content path ≡ Some folder) × (map listed_entry entries ≡ entries_in content (resolve path))
 ListAnswers content path (Err Absent) = node_at content path ≡ None
 ListAnswers content path (Err WrongKind) = (bytes : List ℕ) × (node_at content path ≡ Some (file bytes))
 ListAnswers content path (Err Failed) = Unit {0}

@@ -82,7 +82,8 @@ asked_code = code_by (Bool × Bool) (coded× coded_bool coded_bool) asked_parts 
 
 abbrev pub answered_code : Coded CallAnswer
 answered_code =
-    code_by Parts (coded⊎ (coded_list coded_ℕ) (coded⊎ (coded_list (coded× (coded_list coded_ℕ) coded_bool)) (coded⊎ coded_bool (coded× coded_bool coded_bool))))
+    code_by Parts (coded⊎ (coded_list coded_ℕ)
+    (coded⊎ (coded_list (coded× (coded_list coded_ℕ) coded_bool)) (coded⊎ coded_bool (coded× coded_bool coded_bool))))
     answered_parts answered_from answered_from-answered_parts
 
 abbrev pub call_code : Coded Call

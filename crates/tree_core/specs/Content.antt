@@ -1,5 +1,6 @@
 -- What a tree holds: files and folders, by the names that lead to them.
-use Rattle.std.specs.Prelude.{◌≡◌, ℕ, Bool, true, false, List, [], ◌∷◌, ◌++◌, Option, Some, None, length, take, ◌-◌, codes, if◌then◌else◌}
+use Rattle.std.specs.Prelude.{◌≡◌, ℕ, Bool, true, false, List, [], ◌∷◌, ◌++◌, Option, Some, None, length, take, ◌-◌}
+use Rattle.std.specs.Prelude.{codes, if◌then◌else◌}
 use Rattle.std.specs.Ordering.{nat_cmp, on, then_cmp}
 use Rattle.std.specs.declared.cmp.Ordering.{Ordering}
 use Rattle.std.specs.Cmp.{IsTotalOrder, on_total, then_total}
@@ -79,4 +80,5 @@ entries_in content place = filter_map (λ e. entry_in place e.0 e.1) (map.entrie
 -- the root is a folder, and so is what any entry is in
 pub record IsRooted (content : Content) : Type 0 where
   pub root : map.get content [] ≡ Some folder
-  pub above : (place : Place) (name : List ℕ) (node : TreeNode) → map.get content (place ++ name ∷ []) ≡ Some node → map.get content place ≡ Some folder
+  pub above : (place : Place) (name : List ℕ) (node : TreeNode) → map.get content (place ++ name ∷ []) ≡ Some node
+      → map.get content place ≡ Some folder

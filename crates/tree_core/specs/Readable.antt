@@ -7,7 +7,9 @@ use Rattle.std.specs.declared.fs.attrs.Metadata.{Metadata}
 abbrev pub byte_limit : ℕ
 byte_limit = 67_108_864
 
--- A file within the limit is read; what is no file, as a pipe or a device, only where its path was named. A device's length
--- says nothing.
+-- A file within the limit is read; what is no file, as a pipe or a device, only where its path was named. A device's
+-- length says nothing.
 abbrev pub IsReadable : Metadata → Bool → Type 0
-IsReadable there is_named = (IsFile (file_type there) × (metadata_len there ≤ byte_limit)) ⊎ ((¬ (IsFile (file_type there))) × (is_named ≡ true))
+IsReadable there is_named =
+    (IsFile (file_type there) × (metadata_len there ≤ byte_limit))
+    ⊎ ((¬ (IsFile (file_type there))) × (is_named ≡ true))

@@ -65,7 +65,8 @@ pub record IsCut (counts : FaultCounts) (before after : ℕ) (whole begun : Scri
 
 -- a line, or a prefix of it where the sink's count rose
 abbrev pub IsLineOrFront : ℕ → ℕ → List ℕ → List ℕ → Type 0
-IsLineOrFront before after line written = (written ≡ line) ⊎ (Rose before after × ((rest : List ℕ) × (line ≡ written ++ rest)))
+IsLineOrFront before after line written =
+    (written ≡ line) ⊎ (Rose before after × ((rest : List ℕ) × (line ≡ written ++ rest)))
 
 -- a line was written, or a prefix of it where the sink's count rose
 abbrev pub LineWritten : Option (List ℕ) → Option (List ℕ) → ℕ → ℕ → List ℕ → Type 0

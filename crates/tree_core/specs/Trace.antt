@@ -24,7 +24,11 @@ abbrev pub read_call : List ℕ → Result (List ℕ) TreeError → Call
 read_call path result = record { asked = call.read; path = path; answer = call_answer call.bytes result }
 
 abbrev pub list_call : List ℕ → Result (List Entry) TreeError → Call
-list_call path result = record { asked = call.list; path = path; answer = call_answer (λ items. call.entries (map listed_entry items)) result }
+list_call path result = record {
+  asked = call.list;
+  path = path;
+  answer = call_answer (λ items. call.entries (map listed_entry items)) result;
+}
 
 abbrev pub file_call : List ℕ → Result Bool TreeError → Call
 file_call path result = record { asked = call.is_file; path = path; answer = call_answer call.told result }
@@ -80,6 +84,7 @@ IsUnlessLost there (call.told answer) = call.told answer ≡ there
 IsUnlessLost there call.absent = call.absent ≡ there
 IsUnlessLost there call.wrong_kind = call.wrong_kind ≡ there
 
--- a call says of a content no more than is so: it failed, or memory was wanting, or its answer is what the content has there
+-- a call says of a content no more than is so: it failed, or memory was wanting, or its answer is what the content has
+-- there
 abbrev pub Says : Content → Call → Type 0
 Says content one = IsUnlessLost (content_answer content one.asked one.path) one.answer

@@ -1,5 +1,5 @@
--- The walk over the nodes of an expression, step by step. Only the contracts of private calls cite it. It has an answer for
--- each tree that waits for its operator, the last one first.
+-- The walk over the nodes of an expression, step by step. Only the contracts of private calls cite it. It has an answer
+-- for each tree that waits for its operator, the last one first.
 use Rattle.std.specs.Prelude.{ℕ, Bool, false, ◌&&◌, ◌||◌, List, [], ◌∷◌}
 use Rattle.spdx_core.specs.declared.node.ExprNode.{ExprNode}
 use Rattle.spdx_core.specs.declared.node.ExprNode.TheVariants.{Term, And, Or}

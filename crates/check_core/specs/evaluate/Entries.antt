@@ -43,7 +43,8 @@ entries_in licensees term = length (places_for licensees term)
 
 -- those of the exception at a place, if there is one
 abbrev pub granted_entries : List Grant → Option ℕ → LicenseReq → ℕ
-granted_entries exceptions exception term = option_map_or (λ place. entries_in (granted_licensees exceptions place) term) exception 0
+granted_entries exceptions exception term =
+    option_map_or (λ place. entries_in (granted_licensees exceptions place) term) exception 0
 
 -- those of an exception and of what is allowed together
 abbrev pub entries_by : Policy → Option ℕ → LicenseReq → ℕ

@@ -28,9 +28,13 @@ with_exception policy grant = record {
 }
 
 abbrev pub MoreAllowedNeverReject : Type 0
-MoreAllowedNeverReject = (policy : Policy) (krate : CrateRecord) (terms : List ExpressionReq) (tree : ExpressionTree) (place : ℕ) (licensee : LicenseReq)
-    → IsTrue (is_allowed policy krate terms tree) → IsTrue (is_allowed (with_allowed policy place licensee) krate terms tree)
+MoreAllowedNeverReject =
+    (policy : Policy) (krate : CrateRecord) (terms : List ExpressionReq) (tree : ExpressionTree) (place : ℕ)
+    (licensee : LicenseReq)
+    → IsTrue (is_allowed policy krate terms tree)
+    → IsTrue (is_allowed (with_allowed policy place licensee) krate terms tree)
 
 abbrev pub MoreExceptionsNeverReject : Type 0
-MoreExceptionsNeverReject = (policy : Policy) (krate : CrateRecord) (terms : List ExpressionReq) (tree : ExpressionTree) (grant : Grant)
+MoreExceptionsNeverReject =
+    (policy : Policy) (krate : CrateRecord) (terms : List ExpressionReq) (tree : ExpressionTree) (grant : Grant)
     → IsTrue (is_allowed policy krate terms tree) → IsTrue (is_allowed (with_exception policy grant) krate terms tree)

@@ -1,5 +1,6 @@
 -- The numbers by which it is found whether a policy passes over a crate.
-use Rattle.std.specs.Prelude.{◌≡◌, ℕ, Bool, true, false, List, [], map, Option, Some, None, unwrap_or, option_map, slice_get, Any}
+use Rattle.std.specs.Prelude.{◌≡◌, ℕ, Bool, true, false, List, [], map, Option, Some, None, unwrap_or, option_map}
+use Rattle.std.specs.Prelude.{slice_get, Any}
 use Rattle.std.specs.Option.{option_map_or}
 use Rattle.std.specs.Str.{bytes_eq}
 use Rattle.url.specs.Host.{host_text}
@@ -23,7 +24,8 @@ pub record PrivateNumbers : Type 0 where
   pub addresses : List ℕ
 
 abbrev pub private_numbers : Policy → PrivateNumbers
-private_numbers policy = record { registries = map name_number policy.registries; addresses = map address_number policy.ignore_sources }
+private_numbers policy =
+    record { registries = map name_number policy.registries; addresses = map address_number policy.ignore_sources }
 
 -- whether the name at a place is this one
 abbrev pub is_at : List (List ℕ) → List ℕ → ℕ → Bool

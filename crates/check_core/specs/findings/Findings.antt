@@ -25,7 +25,14 @@ use Rattle.check_core.specs.findings.Sources.{source_text}
 -- what the licence check tells, about no crate yet
 abbrev pub finding : Severity → Code → List ℕ → List Label → List (List ℕ) → Diag
 finding severity code message labels notes = record {
-  diag = record { severity = severity; code = Some (code_name (License code)); message = message; labels = labels; notes = notes; alloc = heap };
+  diag = record {
+    severity = severity;
+    code = Some (code_name (License code));
+    message = message;
+    labels = labels;
+    notes = notes;
+    alloc = heap;
+  };
   code = Some (License code);
   graph_nodes = [];
   with_features = false;
@@ -50,18 +57,21 @@ term_labels nfo (term ∷ terms) (hit ∷ hits) = term_label nfo term.span hit �
 
 -- the whole expression, and where it comes from
 abbrev pub whole_label : LicenseExprInfo → List ℕ → Label
-whole_label nfo words = label_at Secondary nfo.file_id (span_in_file nfo (all_of words)) (codes "license expression retrieved via " ++ source_text nfo.source)
+whole_label nfo words =
+    label_at Secondary nfo.file_id (span_in_file nfo (all_of words))
+    (codes "license expression retrieved via " ++ source_text nfo.source)
 
 abbrev pub verdict_labels : ExpressionView → LicenseExprInfo → List (Option Hit) → List Label
 verdict_labels expression nfo hits = whole_label nfo expression.text ∷ term_labels nfo expression.terms hits
 
 -- ---- findings
 
--- The expression is accepted or not. The labels are the same, and tell each term by its own hit: an accepted expression may
--- have terms that are not allowed.
+-- The expression is accepted or not. The labels are the same, and tell each term by its own hit: an accepted expression
+-- may have terms that are not allowed.
 abbrev pub expression_finding : Bool → List Label → List (List ℕ) → Diag
 expression_finding true labels notes = finding Note code.Accepted (codes "license requirements satisfied") labels notes
-expression_finding false labels notes = finding Error code.Rejected (codes "failed to satisfy license requirements") labels notes
+expression_finding false labels notes =
+    finding Error code.Rejected (codes "failed to satisfy license requirements") labels notes
 
 -- the crate has no expression
 abbrev pub unlicensed_finding : CrateRecord → List (List ℕ) → Diag
@@ -69,10 +79,13 @@ unlicensed_finding krate notes = finding Error code.Unlicensed (title_of krate +
 
 -- the policy passes the crate over
 abbrev pub skipped_finding : CrateRecord → Diag
-skipped_finding krate = finding Note code.SkippedPrivateWorkspaceCrate (codes "skipping private workspace crate '" ++ title_of krate ++ codes "'") [] []
+skipped_finding krate =
+    finding Note code.SkippedPrivateWorkspaceCrate
+    (codes "skipping private workspace crate '" ++ title_of krate ++ codes "'") [] []
 
 -- ---- the pack of a crate
 
 -- findings of the licence check about a crate; those that name no crate are about it
 abbrev pub pack_of : CrateRecord → List Diag → PackOf
-pack_of krate findings = record { check = check.Licenses; kid = Some krate.id; findings = map (with_crate (Some krate.id)) findings }
+pack_of krate findings =
+    record { check = check.Licenses; kid = Some krate.id; findings = map (with_crate (Some krate.id)) findings }

@@ -39,8 +39,8 @@ TermFits nfo term = SpanFits nfo term.span
 abbrev pub all_of : List ℕ → Span
 all_of bytes = record { start = 0; end = length bytes }
 
--- A place of an expression's text points at a part of it: it cuts out the part, or where the string has escapes it is the
--- string, which lies in the file.
+-- A place of an expression's text points at a part of it: it cuts out the part, or where the string has escapes it is
+-- the string, which lies in the file.
 abbrev pub PointsBy : List File → ℕ → Span → List ℕ → Option Span → Type 0
 PointsBy files file span part None = PointsAt files (record { file = file; span = span }) part
 PointsBy files file span part (Some whole) = PlaceLies files file span × (span ≡ whole)

@@ -17,7 +17,8 @@ use Rattle.diag_core.specs.declared.pack.Diag.{Diag}
 use Rattle.diag_core.specs.Label.{label_at}
 use Rattle.gather_core.specs.declared.findings.license.LicenseExprInfo.{LicenseExprInfo}
 use Rattle.gather_core.specs.declared.findings.license.LicenseExprSource.{LicenseExprSource}
-use Rattle.gather_core.specs.declared.findings.license.LicenseExprSource.TheVariants.{Metadata, UserOverride, LicenseFiles}
+use Rattle.gather_core.specs.declared.findings.license.LicenseExprSource.TheVariants.{Metadata, UserOverride}
+use Rattle.gather_core.specs.declared.findings.license.LicenseExprSource.TheVariants.{LicenseFiles}
 use Rattle.check_core.specs.findings.Findings.{expression_finding, verdict_labels, skipped_finding, unlicensed_finding}
 use Rattle.check_core.specs.findings.Sources.{source_text}
 
@@ -38,7 +39,8 @@ source_rows =
     source_row (Metadata None) (codes "Cargo.toml `license`")
     ∷ source_row UserOverride (codes "user override")
     ∷ source_row (LicenseFiles (codes "COPYING" ∷ [])) (codes "license files: COPYING")
-    ∷ source_row (LicenseFiles (codes "COPYING" ∷ codes "a/LICENSE" ∷ codes "b" ∷ [])) (codes "license files: COPYING, a/LICENSE, b")
+    ∷ source_row (LicenseFiles (codes "COPYING" ∷ codes "a/LICENSE" ∷ codes "b" ∷ []))
+    (codes "license files: COPYING, a/LICENSE, b")
     ∷ []
 
 -- ---- labels
@@ -47,16 +49,25 @@ abbrev from_to : ℕ → ℕ → Span
 from_to start end = record { start = start; end = end }
 
 abbrev term : List ℕ → ℕ → ℕ → ℕ → ExpressionReq
-term name family start end = record { req = record { item = Spdx name family 0 false false; exception = None }; span = from_to start end }
+term name family start end =
+    record { req = record { item = Spdx name family 0 false false; exception = None }; span = from_to start end }
 
 abbrev mit : ExpressionView
 mit = record { text = codes "MIT"; terms = term (codes "MIT") 1 0 3 ∷ []; tree = leaf 0 }
 
 abbrev slash : ExpressionView
-slash = record { text = codes "Apache-2.0/MIT"; terms = term (codes "Apache-2.0") 2 0 10 ∷ term (codes "MIT") 1 11 14 ∷ []; tree = either (leaf 0) (leaf 1) }
+slash = record {
+  text = codes "Apache-2.0/MIT";
+  terms = term (codes "Apache-2.0") 2 0 10 ∷ term (codes "MIT") 1 11 14 ∷ [];
+  tree = either (leaf 0) (leaf 1);
+}
 
 abbrev both_of : ExpressionView
-both_of = record { text = codes "MIT AND ISC"; terms = term (codes "MIT") 1 0 3 ∷ term (codes "ISC") 3 8 11 ∷ []; tree = both (leaf 0) (leaf 1) }
+both_of = record {
+  text = codes "MIT AND ISC";
+  terms = term (codes "MIT") 1 0 3 ∷ term (codes "ISC") 3 8 11 ∷ [];
+  tree = both (leaf 0) (leaf 1);
+}
 
 -- in the first file, from a byte on
 abbrev at_byte : ℕ → LicenseExprSource → LicenseExprInfo
@@ -64,7 +75,8 @@ at_byte offset source = record { file_id = 0; offset = offset; whole = None; sou
 
 -- in the second file, as a string with escapes
 abbrev escaped_expression : ℕ → ℕ → LicenseExprSource → LicenseExprInfo
-escaped_expression start end source = record { file_id = 1; offset = start; whole = Some (from_to start end); source = source }
+escaped_expression start end source =
+    record { file_id = 1; offset = start; whole = Some (from_to start end); source = source }
 
 -- a label without the file
 pub record LabelSpan : Type 0 where
@@ -88,10 +100,16 @@ pub record LabelRow : Type 0 where
 
 -- what the definition makes of a row
 abbrev pub row_with_labels : LabelRow → LabelRow
-row_with_labels row = record { expression = row.expression; nfo = row.nfo; hits = row.hits; labels = verdict_labels row.expression row.nfo row.hits }
+row_with_labels row = record {
+  expression = row.expression;
+  nfo = row.nfo;
+  hits = row.hits;
+  labels = verdict_labels row.expression row.nfo row.hits;
+}
 
 abbrev row : LicenseExprInfo → ExpressionView → List (Option Hit) → List LabelSpan → LabelRow
-row nfo expression hits labels = record { expression = expression; nfo = nfo; hits = hits; labels = all_seen nfo.file_id labels }
+row nfo expression hits labels =
+    record { expression = expression; nfo = nfo; hits = hits; labels = all_seen nfo.file_id labels }
 
 abbrev allowed_text : List ℕ
 allowed_text = codes "accepted: license is explicitly allowed"
@@ -109,21 +127,27 @@ abbrev pub label_rows : List LabelRow
 label_rows =
     -- the field of a manifest, whose text begins at byte 50
     row (at_byte 50 manifest) mit (Some (Allowed 0) ∷ [])
-    (label_span Secondary 50 53 (codes "license expression retrieved via Cargo.toml `license`") ∷ label_span Primary 50 53 allowed_text ∷ [])
+    (label_span Secondary 50 53 (codes "license expression retrieved via Cargo.toml `license`")
+    ∷ label_span Primary 50 53 allowed_text ∷ [])
     ∷ row (at_byte 50 manifest) mit (None ∷ [])
-    (label_span Secondary 50 53 (codes "license expression retrieved via Cargo.toml `license`") ∷ label_span Primary 50 53 not_allowed ∷ [])
+    (label_span Secondary 50 53 (codes "license expression retrieved via Cargo.toml `license`")
+    ∷ label_span Primary 50 53 not_allowed ∷ [])
     -- an accepted expression has a term that is not allowed
     ∷ row (at_byte 50 manifest) slash (None ∷ Some (Allowed 0) ∷ [])
-    (label_span Secondary 50 64 (codes "license expression retrieved via Cargo.toml `license`") ∷ label_span Primary 50 60 not_allowed ∷ label_span Primary 61 64 allowed_text ∷ [])
+    (label_span Secondary 50 64 (codes "license expression retrieved via Cargo.toml `license`")
+    ∷ label_span Primary 50 60 not_allowed ∷ label_span Primary 61 64 allowed_text ∷ [])
     -- at the start of a file, by an exception
     ∷ row (at_byte 0 UserOverride) both_of (Some (Exception 2 1) ∷ Some (Allowed 3) ∷ [])
-    (label_span Secondary 0 11 (codes "license expression retrieved via user override") ∷ label_span Primary 0 3 excepted_text ∷ label_span Primary 8 11 allowed_text ∷ [])
+    (label_span Secondary 0 11 (codes "license expression retrieved via user override")
+    ∷ label_span Primary 0 3 excepted_text ∷ label_span Primary 8 11 allowed_text ∷ [])
     -- written with escapes: each label is the whole string
     ∷ row (escaped_expression 30 38 UserOverride) both_of (None ∷ Some (Exception 0 0) ∷ [])
-    (label_span Secondary 30 38 (codes "license expression retrieved via user override") ∷ label_span Primary 30 38 not_allowed ∷ label_span Primary 30 38 excepted_text ∷ [])
+    (label_span Secondary 30 38 (codes "license expression retrieved via user override")
+    ∷ label_span Primary 30 38 not_allowed ∷ label_span Primary 30 38 excepted_text ∷ [])
     -- a term behind the end of the hits has none
     ∷ row (at_byte 7 (LicenseFiles (codes "COPYING" ∷ codes "LICENSE" ∷ []))) both_of (Some (Allowed 0) ∷ [])
-    (label_span Secondary 7 18 (codes "license expression retrieved via license files: COPYING, LICENSE") ∷ label_span Primary 7 10 allowed_text ∷ label_span Primary 15 18 not_allowed ∷ [])
+    (label_span Secondary 7 18 (codes "license expression retrieved via license files: COPYING, LICENSE")
+    ∷ label_span Primary 7 10 allowed_text ∷ label_span Primary 15 18 not_allowed ∷ [])
     ∷ []
 
 -- ---- findings
@@ -153,10 +177,16 @@ pub record FindingText : Type 0 where
   pub notes : List (List ℕ)
 
 abbrev said_by : Diag → FindingText
-said_by told = record { severity = told.diag.severity; code = told.diag.code; message = told.diag.message; notes = told.diag.notes }
+said_by told = record {
+  severity = told.diag.severity;
+  code = told.diag.code;
+  message = told.diag.message;
+  notes = told.diag.notes;
+}
 
 abbrev finding_text : Severity → List ℕ → List ℕ → List (List ℕ) → FindingText
-finding_text severity code message notes = record { severity = severity; code = Some code; message = message; notes = notes }
+finding_text severity code message notes =
+    record { severity = severity; code = Some code; message = message; notes = notes }
 
 abbrev pub findings_said : List FindingText
 findings_said =
@@ -168,8 +198,10 @@ findings_said =
 
 abbrev pub findings_meant : List FindingText
 findings_meant =
-    finding_text Note (codes "accepted") (codes "license requirements satisfied") (codes "a note" ∷ codes "another" ∷ [])
+    finding_text Note (codes "accepted") (codes "license requirements satisfied")
+    (codes "a note" ∷ codes "another" ∷ [])
     ∷ finding_text Error (codes "rejected") (codes "failed to satisfy license requirements") []
     ∷ finding_text Error (codes "unlicensed") (codes "a = 1.0.0 is unlicensed") (codes "a note" ∷ [])
-    ∷ finding_text Note (codes "skipped-private-workspace-crate") (codes "skipping private workspace crate 'a = 1.0.0'") []
+    ∷ finding_text Note (codes "skipped-private-workspace-crate")
+    (codes "skipping private workspace crate 'a = 1.0.0'") []
     ∷ []

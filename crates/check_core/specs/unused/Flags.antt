@@ -33,8 +33,10 @@ flag_at flags place = get_or flags place false
 
 -- with the flag of one more hit
 abbrev pub flags_with_hit : Flags → Hit → Flags
-flags_with_hit flags (Allowed entry) = record { allowed = slice_set flags.allowed entry true; exceptions = flags.exceptions }
-flags_with_hit flags (Exception exception entry) = record { allowed = flags.allowed; exceptions = slice_set flags.exceptions exception true }
+flags_with_hit flags (Allowed entry) =
+    record { allowed = slice_set flags.allowed entry true; exceptions = flags.exceptions }
+flags_with_hit flags (Exception exception entry) =
+    record { allowed = flags.allowed; exceptions = slice_set flags.exceptions exception true }
 
 abbrev pub marked_by : Flags → Option Hit → Flags
 marked_by flags None = flags
@@ -44,7 +46,8 @@ marked_by flags (Some hit) = flags_with_hit flags hit
 
 -- with more findings behind its own
 abbrev pub with_more : PackOf → List Diag → PackOf
-with_more pack more = record { check = pack.check; kid = pack.kid; findings = pack.findings ++ map (with_crate pack.kid) more }
+with_more pack more =
+    record { check = pack.check; kid = pack.kid; findings = pack.findings ++ map (with_crate pack.kid) more }
 
 abbrev pub unused_pack : ValidConfig → Flags → PackOf
 unused_pack policy flags = record {

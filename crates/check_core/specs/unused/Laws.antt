@@ -50,8 +50,10 @@ pub record TellUnused (policy : ValidConfig) (hits : List Hit) (findings : List 
   pub licenses : List Diag
   pub exceptions : List Diag
   pub all : findings ≡ licenses ++ exceptions
-  pub of_licenses : Tell (LicenseIsTold policy hits) (unused_license (severity_of_lint policy.unused_allowed_license) policy.file_id) 0 policy.allowed licenses
-  pub of_exceptions : Tell (ExceptionIsTold policy hits) (unused_exception (severity_of_lint policy.unused_license_exception)) 0 policy.exceptions exceptions
+  pub of_licenses : Tell (LicenseIsTold policy hits)
+      (unused_license (severity_of_lint policy.unused_allowed_license) policy.file_id) 0 policy.allowed licenses
+  pub of_exceptions : Tell (ExceptionIsTold policy hits)
+      (unused_exception (severity_of_lint policy.unused_license_exception)) 0 policy.exceptions exceptions
 
 abbrev pub TellsTheUnused : Type 0
 TellsTheUnused = (policy : ValidConfig) (hits : List Hit) → TellUnused policy hits (unused_findings policy hits)
@@ -61,7 +63,8 @@ TellsTheUnused = (policy : ValidConfig) (hits : List Hit) → TellUnused policy 
 -- the places of licensees lie in the policy's file, and those of exceptions each in its own
 pub record EntriesLie (files : List File) (policy : ValidConfig) : Type 0 where
   pub allowed : AllByRecursion (λ (licensee : Licensee). PlaceLies files policy.file_id licensee.0.span) policy.allowed
-  pub exceptions : AllByRecursion (λ (exception : ValidException). PlaceLies files exception.file_id exception.spec.span) policy.exceptions
+  pub exceptions : AllByRecursion
+      (λ (exception : ValidException). PlaceLies files exception.file_id exception.spec.span) policy.exceptions
 
 abbrev pub EntryLabelLies : List File → Label → Type 0
 EntryLabelLies files label = PlaceLies files label.file_id label.range
@@ -70,4 +73,6 @@ abbrev pub EntryLabelsLie : List File → Diag → Type 0
 EntryLabelsLie files told = AllByRecursion (EntryLabelLies files) told.diag.labels
 
 abbrev pub LabelsLieInThePolicy : Type 0
-LabelsLieInThePolicy = (files : List File) (policy : ValidConfig) (hits : List Hit) → EntriesLie files policy → AllByRecursion (EntryLabelsLie files) (unused_findings policy hits)
+LabelsLieInThePolicy =
+    (files : List File) (policy : ValidConfig) (hits : List Hit) → EntriesLie files policy
+    → AllByRecursion (EntryLabelsLie files) (unused_findings policy hits)

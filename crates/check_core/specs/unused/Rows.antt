@@ -23,7 +23,9 @@ abbrev from_to : ℕ → ℕ → Span
 from_to start end = record { start = start; end = end }
 
 abbrev licensee : List ℕ → ℕ → ℕ → Licensee
-licensee name start end = record { 0 = record { value = record { item = Spdx name 1 0 false false; exception = None }; span = from_to start end } }
+licensee name start end = record {
+  0 = record { value = record { item = Spdx name 1 0 false false; exception = None }; span = from_to start end };
+}
 
 abbrev mit : Licensee
 mit = licensee (codes "MIT") 21 24
@@ -33,7 +35,11 @@ zlib = licensee (codes "Zlib") 28 32
 
 -- an exception that is in a file
 abbrev exception : ℕ → ℕ → ℕ → List Licensee → ValidException
-exception file start end licensees = record { spec = record { name = codes "a"; span = from_to start end; requirement = None }; allowed = licensees; file_id = file }
+exception file start end licensees = record {
+  spec = record { name = codes "a"; span = from_to start end; requirement = None };
+  allowed = licensees;
+  file_id = file;
+}
 
 abbrev policy : LintLevel → LintLevel → List Licensee → List ValidException → ValidConfig
 policy licenses grants licensees exceptions = record {
@@ -59,7 +65,12 @@ pub record UnusedFinding : Type 0 where
   pub labels : List Label
 
 abbrev told_by : Diag → UnusedFinding
-told_by finding = record { severity = finding.diag.severity; code = finding.diag.code; message = finding.diag.message; labels = finding.diag.labels }
+told_by finding = record {
+  severity = finding.diag.severity;
+  code = finding.diag.code;
+  message = finding.diag.message;
+  labels = finding.diag.labels;
+}
 
 abbrev license_told : Severity → ℕ → ℕ → UnusedFinding
 license_told severity start end = record {
@@ -84,32 +95,42 @@ pub record UnusedRow : Type 0 where
 
 -- what the definition makes of a row
 abbrev pub reported_row : UnusedRow → UnusedRow
-reported_row row = record { policy = row.policy; hits = row.hits; told = map told_by (unused_findings row.policy row.hits) }
+reported_row row =
+    record { policy = row.policy; hits = row.hits; told = map told_by (unused_findings row.policy row.hits) }
 
 abbrev row : ValidConfig → List Hit → List UnusedFinding → UnusedRow
 row policy hits told = record { policy = policy; hits = hits; told = told }
 
 -- an allowed `MIT` and `Zlib`, and two exceptions of the policy's file
 abbrev usual_policy : LintLevel → LintLevel → ValidConfig
-usual_policy licenses grants = policy licenses grants (mit ∷ zlib ∷ []) (exception 0 61 62 (mit ∷ zlib ∷ []) ∷ exception 0 90 91 [] ∷ [])
+usual_policy licenses grants =
+    policy licenses grants (mit ∷ zlib ∷ []) (exception 0 61 62 (mit ∷ zlib ∷ []) ∷ exception 0 90 91 [] ∷ [])
 
 abbrev pub unused_rows : List UnusedRow
 unused_rows =
     -- no hit at all
-    row (usual_policy Warn Warn) [] (license_told Warning 21 24 ∷ license_told Warning 28 32 ∷ exception_told Warning 61 62 ∷ exception_told Warning 90 91 ∷ [])
+    row (usual_policy Warn Warn) [] (license_told Warning 21 24 ∷ license_told Warning 28 32
+    ∷ exception_told Warning 61 62 ∷ exception_told Warning 90 91 ∷ [])
     -- by the place of the entry, whatever is there
-    ∷ row (usual_policy Warn Warn) (Allowed 1 ∷ []) (license_told Warning 21 24 ∷ exception_told Warning 61 62 ∷ exception_told Warning 90 91 ∷ [])
+    ∷ row (usual_policy Warn Warn) (Allowed 1 ∷ [])
+    (license_told Warning 21 24 ∷ exception_told Warning 61 62 ∷ exception_told Warning 90 91 ∷ [])
     -- one entry is enough for an exception, and its place is none in the list of allowed licences
-    ∷ row (usual_policy Warn Warn) (Exception 0 1 ∷ []) (license_told Warning 21 24 ∷ license_told Warning 28 32 ∷ exception_told Warning 90 91 ∷ [])
-    ∷ row (usual_policy Warn Warn) (Exception 1 0 ∷ Allowed 0 ∷ Allowed 0 ∷ []) (license_told Warning 28 32 ∷ exception_told Warning 61 62 ∷ [])
+    ∷ row (usual_policy Warn Warn) (Exception 0 1 ∷ [])
+    (license_told Warning 21 24 ∷ license_told Warning 28 32 ∷ exception_told Warning 90 91 ∷ [])
+    ∷ row (usual_policy Warn Warn) (Exception 1 0 ∷ Allowed 0 ∷ Allowed 0 ∷ [])
+    (license_told Warning 28 32 ∷ exception_told Warning 61 62 ∷ [])
     ∷ row (usual_policy Warn Warn) (Allowed 1 ∷ Exception 1 0 ∷ Exception 0 0 ∷ Allowed 0 ∷ []) []
     -- each lint has its level, and tells nothing where it is `allow`
-    ∷ row (usual_policy Deny Warn) (Allowed 0 ∷ Exception 0 0 ∷ []) (license_told Error 28 32 ∷ exception_told Warning 90 91 ∷ [])
+    ∷ row (usual_policy Deny Warn) (Allowed 0 ∷ Exception 0 0 ∷ [])
+    (license_told Error 28 32 ∷ exception_told Warning 90 91 ∷ [])
     ∷ row (usual_policy Allow Deny) (Allowed 0 ∷ Exception 0 0 ∷ []) (exception_told Error 90 91 ∷ [])
     ∷ row (usual_policy Warn Allow) (Allowed 0 ∷ Exception 0 0 ∷ []) (license_told Warning 28 32 ∷ [])
     ∷ row (usual_policy Allow Allow) [] []
     -- exceptions of another file are not reported
-    ∷ row (policy Warn Warn [] (exception 1 61 62 (mit ∷ []) ∷ exception 0 90 91 (mit ∷ []) ∷ exception 1 99 100 [] ∷ [])) [] (exception_told Warning 90 91 ∷ [])
+    ∷ row (policy Warn Warn []
+    (exception 1 61 62 (mit ∷ []) ∷ exception 0 90 91 (mit ∷ []) ∷ exception 1 99 100 [] ∷ [])) []
+    (exception_told Warning 90 91 ∷ [])
     -- of two equal entries the one that is no hit is reported
-    ∷ row (policy Warn Warn (mit ∷ licensee (codes "MIT") 28 31 ∷ []) []) (Allowed 0 ∷ []) (license_told Warning 28 31 ∷ [])
+    ∷ row (policy Warn Warn (mit ∷ licensee (codes "MIT") 28 31 ∷ []) []) (Allowed 0 ∷ [])
+    (license_told Warning 28 31 ∷ [])
     ∷ []

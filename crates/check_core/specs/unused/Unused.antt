@@ -1,5 +1,6 @@
 -- What of a policy is no hit: what allows no term of any crate.
-use Rattle.std.specs.Prelude.{ℕ, suc, ◌==◌, Bool, false, List, [], ◌∷◌, ◌++◌, map, filter, codes, Option, Some, None, if◌then◌else◌}
+use Rattle.std.specs.Prelude.{ℕ, suc, ◌==◌, Bool, false, List, [], ◌∷◌, ◌++◌, map, filter, codes, Option, Some, None}
+use Rattle.std.specs.Prelude.{if◌then◌else◌}
 use Rattle.std.specs.List.{flat_map, list_any}
 use Rattle.std.specs.Option.{option_map_or, option_to_list}
 use Rattle.spdx_core.specs.declared.certificates.verdict.Hit.{Hit}
@@ -46,7 +47,8 @@ is_exception_hit hits place = list_any (excepts place) hits
 -- the items at whose places no hit is, where the first is at a place
 abbrev pub items_without_hit : {A : Type 0} → (ℕ → Bool) → ℕ → List A → List A
 items_without_hit is_hit place [] = []
-items_without_hit is_hit place (x ∷ xs) = (if is_hit place then [] else x ∷ []) ++ items_without_hit is_hit (suc place) xs
+items_without_hit is_hit place (x ∷ xs) =
+    (if is_hit place then [] else x ∷ []) ++ items_without_hit is_hit (suc place) xs
 
 -- ---- findings
 
@@ -61,7 +63,8 @@ unused_finding severity code message label = finding severity code message (labe
 
 abbrev pub unused_license : Severity → ℕ → Licensee → Diag
 unused_license severity file licensee =
-    unused_finding severity LicenseNotEncountered (codes "license was not encountered") (label_at Primary file licensee.0.span (codes "unmatched license allowance"))
+    unused_finding severity LicenseNotEncountered (codes "license was not encountered")
+    (label_at Primary file licensee.0.span (codes "unmatched license allowance"))
 
 -- at the name of its spec
 abbrev pub unused_exception : Severity → ValidException → Diag
@@ -80,16 +83,19 @@ own_findings severity file exceptions = map (unused_exception severity) (filter 
 -- each allowed licensee that is no hit, in sorted order
 abbrev pub license_findings : ValidConfig → (ℕ → Bool) → List Diag
 license_findings policy is_hit =
-    option_map_or (λ severity. map (unused_license severity policy.file_id) (items_without_hit is_hit 0 policy.allowed)) (severity_asked policy.unused_allowed_license) []
+    option_map_or (λ severity. map (unused_license severity policy.file_id) (items_without_hit is_hit 0 policy.allowed))
+    (severity_asked policy.unused_allowed_license) []
 
 -- each exception of the policy's own file none of whose entries is a hit
 abbrev pub exception_findings : ValidConfig → (ℕ → Bool) → List Diag
 exception_findings policy is_hit =
-    option_map_or (λ severity. own_findings severity policy.file_id (items_without_hit is_hit 0 policy.exceptions)) (severity_asked policy.unused_license_exception) []
+    option_map_or (λ severity. own_findings severity policy.file_id (items_without_hit is_hit 0 policy.exceptions))
+    (severity_asked policy.unused_license_exception) []
 
 -- what is reported after all crates, of which these are the hits
 abbrev pub unused_findings : ValidConfig → List Hit → List Diag
-unused_findings policy hits = license_findings policy (is_license_hit hits) ++ exception_findings policy (is_exception_hit hits)
+unused_findings policy hits =
+    license_findings policy (is_license_hit hits) ++ exception_findings policy (is_exception_hit hits)
 
 -- it is about no crate, and may be empty
 abbrev pub last_pack : ValidConfig → List Hit → PackOf

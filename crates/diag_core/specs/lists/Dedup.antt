@@ -25,7 +25,10 @@ pub record Sorts {T : Type 0} (cmp : T → T → Ordering) (old new : List (Span
 
 abbrev pub duplicates : ℕ → Span → Span → Diagnostic
 duplicates file one other =
-    record (plain_diagnostic Warning) { message = codes "duplicate items detected"; labels = label_at Secondary file one [] ∷ label_at Secondary file other [] ∷ [] }
+    record (plain_diagnostic Warning) {
+      message = codes "duplicate items detected";
+      labels = label_at Secondary file one [] ∷ label_at Secondary file other [] ∷ [];
+    }
 
 abbrev pub warning_where : {T : Type 0} → (T → T → Bool) → ℕ → Spanned T → Spanned T → List Diagnostic
 warning_where eq file one other = if eq one.value other.value then duplicates file one.span other.span ∷ [] else []
@@ -41,19 +44,24 @@ warnings_of eq file (item ∷ items) = warnings_behind eq file item items
 
 -- the first of these came, behind the others
 abbrev pub GainsFront : List Diagnostic → List Diagnostic → List Diagnostic → Type 0
-GainsFront old new all = (front : List Diagnostic) × (rest : List Diagnostic) × (front ++ rest ≡ all) × (new ≡ old ++ front)
+GainsFront old new all =
+    (front : List Diagnostic) × (rest : List Diagnostic) × (front ++ rest ≡ all) × (new ≡ old ++ front)
 
 -- ---- the call
 
 -- the list was sorted, and then of equals the first is kept, and all is reported; or memory was wanting, and nothing
 -- was taken out
-abbrev pub EndsDedup : {T : Type 0} → (T → T → Bool) → ℕ → List (Spanned T) → List (Spanned T) → List Diagnostic → List Diagnostic
+abbrev pub EndsDedup : {T : Type 0} → (T → T → Bool) → ℕ → List (Spanned T) → List (Spanned T) → List Diagnostic
+    → List Diagnostic
     → Result (Unit {0}) AllocError → Type 0
-EndsDedup eq file sorted new before after (Ok done) = (new ≡ dedup (by_value eq) sorted) × (after ≡ before ++ warnings_of eq file sorted)
-EndsDedup eq file sorted new before after (Err error) = (new ≡ sorted) × GainsFront before after (warnings_of eq file sorted)
+EndsDedup eq file sorted new before after (Ok done) =
+    (new ≡ dedup (by_value eq) sorted) × (after ≡ before ++ warnings_of eq file sorted)
+EndsDedup eq file sorted new before after (Err error) =
+    (new ≡ sorted) × GainsFront before after (warnings_of eq file sorted)
 
 -- items that tie are in the order in which they stood
-abbrev pub StandsAsBefore : {T : Type 0} → (T → T → Ordering) → List (Spanned T) → List (Spanned T) → Result (Unit {0}) AllocError → Type 0
+abbrev pub StandsAsBefore : {T : Type 0} → (T → T → Ordering) → List (Spanned T) → List (Spanned T)
+    → Result (Unit {0}) AllocError → Type 0
 StandsAsBefore cmp old sorted (Ok done) = IsStable (by_value cmp) old sorted
 StandsAsBefore cmp old sorted (Err error) = ⊤
 

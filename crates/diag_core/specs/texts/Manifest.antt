@@ -12,7 +12,8 @@ field_pieces field = plain (codes "\"\nlicense = \"") ∷ marked field ∷ plain
 -- the head, with the name and the field marked
 abbrev pub manifest_pieces : List ℕ → List ℕ → List ℕ → List Bit
 manifest_pieces name version field =
-    plain (codes "[package]\nname = \"") ∷ marked name ∷ plain (codes "\"\nversion = \"") ∷ plain version ∷ field_pieces field
+    plain (codes "[package]\nname = \"") ∷ marked name ∷ plain (codes "\"\nversion = \"") ∷ plain version
+    ∷ field_pieces field
 
 abbrev pub expression_pieces : List ℕ → List Bit
 expression_pieces expression = plain (codes "files-expr = \"") ∷ marked expression ∷ plain (codes "\"\n") ∷ []
@@ -30,7 +31,8 @@ closing_pieces = plain (codes "]\n") ∷ []
 
 -- digits of a base, with zeros in front up to the width
 abbrev pub padded_digits : ℕ → ℕ → ℕ → List ℕ
-padded_digits base width number = padded_integral (format_spec 32 0 4 width (2 ^ 64 - 1)) false [] (digits base false number)
+padded_digits base width number =
+    padded_integral (format_spec 32 0 4 width (2 ^ 64 - 1)) false [] (digits base false number)
 
 -- eight hexadecimal digits
 abbrev pub hash_text : ℕ → List ℕ
@@ -45,7 +47,8 @@ hash_pieces hash = plain (codes "hash = 0x") ∷ plain (hash_text hash) ∷ plai
 
 -- a score and a name
 abbrev pub named_pieces : Bit → Bit → List Bit
-named_pieces score name = plain (codes "score = ") ∷ score ∷ plain (codes ", license = \"") ∷ name ∷ plain (codes "\"") ∷ []
+named_pieces score name =
+    plain (codes "score = ") ∷ score ∷ plain (codes ", license = \"") ∷ name ∷ plain (codes "\"") ∷ []
 
 -- what is reported of a file; marked is why it gives no name
 abbrev pub told_pieces : FileNote → List Bit
@@ -57,4 +60,6 @@ told_pieces (Bad words) = plain (codes "err = \"") ∷ marked words.now ∷ plai
 
 -- the line of a file
 abbrev pub line_pieces : List ℕ → FileNote → List Bit
-line_pieces path told = plain (codes "    { path = \"") ∷ plain path ∷ plain (codes "\", ") ∷ (told_pieces told ++ plain (codes " },\n") ∷ [])
+line_pieces path told =
+    plain (codes "    { path = \"") ∷ plain path ∷ plain (codes "\", ")
+    ∷ (told_pieces told ++ plain (codes " },\n") ∷ [])

@@ -5,12 +5,14 @@ use Rattle.deny_text.specs.declared.span.Span.{Span}
 -- the places of the slashes, where the text begins at this place
 abbrev pub slashes_from : ℕ → List ℕ → List ℕ
 slashes_from place [] = []
-slashes_from place (byte ∷ rest) = if byte == 47 then place ∷ slashes_from (place + 1) rest else slashes_from (place + 1) rest
+slashes_from place (byte ∷ rest) =
+    if byte == 47 then place ∷ slashes_from (place + 1) rest else slashes_from (place + 1) rest
 
 abbrev pub slashes_of : List ℕ → List ℕ
 slashes_of text = slashes_from 0 text
 
--- where the replacement of slash number n at this place begins: each slash before it has made the text three bytes longer
+-- where the replacement of slash number n at this place begins: each slash before it has made the text three bytes
+-- longer
 abbrev pub replaced_at : ℕ → ℕ → ℕ
 replaced_at number place = place + 3 * number
 
@@ -18,7 +20,8 @@ replaced_at number place = place + 3 * number
 abbrev pub passed_from : ℕ → ℕ → List ℕ → List ℕ
 passed_from number start [] = []
 passed_from number start (place ∷ places) =
-    if nat_le (replaced_at number place) start then place ∷ passed_from (number + 1) start places else passed_from (number + 1) start places
+    if nat_le (replaced_at number place) start then place ∷ passed_from (number + 1) start places
+    else passed_from (number + 1) start places
 
 abbrev pub passed_of : ℕ → List ℕ → List ℕ
 passed_of start text = passed_from 0 start (slashes_of text)

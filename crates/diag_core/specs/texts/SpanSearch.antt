@@ -1,5 +1,6 @@
 -- Where a text writes the value of a licence field.
-use Rattle.std.specs.Prelude.{ℕ, ◌-◌, ◌||◌, ◌==◌, nat_lt, Bool, List, [], ◌∷◌, length, codes, Option, None, Some, if◌then◌else◌}
+use Rattle.std.specs.Prelude.{ℕ, ◌-◌, ◌||◌, ◌==◌, nat_lt, Bool, List, [], ◌∷◌, length, codes, Option, None, Some}
+use Rattle.std.specs.Prelude.{if◌then◌else◌}
 use Rattle.std.specs.List.{position_or_len}
 use Rattle.std.specs.Option.{option_and_then, option_map, option_or}
 use Rattle.std.specs.Str.{trim_start}
@@ -23,23 +24,28 @@ behind_quote (byte ∷ rest) = if is_quote byte then Some rest else None
 
 -- the place of the first quote
 abbrev pub quote_place : List ℕ → Option ℕ
-quote_place text = if nat_lt (position_or_len is_quote text) (length text) then Some (position_or_len is_quote text) else None
+quote_place text =
+    if nat_lt (position_or_len is_quote text) (length text) then Some (position_or_len is_quote text) else None
 
 abbrev pub license_key : List ℕ
 license_key = codes "license"
 
 -- the value that a text ends with, up to the first quote in it
 abbrev pub value_at_end : List ℕ → List ℕ → Option Span
-value_at_end text value = option_map (λ len. moved_span (length text - length value) (record { start = 0; end = len })) (quote_place value)
+value_at_end text value =
+    option_map (λ len. moved_span (length text - length value) (record { start = 0; end = len })) (quote_place value)
 
 -- behind a key: white space, `=`, white space, a quote, the value, a quote; the place of the value
 unfoldable pub value_behind : List ℕ → Option Span
 value_behind text =
-    option_and_then (λ after. option_and_then (value_at_end text) (behind_quote (trim_start after))) (rest_behind (codes "=") (trim_start text))
+    option_and_then (λ after. option_and_then (value_at_end text) (behind_quote (trim_start after)))
+    (rest_behind (codes "=") (trim_start text))
 
 -- the same of a key that the text begins with
 abbrev pub value_here : List ℕ → Option Span
-value_here text = option_and_then (λ rest. option_map (moved_span (length license_key)) (value_behind rest)) (rest_behind license_key text)
+value_here text =
+    option_and_then (λ rest. option_map (moved_span (length license_key)) (value_behind rest))
+    (rest_behind license_key text)
 
 -- the place of the value of the first key that has one
 abbrev pub license_span_of : List ℕ → Option Span

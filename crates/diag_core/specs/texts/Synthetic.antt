@@ -25,7 +25,8 @@ place_behind text bytes = record { start = length text; end = length text + leng
 -- the text with one more piece
 abbrev pub with_piece : PlacedText → Bit → PlacedText
 with_piece kept (plain bytes) = record { text = kept.text ++ bytes; spans = kept.spans }
-with_piece kept (marked bytes) = record { text = kept.text ++ bytes; spans = kept.spans ++ place_behind kept.text bytes ∷ [] }
+with_piece kept (marked bytes) =
+    record { text = kept.text ++ bytes; spans = kept.spans ++ place_behind kept.text bytes ∷ [] }
 
 abbrev pub written_all : PlacedText → List Bit → PlacedText
 written_all = fold with_piece
@@ -51,9 +52,11 @@ IsBetweenCharacters text span = IsUtf8 (take span.start text) × IsUtf8 (take sp
 -- the kept places of any pieces cut out those that are marked, in order, lie in the text, and are between characters
 -- where each piece is text
 pub record PlacesCutOut (pieces : List Bit) : Type 0 where
-  pub cut_out : map (text_at (written_all nothing_kept pieces).text) (written_all nothing_kept pieces).spans ≡ marked_of pieces
+  pub cut_out : map (text_at (written_all nothing_kept pieces).text) (written_all nothing_kept pieces).spans
+      ≡ marked_of pieces
   pub inside : All (LiesIn (written_all nothing_kept pieces).text) (written_all nothing_kept pieces).spans
-  pub between : All (λ piece. IsUtf8 (bytes_of piece)) pieces → All (IsBetweenCharacters (written_all nothing_kept pieces).text) (written_all nothing_kept pieces).spans
+  pub between : All (λ piece. IsUtf8 (bytes_of piece)) pieces
+      → All (IsBetweenCharacters (written_all nothing_kept pieces).text) (written_all nothing_kept pieces).spans
 
 abbrev pub PlacesAlwaysCutOut : Type 0
 PlacesAlwaysCutOut = (pieces : List Bit) → PlacesCutOut pieces

@@ -17,4 +17,6 @@ faults_by (Some fault) (Some other) = if same_span fault.span other.span then fa
 
 -- an empty field is not read
 abbrev pub field_faults : CatalogLists → List ℕ → List ParseError
-field_faults lists field = if length field == 0 then [] else faults_by (first_fault strict_with_slash lists field) (first_fault lax_mode lists field)
+field_faults lists field =
+    if length field == 0 then []
+    else faults_by (first_fault strict_with_slash lists field) (first_fault lax_mode lists field)

@@ -1,5 +1,6 @@
 -- What is found on the way to a crate's licence, and the places that it points at.
-use Rattle.std.specs.Prelude.{ℕ, ◌+◌, ◌^◌, ◌<◌, ◌==◌, Bool, true, false, List, [], ◌∷◌, ◌++◌, length, map, drop, codes, slice_get, Option, Some, None, is_none, if◌then◌else◌}
+use Rattle.std.specs.Prelude.{ℕ, ◌+◌, ◌^◌, ◌<◌, ◌==◌, Bool, true, false, List, [], ◌∷◌, ◌++◌, length, map, drop, codes}
+use Rattle.std.specs.Prelude.{slice_get, Option, Some, None, is_none, if◌then◌else◌}
 use Rattle.std.specs.List.{filter_map, zip}
 use Rattle.std.specs.Option.{option_map, option_map_or, option_to_list}
 use Rattle.deny_text.specs.declared.span.Span.{Span}
@@ -11,7 +12,9 @@ use Rattle.diag_core.specs.declared.label.Coord.{Coord}
 use Rattle.diag_core.specs.declared.label.Label.{Label}
 use Rattle.diag_core.specs.declared.label.LabelStyle.TheVariants.{Primary, Secondary}
 use Rattle.diag_core.specs.declared.licenses.Code.{Code}
-use Rattle.diag_core.specs.declared.licenses.Code.TheVariants.{Unlicensed, MissingClarificationFile, ParseError as parse_error, EmptyLicenseField, NoLicenseField, GatherFailure}
+use Rattle.diag_core.specs.declared.licenses.Code.TheVariants.{Unlicensed, MissingClarificationFile}
+use Rattle.diag_core.specs.declared.licenses.Code.TheVariants.{ParseError as parse_error, EmptyLicenseField}
+use Rattle.diag_core.specs.declared.licenses.Code.TheVariants.{NoLicenseField, GatherFailure}
 use Rattle.diag_core.specs.declared.pack.Diag.{Diag}
 use Rattle.diag_core.specs.declared.severity.Severity.TheVariants.{Warning}
 use Rattle.diag_core.specs.File.{File}
@@ -29,7 +32,14 @@ use Rattle.gather_core.specs.findings.Pieces.{SeenFilesView, unlisted, listed, c
 -- a warning of the licence check, with what it says and the places that it points at
 abbrev pub warning : Code → List ℕ → List Label → Diag
 warning code message labels = record {
-  diag = record { severity = Warning; code = Some (code_name (License code)); message = message; labels = labels; notes = []; alloc = heap };
+  diag = record {
+    severity = Warning;
+    code = Some (code_name (License code));
+    message = message;
+    labels = labels;
+    notes = [];
+    alloc = heap;
+  };
   code = Some (License code);
   graph_nodes = [];
   with_features = false;
@@ -40,11 +50,15 @@ label_of at message = label_at Secondary at.file at.span message
 
 -- a file of a clarification is not there; its path is in the policy's file
 abbrev pub missing_file : Coord → Diag
-missing_file path = warning MissingClarificationFile (codes "unable to locate specified license file") (label_of path [] ∷ [])
+missing_file path =
+    warning MissingClarificationFile (codes "unable to locate specified license file") (label_of path [] ∷ [])
 
 -- the place of a fault in a field that is at a place
 abbrev pub fault_place : Coord → Span → Coord
-fault_place field fault = record { file = field.file; span = record { start = field.span.start + fault.start; end = field.span.start + fault.end } }
+fault_place field fault = record {
+  file = field.file;
+  span = record { start = field.span.start + fault.start; end = field.span.start + fault.end };
+}
 
 -- it is a place of 64 bits
 abbrev pub FaultFits : Coord → ParseError → Type 0
@@ -52,13 +66,16 @@ FaultFits field fault = (field.span.start + fault.span.start < 2 ^ 64) × (field
 
 abbrev pub field_fault : Coord → ParseError → Diag
 field_fault field fault =
-    warning parse_error (codes "error parsing SPDX license expression") (label_of (fault_place field fault.span) (reason_text fault.reason) ∷ [])
+    warning parse_error (codes "error parsing SPDX license expression")
+    (label_of (fault_place field fault.span) (reason_text fault.reason) ∷ [])
 
 abbrev pub empty_field : Coord → Diag
-empty_field at = warning EmptyLicenseField (codes "license field was present but empty") (label_of at (codes "empty field") ∷ [])
+empty_field at =
+    warning EmptyLicenseField (codes "license field was present but empty") (label_of at (codes "empty field") ∷ [])
 
 abbrev pub no_field : CrateRecord → Diag
-no_field krate = warning NoLicenseField (codes "license expression was not specified in manifest for crate '" ++ title_of krate ++ codes "'") []
+no_field krate = warning NoLicenseField
+    (codes "license expression was not specified in manifest for crate '" ++ title_of krate ++ codes "'") []
 
 -- one failure: its words, and where the synthetic manifest writes it
 abbrev pub failure : ℕ → List ℕ × Span → Diag
@@ -66,7 +83,8 @@ failure file one = warning GatherFailure [] (label_of (record { file = file; spa
 
 abbrev pub unlicensed_finding : Coord → Diag
 unlicensed_finding name =
-    warning Unlicensed (codes "a valid license expression could not be retrieved for the crate") (label_at Primary name.file name.span [] ∷ [])
+    warning Unlicensed (codes "a valid license expression could not be retrieved for the crate")
+    (label_at Primary name.file name.span [] ∷ [])
 
 -- ---- what failed
 
@@ -85,8 +103,8 @@ failures_of (listed scanned) = filter_map (λ (file : ScannedFile). failure_of f
 
 -- ---- the places of a synthetic manifest
 
--- its number, and the places of what is marked in it, in order: the name, the field, the expression of joined names where
--- there is one, and what failed
+-- its number, and the places of what is marked in it, in order: the name, the field, the expression of joined names
+-- where there is one, and what failed
 pub record MarksView : Type 0 where
   pub file : ℕ
   pub spans : List Span
@@ -129,7 +147,8 @@ fault_findings place faults = option_map_or (λ at. map (field_fault at) faults)
 -- by the field: its faults, or that it is empty, or missing
 abbrev pub field_findings : CrateRecord → Option Coord → List ParseError → Option Coord → Option (List ℕ) → List Diag
 field_findings krate location faults place None = no_field krate ∷ []
-field_findings krate location faults place (Some field) = if length field == 0 then empty_findings krate location else fault_findings place faults
+field_findings krate location faults place (Some field) =
+    if length field == 0 then empty_findings krate location else fault_findings place faults
 
 -- one of each failure, also where another file gives a name
 abbrev pub failure_findings : SeenFilesView → Option (List ℕ) → MarksView → List Diag
@@ -142,13 +161,14 @@ unlicensed_findings (Some expression) marks = []
 
 -- ---- a crate whose licence no clarification settles
 
--- What settles it: its field gives the expression; or its files are looked at, and the expression of joined names is there
--- where some name is joined.
+-- What settles it: its field gives the expression; or its files are looked at, and the expression of joined names is
+-- there where some name is joined.
 pub data ExpressionBasisView : Type 0 where
   by_field : ExpressionBasisView
   by_files : SeenFilesView → Option (List ℕ) → ExpressionBasisView
 
--- the crate, the folder of its manifest, the location of its field where that counts, the field's faults, and what settles it
+-- the crate, the folder of its manifest, the location of its field where that counts, the field's faults, and what
+-- settles it
 pub record UnclarifiedCrateView : Type 0 where
   pub krate : CrateRecord
   pub folder : List ℕ
@@ -157,7 +177,9 @@ pub record UnclarifiedCrateView : Type 0 where
   pub outcome : ExpressionBasisView
 
 abbrev pub field_points : UnclarifiedCrateView → MarksView → List Diag
-field_points case marks = field_findings case.krate case.location case.faults (field_place case.location (field_mark marks)) case.krate.license
+field_points case marks =
+    field_findings case.krate case.location case.faults (field_place case.location (field_mark marks))
+    case.krate.license
 
 -- where the expression of joined names is, where there is one
 abbrev pub joined_place : Option (List ℕ) → MarksView → Option Coord
@@ -166,7 +188,8 @@ joined_place (Some text) marks = joined_mark marks
 
 -- where the expression's text is, and the findings in order
 abbrev pub points_by : UnclarifiedCrateView → MarksView → ExpressionBasisView → PlacedFindings
-points_by case marks by_field = record { expression = field_place case.location (field_mark marks); findings = field_points case marks }
+points_by case marks by_field =
+    record { expression = field_place case.location (field_mark marks); findings = field_points case marks }
 points_by case marks (by_files seen joined) = record {
   expression = joined_place joined marks;
   findings = field_points case marks ++ failure_findings seen joined marks ++ unlicensed_findings joined marks;
@@ -174,8 +197,8 @@ points_by case marks (by_files seen joined) = record {
 
 -- ---- the synthetic manifest
 
--- it is made where something points into it: where the files are looked at, and where the field that gives the expression has
--- no location
+-- it is made where something points into it: where the files are looked at, and where the field that gives the
+-- expression has no location
 abbrev pub is_made : Option Coord → ExpressionBasisView → Bool
 is_made location by_field = is_none location
 is_made location (by_files seen joined) = true

@@ -28,7 +28,8 @@ pub record PlaceLies (files : List File) (file : ℕ) (span : Span) : Type 0 whe
 -- its offset on.
 abbrev pub StandsIn : List File → ℕ → ℕ → Option Span → List ℕ → Type 0
 StandsIn files file offset (Some place) text = PlaceLies files file place
-StandsIn files file offset None text = PointsAt files (record { file = file; span = record { start = offset; end = offset + length text } }) text
+StandsIn files file offset None text =
+    PointsAt files (record { file = file; span = record { start = offset; end = offset + length text } }) text
 
 -- the text of an expression is where it is said to
 abbrev pub Stands : List File → LicenseExprInfo → List ℕ → Type 0

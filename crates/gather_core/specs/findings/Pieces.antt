@@ -1,5 +1,6 @@
 -- The manifest that is written in place of a crate's own, as one list of pieces.
-use Rattle.std.specs.Prelude.{ℕ, ◌==◌, false, List, [], ◌∷◌, ◌++◌, length, codes, Option, Some, None, unwrap_or, if◌then◌else◌}
+use Rattle.std.specs.Prelude.{ℕ, ◌==◌, false, List, [], ◌∷◌, ◌++◌, length, codes, Option, Some, None, unwrap_or}
+use Rattle.std.specs.Prelude.{if◌then◌else◌}
 use Rattle.std.specs.List.{flat_map}
 use Rattle.semver.specs.Identifiers.{parts_text}
 use Rattle.deny_text.specs.Path.{join_of}
@@ -7,7 +8,8 @@ use Rattle.graph_core.specs.Krate.{CrateRecord}
 use Rattle.tree_core.specs.declared.file_reads.bad_read.BadRead.{BadRead}
 use Rattle.tree_core.specs.declared.file_reads.bad_read.BadRead.TheVariants.{Absent, WrongKind, NotUtf8, Failed}
 use Rattle.diag_core.specs.File.{File}
-use Rattle.diag_core.specs.texts.Manifest.{closing_pieces, expression_pieces, hash_pieces, listing_pieces, manifest_pieces, opening_pieces, score_text}
+use Rattle.diag_core.specs.texts.Manifest.{closing_pieces, expression_pieces, hash_pieces, listing_pieces}
+use Rattle.diag_core.specs.texts.Manifest.{manifest_pieces, opening_pieces, score_text}
 use Rattle.diag_core.specs.texts.Synthetic.{Bit, PlacedText, marked, nothing_kept, plain, written_all}
 use Rattle.gather_license.specs.declared.expression.files.FileResult.{FileResult}
 use Rattle.gather_license.specs.declared.expression.files.FileResult.TheVariants.{Bad, Unnamed, Low, Unknown, Joined}
@@ -27,17 +29,21 @@ abbrev pub scanned_pieces : FileResult → List Bit
 scanned_pieces (Bad error) = plain (codes "err = \"") ∷ marked (bad_read_text error) ∷ plain (codes "\"") ∷ []
 scanned_pieces (Unnamed hash score) = hash_pieces hash ++ plain (codes "score = ") ∷ marked (score_text score) ∷ []
 scanned_pieces (Low hash score name) = hash_pieces hash
-    ++ plain (codes "score = ") ∷ marked (score_text score) ∷ plain (codes ", license = \"") ∷ plain name.name ∷ plain (codes "\"") ∷ []
+    ++ plain (codes "score = ") ∷ marked (score_text score) ∷ plain (codes ", license = \"") ∷ plain name.name
+    ∷ plain (codes "\"") ∷ []
 scanned_pieces (Unknown hash score name) = hash_pieces hash
-    ++ plain (codes "score = ") ∷ plain (score_text score) ∷ plain (codes ", license = \"") ∷ marked name.name ∷ plain (codes "\"") ∷ []
+    ++ plain (codes "score = ") ∷ plain (score_text score) ∷ plain (codes ", license = \"") ∷ marked name.name
+    ∷ plain (codes "\"") ∷ []
 scanned_pieces (Joined hash name deprecated) = hash_pieces hash
 
 -- the line of a file, by its path joined to the folder
 abbrev pub file_pieces : List ℕ → ScannedFile → List Bit
-file_pieces folder file = plain (codes "    { path = \"") ∷ plain (join_of folder file.path) ∷ plain (codes "\", ") ∷ (scanned_pieces file.scanned ++ plain (codes " },\n") ∷ [])
+file_pieces folder file =
+    plain (codes "    { path = \"") ∷ plain (join_of folder file.path) ∷ plain (codes "\", ")
+    ∷ (scanned_pieces file.scanned ++ plain (codes " },\n") ∷ [])
 
--- What is seen of a crate's licence files: why the folder was not listed, or what comes of each file, in path order. Where
--- they are not looked at there is none.
+-- What is seen of a crate's licence files: why the folder was not listed, or what comes of each file, in path order.
+-- Where they are not looked at there is none.
 pub data SeenFilesView : Type 0 where
   unlisted : BadRead → SeenFilesView
   listed : List ScannedFile → SeenFilesView
@@ -70,4 +76,5 @@ crate_kept krate folder joined seen = written_all nothing_kept (crate_pieces kra
 
 -- the file of the table, which no path finds
 abbrev pub synthetic_file : CrateRecord → PlacedText → File
-synthetic_file krate kept = record { name = krate.id ++ codes "-synthesized.toml"; source = kept.text; has_path = false }
+synthetic_file krate kept =
+    record { name = krate.id ++ codes "-synthesized.toml"; source = kept.text; has_path = false }

@@ -1,5 +1,6 @@
 -- What the licence files of a crate are identified as.
-use Rattle.std.specs.Prelude.{ℕ, nat_le, nat_eq, Bool, true, false, List, codes, Option, Some, None, option_map, if◌then◌else◌}
+use Rattle.std.specs.Prelude.{ℕ, nat_le, nat_eq, Bool, true, false, List, codes, Option, Some, None, option_map}
+use Rattle.std.specs.Prelude.{if◌then◌else◌}
 use Rattle.std.specs.List.{filter_map, starts_with}
 use Rattle.std.specs.Str.{bytes_eq, trim_start}
 use Rattle.deny_text.specs.Hash.{xxh32_of}
@@ -15,8 +16,8 @@ use Rattle.gather_license.specs.declared.expression.files.FileResult.{FileResult
 use Rattle.gather_license.specs.declared.expression.files.FileResult.TheVariants.{Bad, Unnamed, Low, Unknown, Joined}
 use Rattle.gather_license.specs.declared.expression.files.ScannedFile.{ScannedFile}
 
--- what texts are identified by: a catalogue, what an identifier says of each text, and the least score, in hundredths, that
--- is enough
+-- what texts are identified by: a catalogue, what an identifier says of each text, and the least score, in hundredths,
+-- that is enough
 pub record Scanner : Type 0 where
   pub lists : CatalogLists
   pub match_of : List ℕ → Match
@@ -37,7 +38,8 @@ begins_as_pixar normal = starts_with nat_eq (trim_start normal) (codes "Modified
 abbrev pub identified_name : List ℕ → List ℕ → IdentifiedName
 identified_name normal name =
     if bytes_eq name (codes "Pixar")
-    then (if begins_as_pixar normal then record { name = name; renamed = false } else record { name = codes "Apache-2.0"; renamed = true })
+    then (if begins_as_pixar normal then record { name = name; renamed = false }
+    else record { name = codes "Apache-2.0"; renamed = true })
     else record { name = name; renamed = false }
 
 -- a name is taken at a score of 50 or more
@@ -62,7 +64,8 @@ taken_by lists threshold hash score (Some name) = named_by lists threshold hash 
 -- of a text in its normal form
 abbrev pub text_scanned : Scanner → List ℕ → FileResult
 text_scanned scanner normal =
-    taken_by scanner.lists scanner.threshold (xxh32_of normal) (scanner.match_of normal).score (name_taken normal (scanner.match_of normal))
+    taken_by scanner.lists scanner.threshold (xxh32_of normal) (scanner.match_of normal).score
+    (name_taken normal (scanner.match_of normal))
 
 -- of what is read of a file, a text in its normal form; a file is never read as entries
 abbrev pub scanned_of : Scanner → ReadResult → FileResult

@@ -27,7 +27,9 @@ lax_mode = record {
 -- strict with the slash on, or else lax; an empty field is no expression
 abbrev pub field_read : CatalogLists → List ℕ → Option ExpressionView
 field_read lists [] = None
-field_read lists (byte ∷ bytes) = option_or (expression_of_text strict_with_slash lists (byte ∷ bytes)) (expression_of_text lax_mode lists (byte ∷ bytes))
+field_read lists (byte ∷ bytes) =
+    option_or (expression_of_text strict_with_slash lists (byte ∷ bytes))
+    (expression_of_text lax_mode lists (byte ∷ bytes))
 
 -- ---- names
 

@@ -19,24 +19,29 @@ pub record IsMadeOf (reads : List AnsweredRead) (pack : PackView) : Type 0 where
   pub records : pack.reads ≡ records_of_reads reads
   pub agrees : Agrees (known_reads_by reads) pack
 
--- These reads went into a pack: what it had stays, their records come behind its own, there is one of each file that came, and a
--- pack that was made of some reads is then made of those and these.
+-- These reads went into a pack: what it had stays, their records come behind its own, there is one of each file that
+-- came, and a pack that was made of some reads is then made of those and these.
 pub record TakesIn (reads : List AnsweredRead) (old new : PackView) : Type 0 where
   pub folder : new.folder ≡ old.folder
   pub listing : new.listing ≡ old.listing
-  pub stays : (path : List ℕ) (heard : ReadResult) → file_at old.files path ≡ Some heard → file_at new.files path ≡ Some heard
+  pub stays : (path : List ℕ) (heard : ReadResult) → file_at old.files path ≡ Some heard
+      → file_at new.files path ≡ Some heard
   pub adds : new.reads ≡ old.reads ++ records_of_reads reads
-  pub records : (known_reads : FolderReads) → Agrees known_reads new → old.reads ≡ records_by known_reads old.folder (paths_read old.reads) → new.reads ≡ records_by known_reads new.folder (paths_read new.reads)
+  pub records : (known_reads : FolderReads) → Agrees known_reads new
+      → old.reads ≡ records_by known_reads old.folder (paths_read old.reads)
+      → new.reads ≡ records_by known_reads new.folder (paths_read new.reads)
   pub made_of : (earlier : List AnsweredRead) → IsMadeOf earlier old → IsMadeOf (earlier ++ reads) new
 
 -- a pack went on over a tree by some reads, and no other call was made
-pub record GoesBy (told tells : Option Content) (before after : ℕ) (old new : List Call) (pack next : PackView) : Type 0 where
+pub record GoesBy (told tells : Option Content) (before after : ℕ) (old new : List Call)
+    (pack next : PackView) : Type 0 where
   pub reads : List AnsweredRead
   pub takes : TakesIn reads pack next
   pub made : MadeReads told tells before after old new pack.folder reads
 
 -- a pack was made over a tree, for a crate in this folder, of some reads, and no other call was made
-pub record IsMadeBy (told tells : Option Content) (before after : ℕ) (old new : List Call) (folder : List ℕ) (pack : PackView) : Type 0 where
+pub record IsMadeBy (told tells : Option Content) (before after : ℕ) (old new : List Call) (folder : List ℕ)
+    (pack : PackView) : Type 0 where
   pub reads : List AnsweredRead
   pub is : IsMadeOf reads pack
   pub made : MadeReads told tells before after old new folder reads
@@ -54,21 +59,25 @@ unread_file path = read_record_of LicenseFile path absent
 -- A pack went on over a tree by some reads, and then memory was wanting, perhaps in the call for one more file. By
 -- whatever known reads agree with the pack that is lost, the files that were read, and that one, are the first ones of
 -- those that are wanted.
-pub record Starves (told tells : Option Content) (before after : ℕ) (old new : List Call) (pack : PackView) (wanted : FolderReads → List (List ℕ)) : Type 0 where
+pub record Starves (told tells : Option Content) (before after : ℕ) (old new : List Call) (pack : PackView)
+    (wanted : FolderReads → List (List ℕ)) : Type 0 where
   pub reads : List AnsweredRead
   pub lost : PackView
   pub next : Option (List ℕ)
   pub takes : TakesIn reads pack lost
   pub made : LackedMemory told tells before after old new pack.folder reads (option_map unread_file next)
-  pub front : (known_reads : FolderReads) → Agrees known_reads lost → IsFront (paths_read lost.reads ++ option_to_list next) (wanted known_reads)
+  pub front : (known_reads : FolderReads) → Agrees known_reads lost
+      → IsFront (paths_read lost.reads ++ option_to_list next) (wanted known_reads)
 
 -- what is read to begin a pack: the listing, and the files that are found
 abbrev pub first_records : FolderReads → List ℕ → Option (List ℕ) → List ReadRecord
-first_records known_reads folder license_file = records_by known_reads folder (fold with_path [] (license_files_in known_reads.listing license_file))
+first_records known_reads folder license_file =
+    records_by known_reads folder (fold with_path [] (license_files_in known_reads.listing license_file))
 
 -- These reads were made over a tree, and then memory was wanting, perhaps in the call of one more. They, and that one,
 -- are the first ones of those that are made by what they say.
-pub record StarvesAmong (told tells : Option Content) (before after : ℕ) (old new : List Call) (folder : List ℕ) (wanted : FolderReads → List ReadRecord) : Type 0 where
+pub record StarvesAmong (told tells : Option Content) (before after : ℕ) (old new : List Call) (folder : List ℕ)
+    (wanted : FolderReads → List ReadRecord) : Type 0 where
   pub reads : List AnsweredRead
   pub next : Option ReadRecord
   pub made : LackedMemory told tells before after old new folder reads next

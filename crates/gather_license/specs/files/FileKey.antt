@@ -6,4 +6,5 @@ use Rattle.std.specs.Path.{dot, slash}
 
 -- a path that is neither empty nor begins with a `.`, and has no slash
 abbrev pub is_plain : List ℕ → Bool
-is_plain path = option_map_or (λ first. not (first == dot)) (slice_get path 0) false && not (list_any (λ byte. byte == slash) path)
+is_plain path =
+    option_map_or (λ first. not (first == dot)) (slice_get path 0) false && not (list_any (λ byte. byte == slash) path)

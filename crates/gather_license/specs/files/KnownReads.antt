@@ -5,7 +5,8 @@ use Rattle.deny_text.specs.Hash.{xxh32_of}
 use Rattle.deny_text.specs.Normal.{normal_of}
 use Rattle.deny_text.specs.Path.{components_of}
 use Rattle.tree_core.specs.declared.reads.ReadKind.TheVariants.{Listing, LicenseFile}
-use Rattle.tree_core.specs.file_reads.Heard.{ReadResult, failed, absent, wrong_kind, not_utf8, text, entries, is_kind, is_read}
+use Rattle.tree_core.specs.file_reads.Heard.{ReadResult, failed, absent, wrong_kind, not_utf8, text, entries, is_kind}
+use Rattle.tree_core.specs.file_reads.Heard.{is_read}
 use Rattle.tree_core.specs.file_reads.Read.{AnsweredRead, first_heard}
 use Rattle.gather_license.specs.files.NamedFile.{NamedFileView}
 
@@ -42,7 +43,8 @@ holds known_reads files = list_all (matches known_reads) files
 -- the files of a clarification that are looked up: up to and with the first that does not match
 abbrev pub looked_of : FolderReads → List NamedFileView → List (List ℕ)
 looked_of known_reads [] = []
-looked_of known_reads (named ∷ files) = named.path ∷ (if matches known_reads named then looked_of known_reads files else [])
+looked_of known_reads (named ∷ files) =
+    named.path ∷ (if matches known_reads named then looked_of known_reads files else [])
 
 -- nothing is there
 abbrev pub is_absent : ReadResult → Bool
@@ -57,7 +59,8 @@ is_absent (entries listed) = false
 abbrev pub missing_from : FolderReads → ℕ → List NamedFileView → Option ℕ
 missing_from known_reads number [] = None
 missing_from known_reads number (named ∷ files) =
-    if matches known_reads named then missing_from known_reads (number + 1) files else (if is_absent (known_reads.file (components_of named.path)) then Some number else None)
+    if matches known_reads named then missing_from known_reads (number + 1) files
+    else (if is_absent (known_reads.file (components_of named.path)) then Some number else None)
 
 -- the clarifications that are tried: up to and with the first that holds, or all
 abbrev pub tried_of : FolderReads → List (List NamedFileView) → List (List NamedFileView)

@@ -1,11 +1,13 @@
 -- The files that are read for a crate.
-use Rattle.std.specs.Prelude.{ℕ, nat_eq, Bool, not, ◌||◌, ◌&&◌, List, [], ◌∷◌, ◌++◌, map, filter, codes, Option, Some, None, if◌then◌else◌}
+use Rattle.std.specs.Prelude.{ℕ, nat_eq, Bool, not, ◌||◌, ◌&&◌, List, [], ◌∷◌, ◌++◌, map, filter, codes, Option, Some}
+use Rattle.std.specs.Prelude.{None, if◌then◌else◌}
 use Rattle.std.specs.List.{flat_map, fold, list_any, starts_with, ends_with}
 use Rattle.std.specs.Ordering.{is_lt}
 use Rattle.std.specs.Str.{bytes_eq}
 use Rattle.deny_text.specs.Path.{components_of, path_order}
 use Rattle.tree_core.specs.Content.{ListedEntry}
-use Rattle.tree_core.specs.file_reads.Heard.{ReadResult, failed, absent, wrong_kind, not_utf8, text, entries, same_parts}
+use Rattle.tree_core.specs.file_reads.Heard.{ReadResult, failed, absent, wrong_kind, not_utf8, text, entries}
+use Rattle.tree_core.specs.file_reads.Heard.{same_parts}
 use Rattle.gather_license.specs.files.KnownReads.{FolderReads, looked_of, tried_of}
 use Rattle.gather_license.specs.files.NamedFile.{NamedFileView}
 
@@ -29,7 +31,8 @@ ends_with_parts path end = ends_with bytes_eq (components_of path) (components_o
 -- the names, and behind them the crate's `license_file`, where none of them ends with it
 abbrev pub with_license_file : Option (List ℕ) → List (List ℕ) → List (List ℕ)
 with_license_file None names = names
-with_license_file (Some file) names = if list_any (λ name. ends_with_parts name file) names then names else names ++ file ∷ []
+with_license_file (Some file) names =
+    if list_any (λ name. ends_with_parts name file) names then names else names ++ file ∷ []
 
 -- Of a listing that is read as entries: the file names that begin `LICENSE` or `COPYING`, and the crate's
 -- `license_file`. Of any other listing nothing is found.
@@ -46,7 +49,8 @@ license_files_in (entries listed) license_file = with_license_file license_file 
 -- what is found, and what is looked up of the clarifications, in order
 abbrev pub wanted_of : FolderReads → Option (List ℕ) → List (List NamedFileView) → List (List ℕ)
 wanted_of known_reads license_file clarifications =
-    license_files_in known_reads.listing license_file ++ flat_map (looked_of known_reads) (tried_of known_reads clarifications)
+    license_files_in known_reads.listing license_file
+    ++ flat_map (looked_of known_reads) (tried_of known_reads clarifications)
 
 -- whether two paths have the same parts
 abbrev pub same_path : List ℕ → List ℕ → Bool
@@ -70,7 +74,8 @@ reads_of known_reads license_file clarifications = first_spellings (wanted_of kn
 -- the path among paths in order
 abbrev pub paths_with : List ℕ → List (List ℕ) → List (List ℕ)
 paths_with path [] = path ∷ []
-paths_with path (next ∷ paths) = if is_lt (path_order path next) then path ∷ next ∷ paths else next ∷ paths_with path paths
+paths_with path (next ∷ paths) =
+    if is_lt (path_order path next) then path ∷ next ∷ paths else next ∷ paths_with path paths
 
 -- each path placed among those before it
 abbrev pub in_path_order : List (List ℕ) → List (List ℕ)

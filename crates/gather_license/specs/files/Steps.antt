@@ -13,14 +13,16 @@ use Rattle.gather_license.specs.files.View.{PackView, file_at, normal_heard, pat
 -- what the pack has was read by these known reads
 pub record Agrees (known_reads : FolderReads) (pack : PackView) : Type 0 where
   pub listing : known_reads.listing ≡ pack.listing
-  pub files : (path : List ℕ) (heard : ReadResult) → file_at pack.files path ≡ Some heard → normal_heard (known_reads.file (components_of path)) ≡ heard
+  pub files : (path : List ℕ) (heard : ReadResult) → file_at pack.files path ≡ Some heard
+      → normal_heard (known_reads.file (components_of path)) ≡ heard
 
 -- the records are those of the listing and of the files in the order of their reads
 abbrev pub file_record : FolderReads → List ℕ → ReadRecord
 file_record known_reads path = read_record_of LicenseFile path (known_reads.file (components_of path))
 
 abbrev pub records_by : FolderReads → List ℕ → List (List ℕ) → List ReadRecord
-records_by known_reads folder paths = read_record_of Listing folder known_reads.listing ∷ map (file_record known_reads) paths
+records_by known_reads folder paths =
+    read_record_of Listing folder known_reads.listing ∷ map (file_record known_reads) paths
 
 -- a path, where none of the same parts is there yet
 abbrev pub with_path : List (List ℕ) → List ℕ → List (List ℕ)
@@ -38,7 +40,8 @@ with_file pack path heard = record {
 -- A pack was begun: the folder was listed, and what is found was read.
 pub record BeginsPack (folder : List ℕ) (license_file : Option (List ℕ)) (pack : PackView) : Type 0 where
   pub folder_is : pack.folder ≡ folder
-  pub records : (known_reads : FolderReads) → Agrees known_reads pack → pack.reads ≡ records_by known_reads pack.folder (paths_read pack.reads)
+  pub records : (known_reads : FolderReads) → Agrees known_reads pack
+      → pack.reads ≡ records_by known_reads pack.folder (paths_read pack.reads)
   pub paths : paths_read pack.reads ≡ fold with_path [] (license_files_in pack.listing license_file)
 
 -- paths that are looked up one after another are read as the first spelling of each, in order

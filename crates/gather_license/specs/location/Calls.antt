@@ -20,7 +20,8 @@ manifest_by reads = first_heard (λ read. is_kind Manifest read.kind) reads
 -- A field was located over a tree by these reads, of which the located one has the records: their calls were made, and
 -- no other, and the location and the table are those by what the answers say of the manifest. A manifest's call is the
 -- same for a crate in any folder.
-pub record IsLocatedBy (told tells : Option Content) (before after : ℕ) (old new : List Call) (path field : List ℕ) (files : List File) (located : LocatedField) (joined : List File) : Type 0 where
+pub record IsLocatedBy (told tells : Option Content) (before after : ℕ) (old new : List Call) (path field : List ℕ)
+    (files : List File) (located : LocatedField) (joined : List File) : Type 0 where
   pub reads : List AnsweredRead
   pub records : records_of_reads reads ≡ option_to_list located.read
   pub made : (folder : List ℕ) → MadeReads told tells before after old new folder reads
@@ -28,9 +29,11 @@ pub record IsLocatedBy (told tells : Option Content) (before after : ℕ) (old n
 
 -- These reads were made, and then memory was wanting, perhaps in the call of one more: they, and that one, are the
 -- first ones of those that are made by what they say.
-pub record StarvesLocating (told tells : Option Content) (before after : ℕ) (old new : List Call) (path field : List ℕ) (files : List File) : Type 0 where
+pub record StarvesLocating (told tells : Option Content) (before after : ℕ) (old new : List Call) (path field : List ℕ)
+    (files : List File) : Type 0 where
   pub reads : List AnsweredRead
   pub next : Option ReadRecord
   pub made : (folder : List ℕ) → LackedMemory told tells before after old new folder reads next
   pub rest : List ReadRecord
-  pub front : option_to_list (located_of path field files (manifest_by reads)).read ≡ (records_of_reads reads ++ option_to_list next) ++ rest
+  pub front : option_to_list (located_of path field files (manifest_by reads)).read
+      ≡ (records_of_reads reads ++ option_to_list next) ++ rest

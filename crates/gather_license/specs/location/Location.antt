@@ -5,7 +5,8 @@ use Rattle.std.specs.Str.{IsCharBoundary, bytes_eq}
 use Rattle.deny_text.specs.declared.span.Span.{Span}
 use Rattle.tree_core.specs.declared.reads.ReadKind.TheVariants.{Manifest}
 use Rattle.tree_core.specs.declared.reads.ReadRecord.{ReadRecord}
-use Rattle.tree_core.specs.file_reads.Heard.{ReadResult, failed, absent, wrong_kind, not_utf8, text, entries, read_record_of}
+use Rattle.tree_core.specs.file_reads.Heard.{ReadResult, failed, absent, wrong_kind, not_utf8, text, entries}
+use Rattle.tree_core.specs.file_reads.Heard.{read_record_of}
 use Rattle.diag_core.specs.declared.label.Coord.{Coord}
 use Rattle.diag_core.specs.File.{File, file_id_at, source_of_file}
 use Rattle.diag_core.specs.texts.SpanSearch.{license_span_of}
@@ -91,7 +92,8 @@ files_after path field files manifest = files_by path field files manifest (file
 -- ---- what locating answers
 
 -- the field was located, and the table is what it is then, by what is read of the manifest
-pub record IsLocated (path field : List ℕ) (old : List File) (manifest : ReadResult) (located : LocatedField) (new : List File) : Type 0 where
+pub record IsLocated (path field : List ℕ) (old : List File) (manifest : ReadResult) (located : LocatedField)
+    (new : List File) : Type 0 where
   pub located_is : located ≡ located_of path field old manifest
   pub files_are : new ≡ files_after path field old manifest
 

@@ -1,5 +1,6 @@
 -- What crates are selected by, and which crates a spec leaves out.
-use Rattle.std.specs.Prelude.{◌≡◌, ℕ, ◌==◌, ◌&&◌, ◌||◌, Bool, true, List, ◌++◌, map, bytes_eq, Option, Some, None, option_map, Result, Ok, Err, if◌then◌else◌}
+use Rattle.std.specs.Prelude.{◌≡◌, ℕ, ◌==◌, ◌&&◌, ◌||◌, Bool, true, List, ◌++◌, map, bytes_eq, Option, Some, None}
+use Rattle.std.specs.Prelude.{option_map, Result, Ok, Err, if◌then◌else◌}
 use Rattle.std.specs.Option.{option_or, option_to_list}
 use Rattle.std.specs.List.{list_any}
 use Rattle.deny_text.specs.Cut.{cut_at, is_at_sign, is_colon}

@@ -64,7 +64,8 @@ pub record IsChosen (graph : Graph) (choice : Choice) (chosen : ReachedCrates) :
 abbrev pub listed_crates : List Krate → List Kinds → List ReachedCrate
 listed_crates [] without = []
 listed_crates (krate ∷ crates) [] = record { krate = record_of krate; without = no_kinds } ∷ listed_crates crates []
-listed_crates (krate ∷ crates) (kinds ∷ without) = record { krate = record_of krate; without = kinds } ∷ listed_crates crates without
+listed_crates (krate ∷ crates) (kinds ∷ without) =
+    record { krate = record_of krate; without = kinds } ∷ listed_crates crates without
 
 abbrev pub chosen_with : List Krate → List Kinds → List (List ℕ) → List ℕ → ReachedCrates
 chosen_with crates without members workspace_root =

@@ -1,5 +1,7 @@
 -- What the code's own steps give, by the places of crates: marks, and places to go on from.
-use Rattle.std.specs.Prelude.{◌≡◌, ℕ, suc, ◌<◌, ◌&&◌, ◌||◌, not, Bool, true, false, cond, List, [], ◌∷◌, ◌++◌, map, fold, length, replicate, slice_set, slice_index_or, count_by, Option, Some, None, Result, Ok, Err, if◌then◌else◌}
+use Rattle.std.specs.Prelude.{◌≡◌, ℕ, suc, ◌<◌, ◌&&◌, ◌||◌, not, Bool, true, false, cond, List, [], ◌∷◌, ◌++◌, map}
+use Rattle.std.specs.Prelude.{fold, length, replicate, slice_set, slice_index_or, count_by, Option, Some, None, Result}
+use Rattle.std.specs.Prelude.{Ok, Err, if◌then◌else◌}
 use Rattle.std.specs.List.{list_any}
 use Rattle.graph_core.specs.declared.edge.DepKind.{DepKind}
 use Rattle.graph_core.specs.declared.edge.DepKind.TheVariants.{Normal, Dev, Build}
@@ -152,7 +154,8 @@ kinds_at normal dev build place =
 abbrev pub kinds_kept : List Bool → List Bool → List Bool → ℕ → List Bool → List Kinds
 kinds_kept normal dev build place [] = []
 kinds_kept normal dev build place (mark ∷ marks) =
-    cond mark (kinds_at normal dev build place ∷ kinds_kept normal dev build (suc place) marks) (kinds_kept normal dev build (suc place) marks)
+    cond mark (kinds_at normal dev build place ∷ kinds_kept normal dev build (suc place) marks)
+    (kinds_kept normal dev build (suc place) marks)
 
 abbrev pub without_at : List Kinds → ℕ → Kinds
 without_at without place = slice_index_or without place no_kinds

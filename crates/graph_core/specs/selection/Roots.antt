@@ -1,5 +1,6 @@
 -- The crates at which walks begin.
-use Rattle.std.specs.Prelude.{◌≡◌, ℕ, ◌+◌, ◌&&◌, not, Bool, true, false, List, [], ◌∷◌, map, bytes_eq, count_by, Contains, IsTrue, Option, Some, None}
+use Rattle.std.specs.Prelude.{◌≡◌, ℕ, ◌+◌, ◌&&◌, not, Bool, true, false, List, [], ◌∷◌, map, bytes_eq, count_by}
+use Rattle.std.specs.Prelude.{Contains, IsTrue, Option, Some, None}
 use Rattle.graph_core.specs.Krate.{CrateRecord, has_text}
 use Rattle.graph_core.specs.Metadata.{Graph}
 use Rattle.graph_core.specs.declared.selection.selection.BuildError.{BuildError}
@@ -12,7 +13,8 @@ crates_of graph = map (λ node. node.krate) graph.nodes
 abbrev pub is_member : Graph → List ℕ → Bool
 is_member graph id = has_text graph.members id
 
--- The base roots are all members with `workspace` or without a root crate, else the root crate, which need not be a member.
+-- The base roots are all members with `workspace` or without a root crate, else the root crate, which need not be a
+-- member.
 abbrev pub is_base_of : Graph → Bool → Option (List ℕ) → List ℕ → Bool
 is_base_of graph true root id = is_member graph id
 is_base_of graph false None id = is_member graph id

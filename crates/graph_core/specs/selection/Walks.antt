@@ -26,12 +26,13 @@ pub record IsEdge (graph : Graph) (step : Step) : Type 0 where
 
 -- ---- which edges count
 
--- A kind leaves an edge where its list holds it. The kind dev counts only where the edge begins at a member, and where dev
--- dependencies are not excluded.
+-- A kind leaves an edge where its list holds it. The kind dev counts only where the edge begins at a member, and where
+-- dev dependencies are not excluded.
 abbrev pub IsLeftBy : Graph → Choice → Step → DepKind → Type 0
 IsLeftBy graph choice step Normal = IsTrue step.kinds.normal
 IsLeftBy graph choice step Build = IsTrue step.kinds.build
-IsLeftBy graph choice step Dev = IsTrue step.kinds.dev × IsTrue (is_member graph step.from) × (choice.exclude_dev ≡ false)
+IsLeftBy graph choice step Dev =
+    IsTrue step.kinds.dev × IsTrue (is_member graph step.from) × (choice.exclude_dev ≡ false)
 
 -- another kind than the one named, if one is
 abbrev pub IsOther : Option DepKind → DepKind → Type 0
@@ -65,8 +66,8 @@ pub record Reached (graph : Graph) (choice : Choice) (named : Option DepKind) (i
   pub walk : IsWalk root steps id
   pub taken : All (MayBeTaken graph choice named) steps
 
--- The crates that are checked: those that are reached, also without dev dependencies where these are not included, and also
--- without build dependencies where these are not.
+-- The crates that are checked: those that are reached, also without dev dependencies where these are not included, and
+-- also without build dependencies where these are not.
 pub record Selected (graph : Graph) (choice : Choice) (include : Include) (id : List ℕ) : Type 0 where
   pub reached : Reached graph choice None id
   pub without_dev : include.dev ≡ false → Reached graph choice (Some Dev) id

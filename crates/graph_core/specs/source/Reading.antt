@@ -1,5 +1,6 @@
 -- The source that a text in metadata tells of.
-use Rattle.std.specs.Prelude.{◌≡◌, ◌⊎◌, ℕ, ◌==◌, nat_lt, Bool, true, false, List, length, slice_get, codes, bytes_eq, Option, Some, None, option_and_then, Result, Ok, Err, MatchResult, if◌then◌else◌}
+use Rattle.std.specs.Prelude.{◌≡◌, ◌⊎◌, ℕ, ◌==◌, nat_lt, Bool, true, false, List, length, slice_get, codes, bytes_eq}
+use Rattle.std.specs.Prelude.{Option, Some, None, option_and_then, Result, Ok, Err, MatchResult, if◌then◌else◌}
 use Rattle.std.specs.Option.{option_map_or}
 use Rattle.std.specs.List.{position_or_len, before_first, after_first}
 use Rattle.deny_text.specs.Path.{ancestors_of, file_name_of}

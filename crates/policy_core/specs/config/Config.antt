@@ -67,7 +67,8 @@ no_config = record {
 abbrev pub config_in : CatalogLists → Entries → Config
 config_in lists entries = record {
   private = unwrap_or (optional_value (codes "private") private_of entries) no_private;
-  confidence_threshold = unwrap_or (optional_value (codes "confidence-threshold") hundredths_of entries) usual_threshold;
+  confidence_threshold =
+      unwrap_or (optional_value (codes "confidence-threshold") hundredths_of entries) usual_threshold;
   allow = unwrap_or (optional_value (codes "allow") (licensees_of lists) entries) [];
   unused_allowed_license = unwrap_or (optional_value (codes "unused-allowed-license") lint_of entries) Warn;
   clarify = unwrap_or (optional_value (codes "clarify") (list_of clarification_of) entries) [];

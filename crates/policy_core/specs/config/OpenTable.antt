@@ -12,4 +12,5 @@ open_state table = record { left = entries_view table.left; span = table.span; f
 -- the state behind rows that were read one after another
 abbrev pub behind_rows : List KeyRow → HelperState → HelperState
 behind_rows [] state = state
-behind_rows (row ∷ rows) state = behind_rows rows (with_faults (row.faults (value_at row.name state.left)) (without_key row.name state))
+behind_rows (row ∷ rows) state =
+    behind_rows rows (with_faults (row.faults (value_at row.name state.left)) (without_key row.name state))

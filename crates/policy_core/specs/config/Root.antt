@@ -37,7 +37,8 @@ root_rows lists =
 -- the keys that were moved to `graph`, whose places are kept
 abbrev pub moved_keys : List (List ℕ)
 moved_keys =
-    codes "targets" ∷ codes "exclude" ∷ codes "features" ∷ codes "all-features" ∷ codes "no-default-features" ∷ codes "exclude-dev" ∷ []
+    codes "targets" ∷ codes "exclude" ∷ codes "features" ∷ codes "all-features" ∷ codes "no-default-features"
+    ∷ codes "exclude-dev" ∷ []
 
 abbrev pub moved_rows : List KeyRow
 moved_rows =
@@ -94,7 +95,8 @@ abbrev pub root_in : CatalogLists → Entries → RootConfig
 root_in lists entries = record {
   licenses = optional_value (codes "licenses") (config_of lists) entries;
   graph = with_moved (moved_in entries) (unwrap_or (optional_value (codes "graph") graph_config_of entries) no_graph);
-  output = with_depth (optional_value (codes "feature-depth") u32_of entries) (unwrap_or (optional_value (codes "output") output_of entries) no_output);
+  output = with_depth (optional_value (codes "feature-depth") u32_of entries)
+      (unwrap_or (optional_value (codes "output") output_of entries) no_output);
   graph_deprecated = places_of_keys moved_keys entries;
   output_deprecated = key_span (codes "feature-depth") entries;
 }

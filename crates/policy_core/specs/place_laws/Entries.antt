@@ -34,5 +34,6 @@ pub record ClarificationKeeps (text : List ℕ) (clarification : Clarification) 
   pub expression : keeps_its_span text clarification.expression
   -- without escapes it is the text there
   pub spelled : clarification.escapes ≡ false
-      → clarification.expression.value ≡ slice_range text clarification.expression.span.start clarification.expression.span.end
+      → clarification.expression.value
+      ≡ slice_range text clarification.expression.span.start clarification.expression.span.end
   pub files : keeps_each file_source_keeps text clarification.license_files

@@ -48,7 +48,8 @@ if_carried config = if list_any is_unsupported config.graph.exclude then Err Not
 -- The policy that a text is, as it is written, or the first refusal: of the text, of the shape of its value,
 -- of the specs.
 abbrev pub config_of_text : CatalogLists → List ℕ → Result RootConfig ConfigError
-config_of_text lists text = then_config (λ value. then_config if_carried (config_of_value lists value)) (value_of_text text)
+config_of_text lists text =
+    then_config (λ value. then_config if_carried (config_of_value lists value)) (value_of_text text)
 
 -- ---- what is answered
 

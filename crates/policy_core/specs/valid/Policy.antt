@@ -1,5 +1,6 @@
 -- What a valid policy says of a crate and of a term.
-use Rattle.std.specs.Prelude.{◌⊎◌, ℕ, Bool, true, IsTrue, List, [], map, Option, slice_get, Any, option_map, option_and_then}
+use Rattle.std.specs.Prelude.{◌⊎◌, ℕ, Bool, true, IsTrue, List, [], map, Option, slice_get, Any, option_map}
+use Rattle.std.specs.Prelude.{option_and_then}
 use Rattle.std.specs.Option.{option_or, option_map_or}
 use Rattle.url.specs.Parts.{Parts}
 use Rattle.graph_core.specs.Krate as crates
@@ -28,11 +29,12 @@ pub record Policy : Type 0 where
 
 -- ---- crates that are passed over
 
--- A crate is passed over where private crates are, and either its publish list is there and has names of these registries
--- alone, or its source matches one of these addresses exactly.
+-- A crate is passed over where private crates are, and either its publish list is there and has names of these
+-- registries alone, or its source matches one of these addresses exactly.
 pub record IsPrivate (policy : Policy) (krate : CrateRecord) : Type 0 where
   pub ignores : IsTrue policy.ignores
-  pub private : IsTrue (crates.is_private policy.registries krate.publish) ⊎ Any (λ address. SourceMatches true krate.source address) policy.ignore_sources
+  pub private : IsTrue (crates.is_private policy.registries krate.publish)
+      ⊎ Any (λ address. SourceMatches true krate.source address) policy.ignore_sources
 
 -- ---- what allows a term
 
@@ -54,11 +56,14 @@ granted_licensees exceptions place = option_map_or (λ grant. grant.allowed) (sl
 
 -- the hit of a term by the exception at a place, if there is one
 abbrev pub exception_hit : List Grant → Option ℕ → LicenseReq → Option Hit
-exception_hit exceptions exception term = option_and_then (λ place. option_map (Exception place) (first_entry (granted_licensees exceptions place) term)) exception
+exception_hit exceptions exception term =
+    option_and_then
+    (λ place. option_map (Exception place) (first_entry (granted_licensees exceptions place) term)) exception
 
 -- the hit of a term, where it is known which exception is the first that matches
 abbrev pub hit_by : Policy → Option ℕ → LicenseReq → Option Hit
-hit_by policy exception term = option_or (exception_hit policy.exceptions exception term) (option_map Allowed (first_entry policy.allowed term))
+hit_by policy exception term =
+    option_or (exception_hit policy.exceptions exception term) (option_map Allowed (first_entry policy.allowed term))
 
 -- The hit of a term of a crate's expression: the first licensee of the first exception that matches the crate which
 -- satisfies the term, or else the first allowed one that does.

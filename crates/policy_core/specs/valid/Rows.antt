@@ -62,10 +62,14 @@ reference doc id = record { item = Reference doc id; exception = None }
 -- ---- policies
 
 abbrev pub grant : List ℕ → List LicenseReq → Grant
-grant name licensees = record { spec = record { name = name; span = record { start = 0; end = 0 }; requirement = None }; allowed = licensees }
+grant name licensees = record {
+  spec = record { name = name; span = record { start = 0; end = 0 }; requirement = None };
+  allowed = licensees;
+}
 
 abbrev pub policy : List LicenseReq → List Grant → Policy
-policy licensees grants = record { ignores = false; registries = []; ignore_sources = []; allowed = licensees; exceptions = grants }
+policy licensees grants =
+    record { ignores = false; registries = []; ignore_sources = []; allowed = licensees; exceptions = grants }
 
 pub record HitRow : Type 0 where
   pub policy : Policy
@@ -88,7 +92,8 @@ rows =
     -- the exception of the crate comes first, by the place of its entry
     ∷ row (mit ∷ zlib ∷ []) (grant (codes "a") (isc ∷ []) ∷ []) isc (Some (Exception 0 0))
     ∷ row (mit ∷ zlib ∷ []) (grant (codes "a") (mit ∷ []) ∷ []) mit (Some (Exception 0 0))
-    ∷ row (mit ∷ []) (grant (codes "b") (isc ∷ []) ∷ grant (codes "a") (zlib ∷ isc ∷ isc ∷ []) ∷ []) isc (Some (Exception 1 1))
+    ∷ row (mit ∷ []) (grant (codes "b") (isc ∷ []) ∷ grant (codes "a") (zlib ∷ isc ∷ isc ∷ []) ∷ []) isc
+    (Some (Exception 1 1))
     -- that of another crate is none
     ∷ row (mit ∷ []) (grant (codes "ab") (isc ∷ []) ∷ []) isc None
     -- a second exception of the crate is not asked, also where the first has an empty list

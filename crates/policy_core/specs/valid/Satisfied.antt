@@ -1,4 +1,5 @@
--- Whether a licensee of a policy is content with a term, as a test that computes. It holds exactly where `Satisfies` does.
+-- Whether a licensee of a policy is content with a term, as a test that computes. It holds exactly where `Satisfies`
+-- does.
 use Rattle.std.specs.Prelude.{ℕ, ◌==◌, nat_lt, Bool, true, false, not, ◌&&◌, ◌||◌, List, Option, Some, None, bytes_eq}
 use Rattle.spdx_terms.specs.declared.term.LicenseItem.{LicenseItem}
 use Rattle.spdx_terms.specs.declared.term.LicenseItem.TheVariants.{Spdx, Reference}
@@ -12,7 +13,8 @@ same_text (Some one) (Some other) = bytes_eq one other
 
 -- the same version, unless the licensee alone takes later ones, or a later one that the term takes
 abbrev pub version_satisfies : ℕ → Bool → ℕ → Bool → Bool
-version_satisfies rank later term_rank term_later = (rank == term_rank && (not later || term_later)) || (term_later && nat_lt term_rank rank)
+version_satisfies rank later term_rank term_later =
+    (rank == term_rank && (not later || term_later)) || (term_later && nat_lt term_rank rank)
 
 abbrev pub item_satisfies : LicenseItem → LicenseItem → Bool
 item_satisfies (Spdx name family rank later plus) (Spdx term_name term_family term_rank term_later term_plus) =

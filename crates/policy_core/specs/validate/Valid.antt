@@ -1,5 +1,6 @@
 -- What of a policy that has its shape is valid, and what is found wrong with the rest.
-use Rattle.std.specs.Prelude.{ℕ, false, if◌then◌else◌, List, [], ◌∷◌, ◌++◌, map, codes, Option, Some, None, Result, Ok, Err}
+use Rattle.std.specs.Prelude.{ℕ, false, if◌then◌else◌, List, [], ◌∷◌, ◌++◌, map, codes, Option, Some, None, Result, Ok}
+use Rattle.std.specs.Prelude.{Err}
 use Rattle.std.specs.List.{filter_map}
 use Rattle.std.specs.Result.{result_ok, result_err}
 use Rattle.spdx_terms.specs.catalog.Catalog.{CatalogLists}
@@ -42,21 +43,24 @@ findings_by_each judge items = filter_map (λ item. result_err (judge item)) ite
 
 -- an error at a place of a file, and what is said there
 abbrev pub error_at : ℕ → List ℕ → Span → List ℕ → Diagnostic
-error_at file message place words = record (plain_diagnostic Error) { message = message; labels = label_at Primary file place words ∷ [] }
+error_at file message place words =
+    record (plain_diagnostic Error) { message = message; labels = label_at Primary file place words ∷ [] }
 
 -- ---- addresses whose crates are passed over
 
 -- An address that can be read is kept in normal form, as those of git repositories are.
 abbrev pub address_judged_by : ℕ → Span → SourceReading Parts → ItemOrFinding Parts
 address_judged_by file place (Ok address) = Ok (normal_address address)
-address_judged_by file place (Err refused) = Err (error_at file (codes "failed to parse url") place (codes "invalid address"))
+address_judged_by file place (Err refused) =
+    Err (error_at file (codes "failed to parse url") place (codes "invalid address"))
 
 abbrev pub address_judged : ℕ → Spanned (List ℕ) → ItemOrFinding Parts
 address_judged file string = address_judged_by file string.span (address_of string.value)
 
 -- ---- clarifications
 
--- a place in the expression's text, in the file; where the string has escapes the two do not go together, and it is the whole string
+-- a place in the expression's text, in the file; where the string has escapes the two do not go together, and it is the
+-- whole string
 abbrev pub place_in : Clarification → Span → Span
 place_in clarification place =
     if clarification.escapes then clarification.expression.span else span_from clarification.expression.span.start place
@@ -73,10 +77,12 @@ with_expression clarification expression = record {
 
 abbrev pub no_expression : ℕ → Clarification → ParseError → Diagnostic
 no_expression file clarification fault =
-    error_at file (codes "unable to parse license expression") (place_in clarification fault.span) (reason_text fault.reason)
+    error_at file (codes "unable to parse license expression") (place_in clarification fault.span)
+    (reason_text fault.reason)
 
 -- The first fault, or else the expression. A text has one of the two, so the last case never comes.
-abbrev pub clarification_judged_by : ℕ → Clarification → Option ParseError → Option ExpressionView → ItemOrFinding ValidClarification
+abbrev pub clarification_judged_by : ℕ → Clarification → Option ParseError → Option ExpressionView
+    → ItemOrFinding ValidClarification
 clarification_judged_by file clarification (Some fault) expression = Err (no_expression file clarification fault)
 clarification_judged_by file clarification None (Some expression) = Ok (with_expression clarification expression)
 clarification_judged_by file clarification None None = Err (plain_diagnostic Error)
@@ -94,7 +100,8 @@ strict_mode = record {
 abbrev pub clarification_judged : CatalogLists → ℕ → Clarification → ItemOrFinding ValidClarification
 clarification_judged lists file clarification =
     let text = clarification.expression.value in
-    clarification_judged_by file clarification (first_fault strict_mode lists text) (expression_of_text strict_mode lists text)
+    clarification_judged_by file clarification (first_fault strict_mode lists text)
+    (expression_of_text strict_mode lists text)
 
 -- ---- exceptions, and keys that were removed
 
@@ -103,7 +110,8 @@ exception_in file exception = record { spec = exception.spec; allowed = exceptio
 
 abbrev pub removed_text : List ℕ
 removed_text =
-    codes "this key has been removed, see https://github.com/EmbarkStudios/cargo-deny/pull/611 for migration information"
+    codes
+    "this key has been removed, see https://github.com/EmbarkStudios/cargo-deny/pull/611 for migration information"
 
 abbrev pub removed_key : ℕ → Span → Diagnostic
 removed_key file place =

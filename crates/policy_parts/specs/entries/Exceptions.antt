@@ -30,7 +30,8 @@ exceptions_of lists = list_of (exception_of lists)
 
 abbrev pub exceptions_file_at : CatalogLists → Entries → Span → ShapeReading ExceptionsFile
 exceptions_file_at lists entries span =
-    shaped_then (λ exceptions. shaped_by (codes "exceptions" ∷ []) [] (λ _. record { exceptions = exceptions }) entries span)
+    shaped_then
+    (λ exceptions. shaped_by (codes "exceptions" ∷ []) [] (λ _. record { exceptions = exceptions }) entries span)
     (required_value (codes "exceptions") (exceptions_of lists) entries span)
 
 abbrev pub exceptions_file_of : CatalogLists → Toml → ShapeReading ExceptionsFile

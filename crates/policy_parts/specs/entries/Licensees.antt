@@ -41,7 +41,8 @@ part_in lists text = part_of (items_of (licensee_mode named_mode) lists text)
 
 -- a string at a place
 abbrev pub licensee_in : CatalogLists → WrittenString → Span → ShapeReading Licensee
-licensee_in lists string whole = licensee_by string whole (licensee_fault named_mode lists string.text) (part_in lists string.text)
+licensee_in lists string whole =
+    licensee_by string whole (licensee_fault named_mode lists string.text) (part_in lists string.text)
 
 abbrev pub licensee_of : CatalogLists → Toml → ShapeReading Licensee
 licensee_of lists value =

@@ -41,7 +41,8 @@ abbrev pub IsRefusedBy : {T V E : Type 0} → (T → Result V E → Type 0) → 
 IsRefusedBy gives None error = ⊥
 IsRefusedBy gives (Some x) error = gives x (Err error)
 
-abbrev pub Converts : {T V E : Type 0} → (T → Result V E → Type 0) → PackageSpecOrExtended T → Result (PackageSpecOrExtended V) E → Type 0
+abbrev pub Converts : {T V E : Type 0} → (T → Result V E → Type 0) → PackageSpecOrExtended T
+    → Result (PackageSpecOrExtended V) E → Type 0
 Converts gives old (Ok new) = (new.spec ≡ old.spec) × BothOrNeither (λ x y. gives x (Ok y)) old.inner new.inner
 Converts gives old (Err error) = IsRefusedBy gives old.inner error
 

@@ -1,5 +1,6 @@
 -- Package specs as texts: `name`, `name@requirement` and `name:requirement`.
-use Rattle.std.specs.Prelude.{ℕ, ◌-◌, Bool, true, false, if◌then◌else◌, List, [], ◌∷◌, length, codes, Option, Some, None, option_map, Result, Ok, Err}
+use Rattle.std.specs.Prelude.{ℕ, ◌-◌, Bool, true, false, if◌then◌else◌, List, [], ◌∷◌, length, codes, Option, Some}
+use Rattle.std.specs.Prelude.{None, option_map, Result, Ok, Err}
 use Rattle.deny_text.specs.Cut.{cut_at, is_at_sign, is_colon}
 use Rattle.deny_text.specs.declared.span.Span.{Span}
 use Rattle.semver.specs.Parse.{Held, req_of}
@@ -53,7 +54,8 @@ requirement_at span (Err error) = Err (bad_requirement span)
 abbrev pub end_of : Span → List ℕ → Span
 end_of span rest = record { start = span.end - length rest; end = span.end }
 
--- The part behind the split; the whole string where it was written with escapes, since these hide where the part begins.
+-- The part behind the split; the whole string where it was written with escapes, since these hide where the part
+-- begins.
 abbrev pub rest_span : WrittenString → Span → List ℕ → Span
 rest_span string span rest = if string.escaped then span else end_of span rest
 
@@ -62,7 +64,8 @@ rest_span string span rest = if string.escaped then span else end_of span rest
 abbrev pub spec_of_split : WrittenString → Span → Option Split → ShapeReading Spec
 spec_of_split string span None = Ok (record { name = string.text; span = span; requirement = None })
 spec_of_split string span (Some split) =
-    shaped_map (λ comparators. record { name = split.name; span = span; requirement = Some (exact_first_where split.exact comparators) })
+    shaped_map (λ comparators.
+    record { name = split.name; span = span; requirement = Some (exact_first_where split.exact comparators) })
     (requirement_at (rest_span string span split.rest) (req_of split.rest))
 
 -- The spec that a string at a place stands for. The place of its name is that of the whole string.

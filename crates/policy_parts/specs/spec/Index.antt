@@ -1,5 +1,6 @@
 -- The places of the specs that match a crate, and an index that finds them by numbers.
-use Rattle.std.specs.Prelude.{◌≡◌, ℕ, suc, ◌+◌, ◌*◌, ◌%◌, ◌^◌, ◌==◌, nat_lt, Bool, true, false, ◌||◌, if◌then◌else◌, List, [], ◌∷◌, ◌++◌, map, slice_get, Option, Some, None, unwrap_or}
+use Rattle.std.specs.Prelude.{◌≡◌, ℕ, suc, ◌+◌, ◌*◌, ◌%◌, ◌^◌, ◌==◌, nat_lt, Bool, true, false, ◌||◌, if◌then◌else◌}
+use Rattle.std.specs.Prelude.{List, [], ◌∷◌, ◌++◌, map, slice_get, Option, Some, None, unwrap_or}
 use Rattle.std.specs.BTreeMap.{BTreeMap, get}
 use Rattle.std.specs.Option.{option_map_or}
 use Rattle.std.specs.Ordering.{nat_cmp}
@@ -53,7 +54,8 @@ name_number name = xxh32_of name
 
 -- the number of a name and one version
 abbrev pub version_number : List ℕ → Numbers → ℕ
-version_number name version = mixed_number (mixed_number (mixed_number (name_number name) version.0) version.1) version.2
+version_number name version =
+    mixed_number (mixed_number (mixed_number (name_number name) version.0) version.1) version.2
 
 abbrev pub number_by : List ℕ → Option Numbers → ℕ
 number_by name None = name_number name
@@ -79,7 +81,9 @@ HasNumberPlaces places numbers = (number : ℕ) → unwrap_or (get nat_cmp place
 -- a map has one more place of a number, and else what it had
 abbrev pub HasFurther : BTreeMap ℕ (List ℕ) → BTreeMap ℕ (List ℕ) → ℕ → ℕ → Type 0
 HasFurther before after number place =
-    (other : ℕ) → unwrap_or (get nat_cmp after other) [] ≡ unwrap_or (get nat_cmp before other) [] ++ (if other == number then place ∷ [] else [])
+    (other : ℕ)
+    → unwrap_or (get nat_cmp after other) []
+    ≡ unwrap_or (get nat_cmp before other) [] ++ (if other == number then place ∷ [] else [])
 
 -- a place put into a rising list, whose rest is joined to others
 abbrev pub put_before : ℕ → (List ℕ → List ℕ) → List ℕ → List ℕ

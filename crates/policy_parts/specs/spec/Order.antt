@@ -46,4 +46,5 @@ requirement_order None None = Equal
 -- by the bytes of the names, then by the requirements; places do not count
 abbrev pub spec_order : Spec → Spec → Ordering
 spec_order =
-    then_cmp (on (λ (spec : Spec). spec.name) (slice_cmp nat_cmp)) (on (λ (spec : Spec). spec.requirement) requirement_order)
+    then_cmp (on (λ (spec : Spec). spec.name) (slice_cmp nat_cmp))
+    (on (λ (spec : Spec). spec.requirement) requirement_order)

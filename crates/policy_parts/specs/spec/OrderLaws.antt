@@ -5,12 +5,15 @@ use Rattle.std.specs.Ordering.{nat_cmp, flip_args, eq_by_cmp, is_eq, is_lt, is_g
 use Rattle.std.specs.Option.{option_cmp, option_eq}
 use Rattle.std.specs.declared.cmp.Ordering.{Ordering}
 use Rattle.std.specs.declared.cmp.Ordering.TheVariants.{Less, Equal, Greater}
-use Rattle.std.specs.Cmp.{IsTotalOrder, IsEquivalence, IsPartialOrder, on_total, then_total, back_total, nat_cmp_total, both_tied, tied_itself, unsigned_ties, eq_by_cmp_equiv, po}
-use Rattle.std.specs.Cmp.Lexicographic.{slice_cmp, nat_list_cmp_total, lists_total, options_total, lists_ties, texts_ties, unequal}
+use Rattle.std.specs.Cmp.{IsTotalOrder, IsEquivalence, IsPartialOrder, on_total, then_total, back_total, nat_cmp_total}
+use Rattle.std.specs.Cmp.{both_tied, tied_itself, unsigned_ties, eq_by_cmp_equiv, po}
+use Rattle.std.specs.Cmp.Lexicographic.{slice_cmp, nat_list_cmp_total, lists_total, options_total, lists_ties}
+use Rattle.std.specs.Cmp.Lexicographic.{texts_ties, unequal}
 use Rattle.semver.specs.Order.{pre_cmp}
 use Rattle.semver.specs.OrderLaws.{pre_total, pre-anti, order_ties}
 use Rattle.semver.specs.Parse.{Held}
-use Rattle.policy_parts.specs.spec.Order.{operator_place, comparator_order, comparators_order, requirement_order, spec_order}
+use Rattle.policy_parts.specs.spec.Order.{operator_place, comparator_order, comparators_order, requirement_order}
+use Rattle.policy_parts.specs.spec.Order.{spec_order}
 use Rattle.policy_parts.specs.spec.Same.{same_comparator, same_comparators, same_requirement, same_spec}
 use Rattle.policy_parts.specs.spec.Spec.{Spec}
 
@@ -29,7 +32,8 @@ pub comparators_order_total : IsTotalOrder comparators_order
 comparators_order_total = then_total (on_total length nat_cmp_total) (lists_total comparator_order_total)
 
 -- the order of options has none first, and here it comes last: both turned round
-turned_order : (x y : Option (List Held)) → flip_args (option_cmp (flip_args comparators_order)) x y ≡ requirement_order x y
+turned_order : (x y : Option (List Held))
+    → flip_args (option_cmp (flip_args comparators_order)) x y ≡ requirement_order x y
 turned_order None None = refl
 turned_order None (Some ys) = refl
 turned_order (Some xs) None = refl
@@ -65,9 +69,11 @@ by_length : (xs ys : List Held) (order : Ordering) → nat_cmp (length xs) (leng
     → same_comparators xs ys ≡ is_eq (ordering_then order (slice_cmp comparator_order xs ys))
 by_length xs ys Equal is = lists_ties comparator_order comparator_ties xs ys
 by_length xs ys Less is =
-    unequal same_comparator xs ys (λ same. subst (λ r. T (is_lt r)) (sym is ∙ ap (nat_cmp (length xs)) (sym same) ∙ tied_itself nat_cmp_total (length xs)) tt)
+    unequal same_comparator xs ys (λ same.
+    subst (λ r. T (is_lt r)) (sym is ∙ ap (nat_cmp (length xs)) (sym same) ∙ tied_itself nat_cmp_total (length xs)) tt)
 by_length xs ys Greater is =
-    unequal same_comparator xs ys (λ same. subst (λ r. T (is_gt r)) (sym is ∙ ap (nat_cmp (length xs)) (sym same) ∙ tied_itself nat_cmp_total (length xs)) tt)
+    unequal same_comparator xs ys (λ same.
+    subst (λ r. T (is_gt r)) (sym is ∙ ap (nat_cmp (length xs)) (sym same) ∙ tied_itself nat_cmp_total (length xs)) tt)
 
 requirement_ties : (x y : Option (List Held)) → same_requirement x y ≡ eq_by_cmp requirement_order x y
 requirement_ties None None = refl

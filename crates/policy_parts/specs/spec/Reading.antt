@@ -28,7 +28,8 @@ requirement_of value = shaped_then (λ text. requirement_at value.span (req_of t
 abbrev pub with_version : Spanned (List ℕ) → Option Toml → ShapeReading Spec
 with_version name None = Ok (record { name = name.value; span = name.span; requirement = None })
 with_version name (Some version) =
-    shaped_map (λ comparators. record { name = name.value; span = name.span; requirement = Some comparators }) (requirement_of version)
+    shaped_map (λ comparators. record { name = name.value; span = name.span; requirement = Some comparators })
+    (requirement_of version)
 
 -- The name is never split. A table without it misses `crate`, which is the key to write.
 abbrev pub named_spec : Span → Option Toml → Option Toml → ShapeReading Spec

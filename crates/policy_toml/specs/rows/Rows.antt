@@ -1,5 +1,6 @@
 -- A table of keys, row by row: the names of the keys, and what is wrong with the values at them.
-use Rattle.std.specs.Prelude.{ℕ, Bool, true, not, ◌&&◌, List, [], ◌∷◌, ◌++◌, codes, map, Option, Some, None, is_some, Err, option_map}
+use Rattle.std.specs.Prelude.{ℕ, Bool, true, not, ◌&&◌, List, [], ◌∷◌, ◌++◌, codes, map, Option, Some, None, is_some}
+use Rattle.std.specs.Prelude.{Err, option_map}
 use Rattle.std.specs.Str.{bytes_eq}
 use Rattle.deny_text.specs.declared.span.Span.{Span}
 use Rattle.toml_subset.specs.Data.{Entries, Toml}
@@ -52,7 +53,8 @@ entries_besides (name ∷ names) entries = entries_besides names (entries_withou
 -- and were read.
 abbrev pub table_faults : List (List ℕ) → List KeyRow → Entries → Span → List ShapeFault
 table_faults needed rows entries span =
-    rows_faults rows entries ++ unexpected_faults (names_in (entries_besides (needed ++ names_of_rows rows) entries)) span
+    rows_faults rows entries
+    ++ unexpected_faults (names_in (entries_besides (needed ++ names_of_rows rows) entries)) span
 
 -- ---- the shape of a table
 

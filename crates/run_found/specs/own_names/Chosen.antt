@@ -14,7 +14,8 @@ abbrev pub lists_chosen : {C : Type 0} → (C → CatalogLists) → ChosenCatalo
 lists_chosen given (lists.Given catalog) = given catalog.now
 lists_chosen given (lists.Own listing) = lists_in listing
 
-pub lists_are_catalog : {C : Type 0} (given : C → CatalogLists) → ((catalog : C) → IsCatalog (given catalog)) → (chosen : ChosenCatalog C) → IsCatalog (lists_chosen given chosen)
+pub lists_are_catalog : {C : Type 0} (given : C → CatalogLists) → ((catalog : C) → IsCatalog (given catalog))
+    → (chosen : ChosenCatalog C) → IsCatalog (lists_chosen given chosen)
 lists_are_catalog given lawful (lists.Given catalog) = lawful catalog.now
 lists_are_catalog given lawful (lists.Own listing) = listing.is_catalog
 
@@ -23,6 +24,8 @@ abbrev pub texts_chosen : {I : Type 0} → (I → List ℕ → Match) → Chosen
 texts_chosen given (texts.Given identifier) = given identifier.now
 texts_chosen given (texts.Own store) = match_of store
 
-pub texts_within : {I : Type 0} (given : I → List ℕ → Match) → ((identifier : I) (text : List ℕ) → (given identifier text).score ≤ 100) → (chosen : ChosenIdentifier I) (text : List ℕ) → (texts_chosen given chosen text).score ≤ 100
+pub texts_within : {I : Type 0} (given : I → List ℕ → Match)
+    → ((identifier : I) (text : List ℕ) → (given identifier text).score ≤ 100)
+    → (chosen : ChosenIdentifier I) (text : List ℕ) → (texts_chosen given chosen text).score ≤ 100
 texts_within given within (texts.Given identifier) text = within identifier.now text
 texts_within given within (texts.Own store) text = score_within (stored_for store text)

@@ -27,7 +27,8 @@ AnswersHeard heard (Ok value) = heard ≡ Some (Ok value)
 AnswersHeard heard (Err error) = AnswersBy (cause_of error) heard error
 
 -- The calls of a hearing were made, and no other; what it comes to is answered.
-pub record FindsLists (given : ListsGiven) (asked : ListsAsked) (tree : TreeSeen) (answer : Result ListsGiven Error) : Type 0 where
+pub record FindsLists (given : ListsGiven) (asked : ListsAsked) (tree : TreeSeen)
+    (answer : Result ListsGiven Error) : Type 0 where
   pub hearing : ListsHearing
   pub begun : hearing.begun ≡ tree.count_before
   pub made : MadeOn tree (lists_calls given asked hearing)
@@ -36,12 +37,14 @@ pub record FindsLists (given : ListsGiven) (asked : ListsAsked) (tree : TreeSeen
 -- ---- the catalogue alone, and the texts alone
 
 -- by a read, which was made or given up before
-pub record HasCatalog (given : CatalogLists) (path : Option (List ℕ)) (begun after : ℕ) (old new : List Call) (answer : Result CatalogLists Error) : Type 0 where
+pub record HasCatalog (given : CatalogLists) (path : Option (List ℕ)) (begun after : ℕ) (old new : List Call)
+    (answer : Result CatalogLists Error) : Type 0 where
   pub read : Option CallAnswer
   pub made : new ≡ old ++ read_calls path read
   pub answers : AnswersHeard (catalog_by given path begun after read) answer
 
-pub record HasTexts (given : List ℕ → Match) (path : Option (List ℕ)) (begun after : ℕ) (old new : List Call) (answer : Result (List ℕ → Match) Error) : Type 0 where
+pub record HasTexts (given : List ℕ → Match) (path : Option (List ℕ)) (begun after : ℕ) (old new : List Call)
+    (answer : Result (List ℕ → Match) Error) : Type 0 where
   pub listing : Option CallAnswer
   pub reads : List CallAnswer
   pub made : new ≡ old ++ store_calls path listing reads
@@ -57,10 +60,13 @@ abbrev pub lists_answer : {C : Type 0} → (C → CatalogLists) → Result (Chos
 lists_answer lists (Ok chosen) = Ok (lists_chosen lists chosen)
 lists_answer lists (Err error) = Err error
 
-abbrev pub texts_answer : {I : Type 0} → (I → List ℕ → Match) → Result (ChosenIdentifier I) Error → Result (List ℕ → Match) Error
+abbrev pub texts_answer : {I : Type 0} → (I → List ℕ → Match) → Result (ChosenIdentifier I) Error
+    → Result (List ℕ → Match) Error
 texts_answer match_of (Ok chosen) = Ok (texts_chosen match_of chosen)
 texts_answer match_of (Err error) = Err error
 
-abbrev pub found_answer : {C I : Type 0} → (C → CatalogLists) → (I → List ℕ → Match) → Result (ListsFound C I) Error → Result ListsGiven Error
-found_answer lists match_of (Ok found) = Ok (lists_given (lists_chosen lists found.catalog) (texts_chosen match_of found.identifier))
+abbrev pub found_answer : {C I : Type 0} → (C → CatalogLists) → (I → List ℕ → Match) → Result (ListsFound C I) Error
+    → Result ListsGiven Error
+found_answer lists match_of (Ok found) =
+    Ok (lists_given (lists_chosen lists found.catalog) (texts_chosen match_of found.identifier))
 found_answer lists match_of (Err error) = Err error

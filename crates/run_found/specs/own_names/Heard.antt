@@ -15,8 +15,8 @@ use Rattle.run_found.specs.declared.error.Error.TheVariants.{CatalogRead, Catalo
 use Rattle.run_found.specs.Hearing.{read_calls}
 use Rattle.run_found.specs.own_names.Given.{ListsAsked, ListsGiven, lists_given}
 
--- The tree's count of faults before the first of the calls, and what they were answered: the read of a catalogue's file, and
--- the listing of a folder with the reads of its texts, each where it was made.
+-- The tree's count of faults before the first of the calls, and what they were answered: the read of a catalogue's
+-- file, and the listing of a folder with the reads of its texts, each where it was made.
 pub record ListsHearing : Type 0 where
   pub begun : ℕ
   pub catalog : Option CallAnswer
@@ -65,7 +65,8 @@ texts_read begun after None reads = None
 texts_read begun after (Some answer) reads = texts_told (store_answered begun after answer reads)
 
 -- what the texts of a folder say; where there is none, what is given
-abbrev pub texts_by : (List ℕ → Match) → Option (List ℕ) → ℕ → ℕ → Option CallAnswer → List CallAnswer → Option (Result (List ℕ → Match) Error)
+abbrev pub texts_by : (List ℕ → Match) → Option (List ℕ) → ℕ → ℕ → Option CallAnswer → List CallAnswer
+    → Option (Result (List ℕ → Match) Error)
 texts_by given None begun after listing reads = Some (Ok given)
 texts_by given (Some path) begun after listing reads = texts_read begun after listing reads
 
@@ -82,7 +83,8 @@ abbrev pub count_catalog : ListsAsked → ListsHearing → ℕ
 count_catalog asked hearing = faults_after hearing.begun (read_calls asked.catalog hearing.catalog)
 
 abbrev pub lists_heard : ListsGiven → ListsAsked → ListsHearing → Option (Result CatalogLists Error)
-lists_heard given asked hearing = catalog_by given.lists asked.catalog hearing.begun (count_catalog asked hearing) hearing.catalog
+lists_heard given asked hearing =
+    catalog_by given.lists asked.catalog hearing.begun (count_catalog asked hearing) hearing.catalog
 
 -- a folder is listed where no catalogue is asked for, and where that was found
 abbrev pub due_behind : Option (List ℕ) → Option (Result CatalogLists Error) → Option (List ℕ)
@@ -95,11 +97,14 @@ store_due given asked hearing = due_behind asked.store (lists_heard given asked 
 
 -- all calls, in order
 abbrev pub lists_calls : ListsGiven → ListsAsked → ListsHearing → List Call
-lists_calls given asked hearing = read_calls asked.catalog hearing.catalog ++ store_calls (store_due given asked hearing) hearing.listing hearing.texts
+lists_calls given asked hearing =
+    read_calls asked.catalog hearing.catalog
+    ++ store_calls (store_due given asked hearing) hearing.listing hearing.texts
 
 abbrev pub texts_heard : ListsGiven → ListsAsked → ListsHearing → Option (Result (List ℕ → Match) Error)
 texts_heard given asked hearing =
-    texts_by given.match_of asked.store (count_catalog asked hearing) (faults_after hearing.begun (lists_calls given asked hearing)) hearing.listing hearing.texts
+    texts_by given.match_of asked.store (count_catalog asked hearing)
+    (faults_after hearing.begun (lists_calls given asked hearing)) hearing.listing hearing.texts
 
 abbrev pub with_texts : CatalogLists → Result (List ℕ → Match) Error → Result ListsGiven Error
 with_texts lists (Ok match_of) = Ok (lists_given lists match_of)
@@ -109,7 +114,8 @@ abbrev pub given_behind : CatalogLists → Option (Result (List ℕ → Match) E
 given_behind lists None = None
 given_behind lists (Some texts) = Some (with_texts lists texts)
 
-abbrev pub given_by : Option (Result CatalogLists Error) → Option (Result (List ℕ → Match) Error) → Option (Result ListsGiven Error)
+abbrev pub given_by : Option (Result CatalogLists Error) → Option (Result (List ℕ → Match) Error)
+    → Option (Result ListsGiven Error)
 given_by None texts = None
 given_by (Some (Ok lists)) texts = given_behind lists texts
 given_by (Some (Err error)) texts = Some (Err error)

@@ -6,7 +6,8 @@ use Rattle.spdx_core.specs.Grammar.{ExpressionTree}
 use Rattle.spdx_core.specs.declared.certificates.verdict.Hit.{Hit}
 use Rattle.spdx_core.specs.declared.certificates.verdict.Verdict.{Verdict}
 use Rattle.spdx_core.specs.declared.certificates.verdict.Verdict.TheVariants.{Skipped, Unlicensed, Accepted, Rejected}
-use Rattle.spdx_core.specs.certificates.Choices.{choices_of, is_accepted, first_choice, least_choice, blocks_of, IsFirstLeast, MeetEach, EachAlone}
+use Rattle.spdx_core.specs.certificates.Choices.{choices_of, is_accepted, first_choice, least_choice, blocks_of}
+use Rattle.spdx_core.specs.certificates.Choices.{IsFirstLeast, MeetEach, EachAlone}
 
 -- the hit of a place; there is none behind the end of the list
 abbrev pub hit_at : List (Option Hit) → ℕ → Option Hit
@@ -16,12 +17,13 @@ abbrev pub has_hit : List (Option Hit) → ℕ → Bool
 has_hit kept place = is_some (hit_at kept place)
 
 -- what shows that a tree is accepted: its first choice with a hit at each place, and these hits in the same order
-pub record ShowsAccepted (kept : List (Option Hit)) (tree : ExpressionTree) (choice : List ℕ) (hits : List Hit) : Type 0 where
+pub record ShowsAccepted (kept : List (Option Hit)) (tree : ExpressionTree) (choice : List ℕ)
+    (hits : List Hit) : Type 0 where
   pub first : first_choice (has_hit kept) tree ≡ Some choice
   pub place_by_place : map Some hits ≡ map (hit_at kept) choice
 
--- What shows that a tree is rejected: places without a hit, of which every choice holds one. Each of them is needed, since
--- some choice holds no other one. The least choice says how near the tree comes to being accepted.
+-- What shows that a tree is rejected: places without a hit, of which every choice holds one. Each of them is needed,
+-- since some choice holds no other one. The least choice says how near the tree comes to being accepted.
 pub record ShowsRejected (kept : List (Option Hit)) (tree : ExpressionTree) (least blocks : List ℕ) : Type 0 where
   pub not_accepted : is_accepted (has_hit kept) tree ≡ false
   pub least_is : least_choice (has_hit kept) tree ≡ Some least

@@ -1,6 +1,7 @@
 -- The ways to satisfy a licence expression, and what shows that it is or is not satisfied. A test says which places of
 -- its terms have a hit.
-use Rattle.std.specs.Prelude.{◌≡◌, ◌<◌, ◌≤◌, ℕ, nat_le, Bool, not, List, [], ◌∷◌, ◌++◌, map, Option, find, count_by, All, Any, Contains, if◌then◌else◌}
+use Rattle.std.specs.Prelude.{◌≡◌, ◌<◌, ◌≤◌, ℕ, nat_le, Bool, not, List, [], ◌∷◌, ◌++◌, map, Option, find, count_by}
+use Rattle.std.specs.Prelude.{All, Any, Contains, if◌then◌else◌}
 use Rattle.std.specs.List.{flat_map, list_any, list_all}
 use Rattle.spdx_core.specs.Grammar.{ExpressionTree, leaf, both, either}
 
@@ -34,10 +35,12 @@ least_choice has_hit tree = find (is_least has_hit (choices_of tree)) (choices_o
 -- the places that stand in the way of a tree that is not accepted
 abbrev pub blocks_of : (ℕ → Bool) → ExpressionTree → List ℕ
 blocks_of has_hit (leaf place) = place ∷ []
-blocks_of has_hit (both left right) = if is_accepted has_hit left then blocks_of has_hit right else blocks_of has_hit left
+blocks_of has_hit (both left right) =
+    if is_accepted has_hit left then blocks_of has_hit right else blocks_of has_hit left
 blocks_of has_hit (either left right) = blocks_of has_hit left ++ blocks_of has_hit right
 
--- of some choices one is the first with the fewest places without a hit: before it all have more, behind it none has fewer
+-- of some choices one is the first with the fewest places without a hit: before it all have more, behind it none has
+-- fewer
 pub record IsFirstLeast (has_hit : ℕ → Bool) (choices : List (List ℕ)) (choice : List ℕ) : Type 0 where
   pub before : List (List ℕ)
   pub behind : List (List ℕ)

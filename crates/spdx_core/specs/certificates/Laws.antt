@@ -10,7 +10,9 @@ AcceptedHasNoBlocks = (has_hit : ℕ → Bool) (tree : ExpressionTree) (places :
 
 -- a tree has no first choice exactly where it is not accepted
 abbrev pub RejectedHasNoChoice : Type 0
-RejectedHasNoChoice = (has_hit : ℕ → Bool) (tree : ExpressionTree) → (first_choice has_hit tree ≡ None) ↔ (is_accepted has_hit tree ≡ false)
+RejectedHasNoChoice =
+    (has_hit : ℕ → Bool) (tree : ExpressionTree)
+    → (first_choice has_hit tree ≡ None) ↔ (is_accepted has_hit tree ≡ false)
 
 -- an AND is accepted where both of its sides are, an OR where one of them is
 pub record IsBySides (has_hit : ℕ → Bool) (left right : ExpressionTree) : Type 0 where
@@ -22,5 +24,6 @@ AcceptedBySides = (has_hit : ℕ → Bool) (left right : ExpressionTree) → IsB
 
 -- where each place that had a hit still has one, an accepted tree is still accepted
 abbrev pub MoreHitsNeverReject : Type 0
-MoreHitsNeverReject = (before after : ℕ → Bool) (tree : ExpressionTree) → ((place : ℕ) → IsTrue (before place) → IsTrue (after place))
+MoreHitsNeverReject =
+    (before after : ℕ → Bool) (tree : ExpressionTree) → ((place : ℕ) → IsTrue (before place) → IsTrue (after place))
     → IsTrue (is_accepted before tree) → IsTrue (is_accepted after tree)

@@ -26,12 +26,15 @@ computed_row row = record {
 }
 
 abbrev accepted_row : ExpressionTree → List ℕ → List ℕ → List ℕ → CertificateRow
-accepted_row tree hits choice blocks = record { tree = tree; hits = hits; first = Some choice; least = Some choice; blocks = blocks }
+accepted_row tree hits choice blocks =
+    record { tree = tree; hits = hits; first = Some choice; least = Some choice; blocks = blocks }
 
 abbrev rejected_row : ExpressionTree → List ℕ → List ℕ → List ℕ → CertificateRow
-rejected_row tree hits least blocks = record { tree = tree; hits = hits; first = None; least = Some least; blocks = blocks }
+rejected_row tree hits least blocks =
+    record { tree = tree; hits = hits; first = None; least = Some least; blocks = blocks }
 
--- (MIT OR X11) AND (X11 OR Zlib), and the like, where MIT and Zlib have hits; the blocks of an accepted tree mean nothing
+-- (MIT OR X11) AND (X11 OR Zlib), and the like, where MIT and Zlib have hits; the blocks of an accepted tree mean
+-- nothing
 abbrev pub rows : List CertificateRow
 rows =
     accepted_row (leaf 0) (0 ∷ []) (0 ∷ []) (0 ∷ [])
@@ -40,7 +43,9 @@ rows =
     ∷ rejected_row (both (leaf 0) (leaf 1)) [] (0 ∷ 1 ∷ []) (0 ∷ [])
     ∷ rejected_row (either (both (leaf 0) (leaf 1)) (both (leaf 2) (leaf 3))) (2 ∷ []) (2 ∷ 3 ∷ []) (0 ∷ 3 ∷ [])
     ∷ accepted_row (both (either (leaf 0) (leaf 1)) (either (leaf 2) (leaf 3))) (0 ∷ 3 ∷ []) (0 ∷ 3 ∷ []) (2 ∷ 3 ∷ [])
-    ∷ accepted_row (both (both (either (leaf 0) (leaf 1)) (either (leaf 2) (leaf 3))) (leaf 4)) (1 ∷ 2 ∷ 3 ∷ 4 ∷ []) (1 ∷ 2 ∷ 4 ∷ []) (4 ∷ [])
-    ∷ rejected_row (either (either (both (leaf 0) (leaf 1)) (both (leaf 2) (leaf 3))) (leaf 4)) [] (4 ∷ []) (0 ∷ 2 ∷ 4 ∷ [])
+    ∷ accepted_row (both (both (either (leaf 0) (leaf 1)) (either (leaf 2) (leaf 3))) (leaf 4)) (1 ∷ 2 ∷ 3 ∷ 4 ∷ [])
+    (1 ∷ 2 ∷ 4 ∷ []) (4 ∷ [])
+    ∷ rejected_row (either (either (both (leaf 0) (leaf 1)) (both (leaf 2) (leaf 3))) (leaf 4)) [] (4 ∷ [])
+    (0 ∷ 2 ∷ 4 ∷ [])
     ∷ accepted_row (either (leaf 0) (leaf 1)) (0 ∷ 1 ∷ []) (0 ∷ []) (0 ∷ 1 ∷ [])
     ∷ []

@@ -77,7 +77,8 @@ texts_for name texts = map (λ text. (text, name)) texts
 -- the imprecise texts, by the licence that they mean
 unfoldable pub table_imprecise : List (List ℕ × List ℕ)
 table_imprecise =
-    texts_for (codes "Apache-2.0") (codes "apache" ∷ codes "apache2" ∷ codes "apache 2" ∷ codes "apache 2.0" ∷ codes "apache-2" ∷ codes "apache-2.0" ∷ codes "apache license" ∷ codes "apache license 2.0" ∷ [])
+    texts_for (codes "Apache-2.0") (codes "apache" ∷ codes "apache2" ∷ codes "apache 2" ∷ codes "apache 2.0"
+    ∷ codes "apache-2" ∷ codes "apache-2.0" ∷ codes "apache license" ∷ codes "apache license 2.0" ∷ [])
     ++ texts_for (codes "BSD-2-Clause") (codes "bsd 2-clause" ∷ codes "bsd-2" ∷ codes "simplified bsd" ∷ [])
     ++ texts_for (codes "BSD-3-Clause") (codes "bsd 3-clause" ∷ codes "bsd-3" ∷ codes "new bsd" ∷ [])
     ++ texts_for (codes "BSL-1.0") (codes "boost" ∷ [])
@@ -99,4 +100,12 @@ table_lists = record { licenses = table_licenses; exceptions = table_exceptions;
 
 pub table_is_catalog : IsCatalog table_lists
 unfolding single_names families gnu_families table_exceptions table_imprecise
-table_is_catalog = record { license_names = refl; licenses_once = refl; exception_names = refl; exceptions_once = refl; imprecise_texts = refl; imprecise_once = refl; imprecise_known = refl }
+table_is_catalog = record {
+  license_names = refl;
+  licenses_once = refl;
+  exception_names = refl;
+  exceptions_once = refl;
+  imprecise_texts = refl;
+  imprecise_once = refl;
+  imprecise_known = refl;
+}

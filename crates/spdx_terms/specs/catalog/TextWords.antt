@@ -1,5 +1,6 @@
 -- The words of a text, by which the exact identifier tells texts apart.
-use Rattle.std.specs.Prelude.{ℕ, ◌==◌, Bool, true, false, not, ◌&&◌, ◌||◌, List, [], ◌∷◌, ◌++◌, map, filter, codes, if◌then◌else◌}
+use Rattle.std.specs.Prelude.{ℕ, ◌==◌, Bool, true, false, not, ◌&&◌, ◌||◌, List, [], ◌∷◌, ◌++◌, map, filter, codes}
+use Rattle.std.specs.Prelude.{if◌then◌else◌}
 use Rattle.std.specs.Char.{is_ascii_alphanumeric, is_ascii_digit}
 use Rattle.std.specs.Str.{bytes_eq, str_to_ascii_lowercase}
 use Rattle.std.specs.List.{flat_map, list_all, slice_split}
@@ -28,7 +29,8 @@ lower_of runs = map str_to_ascii_lowercase runs
 abbrev pub is_copyright : List (List ℕ) → Bool
 is_copyright [] = false
 is_copyright (first ∷ []) = false
-is_copyright (first ∷ second ∷ rest) = bytes_eq first (codes "copyright") && (bytes_eq second (codes "c") || list_all is_ascii_digit second)
+is_copyright (first ∷ second ∷ rest) =
+    bytes_eq first (codes "copyright") && (bytes_eq second (codes "c") || list_all is_ascii_digit second)
 
 -- these words; none where they tell of a copyright
 abbrev pub words_kept : List (List ℕ) → List (List ℕ)

@@ -9,11 +9,15 @@ TestIsSameness = (one other : Family) → IsTrue (same_family one other) ↔ (on
 
 -- a number is among the places exactly where the list has the family there
 abbrev pub PlacesStand : Type 0
-PlacesStand = (family : Family) (families : List Family) (place : ℕ) → Contains (places_in family families) place ↔ (slice_get families place ≡ Some family)
+PlacesStand =
+    (family : Family) (families : List Family) (place : ℕ)
+    → Contains (places_in family families) place ↔ (slice_get families place ≡ Some family)
 
 -- there are as many places as the family is in the list
 abbrev pub AsManyPlaces : Type 0
-AsManyPlaces = (family : Family) (families : List Family) → length (places_in family families) ≡ length (filter (same_family family) families)
+AsManyPlaces =
+    (family : Family) (families : List Family)
+    → length (places_in family families) ≡ length (filter (same_family family) families)
 
 -- from a number on, each number is larger than those before it
 abbrev pub RiseFrom : ℕ → List ℕ → Type 0

@@ -23,7 +23,8 @@ IsIndex map families = 1 < length families → HasFamilyPlaces map families
 
 -- a map has one more place of a family, and else what it had
 abbrev pub HasFurther : FamilyMap → FamilyMap → Family → ℕ → Type 0
-HasFurther before after family place = (other : Family) → places_at after other ≡ places_at before other ++ (if same_family other family then place ∷ [] else [])
+HasFurther before after family place = (other : Family)
+    → places_at after other ≡ places_at before other ++ (if same_family other family then place ∷ [] else [])
 
 abbrev pub HasSame : FamilyMap → FamilyMap → Type 0
 HasSame before after = (family : Family) → places_at after family ≡ places_at before family

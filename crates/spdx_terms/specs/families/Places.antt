@@ -13,7 +13,8 @@ same_family of_references of_references = true
 -- the places at which a family is, counted from a number on
 abbrev pub places_from : ℕ → Family → List Family → List ℕ
 places_from n family [] = []
-places_from n family (here ∷ more) = if same_family family here then n ∷ places_from (suc n) family more else places_from (suc n) family more
+places_from n family (here ∷ more) =
+    if same_family family here then n ∷ places_from (suc n) family more else places_from (suc n) family more
 
 -- the places at which a family is, from 0 and rising
 abbrev pub places_in : Family → List Family → List ℕ

@@ -15,7 +15,8 @@ next_place (Further i) = i
 abbrev pub item_place : List ℕ → ℕ → TomlReading Next
 item_place text i =
     let j = after_space text i in
-    if cut_in_comment text i then Err (space_fault text i) else (if stands text j close_bracket then Ok (Closed (j + 1)) else Ok (Further j))
+    if cut_in_comment text i then Err (space_fault text i)
+    else (if stands text j close_bracket then Ok (Closed (j + 1)) else Ok (Further j))
 
 abbrev pub behind_item : List ℕ → ℕ → TomlReading Next
 behind_item text i =

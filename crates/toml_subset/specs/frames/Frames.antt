@@ -4,7 +4,8 @@ use Rattle.toml_subset.specs.Answer.{TomlReading, then_read, fault_or}
 use Rattle.toml_subset.specs.Data as «data»
 use Rattle.toml_subset.specs.Data.{Items, depth_of, depth_limit}
 use Rattle.toml_subset.specs.Places.{from_to}
-use Rattle.toml_subset.specs.Reading.{ValueFound, ItemsFound, EntriesFound, array_items_behind, entry_put, array_read, table_read, read_items, read_entries, call_bound, value_at}
+use Rattle.toml_subset.specs.Reading.{ValueFound, ItemsFound, EntriesFound, array_items_behind, entry_put, array_read}
+use Rattle.toml_subset.specs.Reading.{table_read, read_items, read_entries, call_bound, value_at}
 use Rattle.toml_subset.specs.StringReading.{KeysFound, read_left}
 use Rattle.toml_subset.specs.TableFaults.{put_fault}
 use Rattle.toml_subset.specs.Tables.{Branches, entries_of}
@@ -56,7 +57,8 @@ joined_found items r = Ok (joined_items items r.0, r.1)
 -- what its value leads to: the array or the table, read to its end
 abbrev pub on_with : List ℕ → Frame → ValueFound → TomlReading ValueFound
 on_with text (in_array start above items) v =
-    then_read (array_read start) (then_read (joined_found items) (array_items_behind (items_at text (above + 1)) text v))
+    then_read (array_read start)
+    (then_read (joined_found items) (array_items_behind (items_at text (above + 1)) text v))
 on_with text (in_table start above branches keys) v =
     then_read (table_read start) (entry_put (entries_at text (above + 1)) text keys branches v)
 
@@ -68,7 +70,8 @@ resume text (frame ∷ more) answer = then_read (on_with text frame) (resume tex
 -- they are in one another, a value in the last of them
 abbrev pub AreNested : ℕ → List Frame → ℕ → Type 0
 AreNested above [] last = above ≡ last
-AreNested above (frame ∷ more) last = (depth_around frame ≡ above) × IsShallowFrame frame × AreNested (depth_within frame) more last
+AreNested above (frame ∷ more) last =
+    (depth_around frame ≡ above) × IsShallowFrame frame × AreNested (depth_within frame) more last
 
 -- a value that was read, or a frame whose value is at a place
 pub data ValueStep : Type 0 where
@@ -88,7 +91,8 @@ IsShallowTurn above (read v) = above + depth_of v.1 ≤ depth_limit
 IsShallowTurn above (waits frame i) = (depth_around frame ≡ above) × IsShallowFrame frame
 
 -- A turn gives what is wanted, at a place from this one on in the text, so many tables and arrays standing around it.
-pub record IsValueStep (text : List ℕ) (from above : ℕ) (wanted : TomlReading ValueFound) (turn : ValueStep) : Type 0 where
+pub record IsValueStep (text : List ℕ) (from above : ℕ) (wanted : TomlReading ValueFound)
+    (turn : ValueStep) : Type 0 where
   pub answers : wanted ≡ turn_answer text turn
   pub shallow : IsShallowTurn above turn
   pub goes : from ≤ turn_place turn
@@ -108,7 +112,8 @@ table_turn start branches next = read (from_to start next, data.table (entries_o
 
 abbrev pub entry_on : List ℕ → ℕ → ℕ → Branches → KeysFound → TomlReading ValueFound
 entry_on text start above branches left =
-    fault_or (put_fault left.0 branches (above + 1)) (turn_answer text (waits (in_table start above branches left.0) left.1))
+    fault_or (put_fault left.0 branches (above + 1))
+    (turn_answer text (waits (in_table start above branches left.0) left.1))
 
 -- an inline table that goes on
 abbrev pub table_on : List ℕ → ℕ → ℕ → Branches → Next → TomlReading ValueFound

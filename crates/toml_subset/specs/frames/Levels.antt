@@ -1,13 +1,15 @@
--- The tables that headers opened, each taken out of the one around it: the way from the root to the table whose keys the
--- next lines fill.
-use Rattle.std.specs.Prelude.{◌≡◌, ℕ, zero, suc, ◌+◌, ◌≤◌, ◌==◌, nat_lt, false, if◌then◌else◌, List, [], ◌∷◌, ◌++◌, Option, Some, None, Ok, Err, option_map, ⊤}
+-- The tables that headers opened, each taken out of the one around it: the way from the root to the table whose keys
+-- the next lines fill.
+use Rattle.std.specs.Prelude.{◌≡◌, ℕ, zero, suc, ◌+◌, ◌≤◌, ◌==◌, nat_lt, false, if◌then◌else◌, List, [], ◌∷◌, ◌++◌}
+use Rattle.std.specs.Prelude.{Option, Some, None, Ok, Err, option_map, ⊤}
 use Rattle.deny_text.specs.declared.span.Span.{Span}
 use Rattle.toml_subset.specs.Answer.{TomlReading, then_read}
 use Rattle.toml_subset.specs.Data as «data»
 use Rattle.toml_subset.specs.Data.{depth_limit, entries_depth}
 use Rattle.toml_subset.specs.Lines.{Document}
 use Rattle.toml_subset.specs.TableFaults.{last_of}
-use Rattle.toml_subset.specs.Tables.{Mark, by_header, implicit, dotted, Node, Branches, Bodies, closed, growing, tables, unbranched, branch, last, body, same_key, branches_with_key, entries_of}
+use Rattle.toml_subset.specs.Tables.{Mark, by_header, implicit, dotted, Node, Branches, Bodies, closed, growing, tables}
+use Rattle.toml_subset.specs.Tables.{unbranched, branch, last, body, same_key, branches_with_key, entries_of}
 use Rattle.toml_subset.specs.declared.error.SyntaxError.{SyntaxError}
 use Rattle.toml_subset.specs.declared.error.SyntaxReason.{SyntaxReason}
 use Rattle.toml_subset.specs.declared.error.SyntaxReason.TheVariants.{RedefinedTable, TooDeep}
@@ -106,7 +108,8 @@ all_of (body span branches more) = (span, branches) ∷ all_of more
 abbrev pub header_branches : HeaderPart → Node → Option (Around × Branches)
 header_branches Through (closed span content) = None
 header_branches Through (growing span mark inner) = Some (alone span mark, inner)
-header_branches Through (tables span bodies) = Some (behind span (before_last bodies) (last_place bodies), last_of bodies)
+header_branches Through (tables span bodies) =
+    Some (behind span (before_last bodies) (last_place bodies), last_of bodies)
 header_branches (Table at) (closed span content) = None
 header_branches (Table at) (growing span by_header inner) = None
 header_branches (Table at) (growing span implicit inner) = Some (alone at by_header, inner)
@@ -138,7 +141,8 @@ into_old key c i (Some found) = Ok (cursor_below c (branches_with_node i (hole k
 into_old key c i None = Err (refusal RedefinedTable key)
 
 abbrev pub into_new : Key → Cursor → Option Around → TomlReading Cursor
-into_new key c (Some around) = Ok (cursor_below c (branches_with_key key (hole key) c.here) (size c.here) around unbranched)
+into_new key c (Some around) =
+    Ok (cursor_below c (branches_with_key key (hole key) c.here) (size c.here) around unbranched)
 into_new key c None = Err (refusal TooDeep key)
 
 abbrev pub into_found : HeaderPart → Key → Cursor → Option (ℕ × Node) → TomlReading Cursor
@@ -164,7 +168,8 @@ abbrev pub Lead : List Key → List TableLevel → Type 0
 Lead [] [] = ⊤
 Lead [] (level ∷ levels) = ⊥
 Lead (key ∷ keys) [] = ⊥
-Lead (key ∷ keys) (level ∷ levels) = ((node : Node) × (found_at key level.table ≡ Some (level.place, node))) × Lead keys levels
+Lead (key ∷ keys) (level ∷ levels) =
+    ((node : Node) × (found_at key level.table ≡ Some (level.place, node))) × Lead keys levels
 
 -- A way as it stands for a document: put together it is the document's tree, its section leads along it, and no value
 -- is too deep.

@@ -20,5 +20,6 @@ pub record AreLinesRead (text : List ℕ) (c : Cursor) (i : ℕ) : Type 0 where
 -- a line whose first character is a bracket
 abbrev pub bracket_line : List ℕ → Document → ℕ → TomlReading LineFound
 bracket_line text document i =
-    if stands text (i + 1) open_bracket then then_read (array_header_from text i document) (keys_at text (after_blanks text (i + 2)))
+    if stands text (i + 1) open_bracket
+    then then_read (array_header_from text i document) (keys_at text (after_blanks text (i + 2)))
     else then_read (header_from text i document) (keys_at text (after_blanks text (i + 1)))

@@ -1,7 +1,8 @@
 -- The words for the kinds of values.
 use Rattle.std.specs.Prelude.{ℕ, List, codes}
 use Rattle.toml_subset.specs.declared.shapes.shape.ValueKind.{ValueKind}
-use Rattle.toml_subset.specs.declared.shapes.shape.ValueKind.TheVariants.{String, Integer, Decimal, Boolean, Array, Table}
+use Rattle.toml_subset.specs.declared.shapes.shape.ValueKind.TheVariants.{String, Integer, Decimal, Boolean, Array}
+use Rattle.toml_subset.specs.declared.shapes.shape.ValueKind.TheVariants.{Table}
 
 abbrev pub kind_word : ValueKind → List ℕ
 kind_word String = codes "a string"

@@ -1,7 +1,9 @@
 -- What the faults of the program stand for. Two texts that are equal may be two for the program; here they are one.
-use Rattle.toml_subset.specs.shapes.Shapes.{ShapeReason, ShapeFault, wanted, missing, unexpected_keys, unexpected_value, custom, out_of_range}
+use Rattle.toml_subset.specs.shapes.Shapes.{ShapeReason, ShapeFault, wanted, missing, unexpected_keys, unexpected_value}
+use Rattle.toml_subset.specs.shapes.Shapes.{custom, out_of_range}
 use Rattle.toml_subset.specs.declared.shapes.shape.ErrorKind.{ErrorKind}
-use Rattle.toml_subset.specs.declared.shapes.shape.ErrorKind.TheVariants.{Wanted, MissingField, UnexpectedKeys, UnexpectedValue, Custom, OutOfRange}
+use Rattle.toml_subset.specs.declared.shapes.shape.ErrorKind.TheVariants.{Wanted, MissingField, UnexpectedKeys}
+use Rattle.toml_subset.specs.declared.shapes.shape.ErrorKind.TheVariants.{UnexpectedValue, Custom, OutOfRange}
 use Rattle.toml_subset.specs.declared.shapes.shape.ShapeError.{ShapeError}
 
 abbrev pub reason_of : ErrorKind → ShapeReason

@@ -2,7 +2,8 @@
 use Rattle.std.specs.Prelude.{◌≡◌, ℕ, false, List, slice_range, ⊤}
 use Rattle.deny_text.specs.Spans.{LiesBetween}
 use Rattle.deny_text.specs.declared.span.Span.{Span}
-use Rattle.toml_subset.specs.Data.{TomlContent, Items, Entries, Toml, string, integer, decimal, boolean, array, table, no_item, item, no_entry, entry}
+use Rattle.toml_subset.specs.Data.{TomlContent, Items, Entries, Toml, string, integer, decimal, boolean, array, table}
+use Rattle.toml_subset.specs.Data.{no_item, item, no_entry, entry}
 use Rattle.toml_subset.specs.Written.{WrittenString}
 use Rattle.toml_subset.specs.declared.string.Key.{Key}
 

@@ -12,7 +12,8 @@ use Rattle.tree_core.specs.declared.reads.ReadKind.{ReadKind}
 use Rattle.tree_core.specs.declared.reads.ReadKind.TheVariants.{Manifest, Listing, LicenseFile}
 use Rattle.tree_core.specs.declared.reads.ReadRecord.{ReadRecord}
 use Rattle.tree_core.specs.file_reads.Answered.{call_of, file_answered, folder_answered}
-use Rattle.tree_core.specs.file_reads.Heard.{ReadResult, absent, read_answer_of, counts_in, or_there, read_place, there_heard}
+use Rattle.tree_core.specs.file_reads.Heard.{ReadResult, absent, read_answer_of, counts_in, or_there, read_place}
+use Rattle.tree_core.specs.file_reads.Heard.{there_heard}
 use Rattle.tree_core.specs.file_reads.Rising.{RiseInOrder}
 
 -- a record of a read, and what the tree answered to its call
@@ -66,7 +67,8 @@ counts_carried answer = unwrap_or (counts_in answer) (0, 0)
 -- read stands for a read that was not made.
 abbrev pub read_heard : AnsweredRead → ReadResult
 read_heard read =
-    unwrap_or (kind_answered read.recorded.kind (counts_carried read.recorded.answer).0 (counts_carried read.recorded.answer).1 read.answer) absent
+    unwrap_or (kind_answered read.recorded.kind (counts_carried read.recorded.answer).0
+    (counts_carried read.recorded.answer).1 read.answer) absent
 
 -- what the first read of those that are asked for says; where there is none, nothing is there
 abbrev pub first_heard : (ReadRecord → Bool) → List AnsweredRead → ReadResult
@@ -89,28 +91,37 @@ AreReads before (read ∷ reads) = IsRecorded before read × AreReads (fault_beh
 
 -- reads whose records tell what their answers say rise one after the other, up to the count behind their calls
 abbrev pub ReadsRise : Type 0
-ReadsRise = (folder : List ℕ) (before : ℕ) (reads : List AnsweredRead) → AreReads before reads → RiseInOrder before (records_of_reads reads) (faults_after before (calls_in folder reads))
+ReadsRise =
+    (folder : List ℕ) (before : ℕ) (reads : List AnsweredRead) → AreReads before reads
+    → RiseInOrder before (records_of_reads reads) (faults_after before (calls_in folder reads))
 
 -- ---- where content is reported
 
 -- what the content has where a read looks is what the read says, but for its failure
 abbrev pub HearsContent : Content → List ℕ → AnsweredRead → Type 0
 HearsContent content folder read =
-    read_heard read ≡ or_there (counts_in read.recorded.answer) (there_heard read.recorded.kind content (read_place read.recorded.kind (resolve folder) (components_of read.recorded.path)))
+    read_heard read
+    ≡ or_there (counts_in read.recorded.answer)
+    (there_heard read.recorded.kind content
+    (read_place read.recorded.kind (resolve folder) (components_of read.recorded.path)))
 
 -- where each call says what a content has, and the records tell what the answers say, so does each read
 abbrev pub ReadsTellContent : Type 0
-ReadsTellContent = (content : Content) (folder : List ℕ) (before : ℕ) (reads : List AnsweredRead) → AreReads before reads → All (Says content) (calls_in folder reads) → All (HearsContent content folder) reads
+ReadsTellContent =
+    (content : Content) (folder : List ℕ) (before : ℕ) (reads : List AnsweredRead) → AreReads before reads
+    → All (Says content) (calls_in folder reads) → All (HearsContent content folder) reads
 
 -- ---- over a tree
 
 -- These reads were made for a crate in this folder: their calls were made, and no other, and their records tell what
 -- the answers say.
-pub record MadeReads (told tells : Option Content) (before after : ℕ) (old new : List Call) (folder : List ℕ) (reads : List AnsweredRead) : Type 0 where
+pub record MadeReads (told tells : Option Content) (before after : ℕ) (old new : List Call) (folder : List ℕ)
+    (reads : List AnsweredRead) : Type 0 where
   pub made : Made told tells before after old new (calls_in folder reads)
   pub are : AreReads before reads
 
 -- These reads were made, and then memory was wanting: perhaps in one more call, that of this record.
-pub record LackedMemory (told tells : Option Content) (before after : ℕ) (old new : List Call) (folder : List ℕ) (reads : List AnsweredRead) (lost : Option ReadRecord) : Type 0 where
+pub record LackedMemory (told tells : Option Content) (before after : ℕ) (old new : List Call) (folder : List ℕ)
+    (reads : List AnsweredRead) (lost : Option ReadRecord) : Type 0 where
   pub made : Made told tells before after old new (calls_in folder reads ++ call_lost folder lost)
   pub are : AreReads before reads

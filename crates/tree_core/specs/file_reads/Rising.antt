@@ -10,8 +10,8 @@ pub record RoseBy (before after : ℕ) : Type 0 where
   pub later : before ≤ after
   pub rose : Rose before after
 
--- What a record asks of the count: a failed read began at it or later, the count rose in it, and what follows begins at the
--- count that it left. Any other read says nothing of the count.
+-- What a record asks of the count: a failed read began at it or later, the count rose in it, and what follows begins at
+-- the count that it left. Any other read says nothing of the count.
 abbrev pub RiseFrom : ℕ → ReadAnswer → (ℕ → Type 0) → Type 0
 RiseFrom low Got Rest = Rest low
 RiseFrom low Absent Rest = Rest low
@@ -26,8 +26,12 @@ RiseInOrder low (read ∷ reads) high = RiseFrom low read.answer (λ from. RiseI
 
 -- reads that rise up to a number, and then reads that rise from it, rise together
 abbrev pub RisesCompose : Type 0
-RisesCompose = (low middle high : ℕ) (reads more : List ReadRecord) → RiseInOrder low reads middle → RiseInOrder middle more high → RiseInOrder low (reads ++ more) high
+RisesCompose =
+    (low middle high : ℕ) (reads more : List ReadRecord) → RiseInOrder low reads middle → RiseInOrder middle more high
+    → RiseInOrder low (reads ++ more) high
 
 -- reads rise as well from an earlier number, and up to a later one
 abbrev pub RisesWiden : Type 0
-RisesWiden = (lower low high higher : ℕ) (reads : List ReadRecord) → lower ≤ low → RiseInOrder low reads high → high ≤ higher → RiseInOrder lower reads higher
+RisesWiden =
+    (lower low high higher : ℕ) (reads : List ReadRecord) → lower ≤ low → RiseInOrder low reads high → high ≤ higher
+    → RiseInOrder lower reads higher

@@ -31,7 +31,8 @@ abbrev pub read_of : List ℕ → CallAnswer → Call
 read_of path answer = record { asked = call.read; path = path; answer = answer }
 
 -- one call was made, the read of this path, and this is read by its answer
-pub record IsTextRead (begun after : ℕ) (old new : List Call) (path : List ℕ) (heard : Result (List ℕ) ReadFault) : Type 0 where
+pub record IsTextRead (begun after : ℕ) (old new : List Call) (path : List ℕ)
+    (heard : Result (List ℕ) ReadFault) : Type 0 where
   pub answer : CallAnswer
   pub made : new ≡ old ++ read_of path answer ∷ []
   pub hears : text_answered begun after answer ≡ Some heard

@@ -47,8 +47,8 @@ pub record AreFirstLooks (paths : List (List ℕ)) (old new : List Call) : Type 
   pub parts : paths ≡ before ++ rest
   pub made : new ≡ old ++ absent_looks before
 
--- A search of paths in order was given up: at the look that failed, or at the one that memory was wanting for, or, for want of
--- memory too, between two looks.
+-- A search of paths in order was given up: at the look that failed, or at the one that memory was wanting for, or, for
+-- want of memory too, between two looks.
 abbrev pub LookedUntil : List (List ℕ) → List Call → List Call → SearchError → Type 0
 LookedUntil paths old new (Failed before after) = IsLast paths old new call.failed
 LookedUntil paths old new Memory = AreFirstLooks paths old new ⊎ IsLast paths old new call.no_memory

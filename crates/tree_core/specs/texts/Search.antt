@@ -11,7 +11,8 @@ use Rattle.tree_core.specs.declared.texts.search.SearchError.TheVariants.{Failed
 -- the names of the file that is looked for, in the order in which a folder is asked for them
 abbrev pub names_sought : SoughtFile → List (List ℕ)
 names_sought Policy = codes "deny.toml" ∷ codes ".deny.toml" ∷ codes ".cargo/deny.toml" ∷ []
-names_sought Exceptions = codes "deny.exceptions.toml" ∷ codes ".deny.exceptions.toml" ∷ codes ".cargo/deny.exceptions.toml" ∷ []
+names_sought Exceptions =
+    codes "deny.exceptions.toml" ∷ codes ".deny.exceptions.toml" ∷ codes ".cargo/deny.exceptions.toml" ∷ []
 
 -- the paths in a folder
 abbrev pub paths_in_folder : List (List ℕ) → List ℕ → List (List ℕ)
