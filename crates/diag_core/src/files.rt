@@ -61,9 +61,13 @@ fn append(files: &mut Vec<SourceFile>, name: FileName, source: Text) -> Result<F
     ensures number { IfOk result (λ id. id ≡ length files.old.items) }
     ensures ok { OnOk result (files.new.items ≡ files.old.items
         ++ record { name = name_text name; source = source; has_path = is_path name } ∷ []) }
+    ensures fits { length source < 2 ^ 64 }
     ensures err { OnErr result (files.new.items ≡ files.old.items) }
 {
     let id = files.len();
+    // Each place in the file is then one of 64 bits.
+    let bytes = source.as_str().len();
+    prove!(bytes <= usize::MAX);
     files.push(SourceFile::new(name, source))?;
     Ok(id)
 }
@@ -108,6 +112,7 @@ impl Files {
         ensures number { IfOk result (λ id. id ≡ length self.old) }
         ensures ok { OnOk result (self.new
             ≡ self.old ++ record { name = path; source = source; has_path = true } ∷ []) }
+        ensures fits { OnOk result (length source < 2 ^ 64) }
         ensures taken { (result ≡ Err (AddError.PathTaken path source)) ↔ IsSome (file_id_at self.old path) }
         ensures otherwise { IfErr result (λ error. (error ≡ AddError.PathTaken path source)
             ⊎ (error ≡ AddError.Memory)) }
@@ -133,6 +138,7 @@ impl Files {
         ensures number { IfOk result (λ id. id ≡ length self.old) }
         ensures ok { OnOk result (self.new
             ≡ self.old ++ record { name = name; source = source; has_path = false } ∷ []) }
+        ensures fits { OnOk result (length source < 2 ^ 64) }
         ensures err { OnErr result (self.new ≡ self.old) }
     {
         append(&mut self.files, FileName::Label(name), source)
@@ -153,6 +159,7 @@ impl Files {
         ensures number { IfOk result (λ id. id ≡ length self.old) }
         ensures ok { OnOk result (self.new
             ≡ self.old ++ record { name = path; source = source; has_path = true } ∷ []) }
+        ensures fits { OnOk result (length source < 2 ^ 64) }
         ensures taken { (result ≡ Err (AddError.PathTaken path source)) ↔ IsSome (file_id_at self.old path) }
         ensures otherwise { IfErr result (λ error. (error ≡ AddError.PathTaken path source)
             ⊎ (error ≡ AddError.Memory)) }
