@@ -59,10 +59,10 @@ facts | awk -F '\t' '
         if (full in path) return full
         for (at = bases; at > 0; at--) {
             full = "crates/" base[at] "/"
-            if ((full name) in path) return full name
-            kind = index(name, "/") ? substr(name, 1, index(name, "/")) : ""
+            kind = name ~ /^(src|specs|proofs)\// ? substr(name, 1, index(name, "/")) : ""
             rest = modules[at] substr(name, length(kind) + 1)
             if (kind != "" && (full kind rest) in path) return full kind rest
+            if (kind == "" && (full name) in path) return full name
             if (kind == "" && ((full "src/" rest) in path || (full "specs/" rest) in path || (full "proofs/" rest) in path))
                 return full "src/" rest
         }
@@ -70,14 +70,17 @@ facts | awk -F '\t' '
     # What is named after a path may say where it begins: so one that is not found is looked for again at the end.
     function look(name,    there) {
         sub(/\/$/, "", name)
-        there = meant(name)
-        if (there != "") enter_path(there)
+        if ((there = meant(name)) != "") enter_path(there)
         else { late[++lates] = name; late_line[lates] = FNR }
     }
-    function rust_path(name,    part, count, at, one, first, seen, module) {
+    function rust_path(name,    part, count, at, one, first, seen, module, top_of) {
         count = split(name, part, "::")
         first = part[1] in crate
-        for (at = 2; at <= count && ("crates/" part[1] "/specs/" module part[at]) in path; at++) module = module part[at] "/"
+        top_of = "crates/" part[1] "/"
+        for (at = 2; at <= count; at++) {
+            if (!((top_of "specs/" module part[at]) in path || (top_of "src/" module part[at]) in path)) break
+            module = module part[at] "/"
+        }
         if (first) enter(part[1], module)
         for (one in crate) if (!first || one == part[1]) {
             seen = first
@@ -89,8 +92,7 @@ facts | awk -F '\t' '
     # A name of one of the forms above, but for those that have a part to be filled in, as NAME or x.
     function token(name,    first) {
         sub(/[.:]+$/, "", name)
-        first = name
-        sub(/\/.*/, "", first)
+        first = substr(name, 1, index(name "/", "/") - 1)
         if (name in other || name ~ /^[\/~-]|:\/\/|\*|(^|\/)(NAME|CRATE|FILE|FOLDER)(\.|\/|$)|(^|_)x(_|$)|[a-z]X$|^X[A-Z]/) return
         if (name in crate) enter(name, "")
         else if (name ~ /^[^:]+\.(rt|antt|edit)$|\/[^:]+\.(sh|txt|md|toml|rs|awk|json)$/) look(name)
@@ -113,14 +115,12 @@ facts | awk -F '\t' '
     }
     function spans(line,    count, part, at) {
         count = split(line, part, "`")
-        for (at = 1; at <= count; at++) {
-            held = held part[at]
-            if (at == count) break
-            if (open) span(held, between); else between = held
+        for (at = 1; at < count; at++) {
+            if (open) span(held part[at], between); else between = held part[at]
             held = ""
             open = !open
         }
-        held = held " "
+        held = held part[count] " "
     }
     # A paragraph, a heading or a row ends; after it paths may begin in what the first `kept` bases are.
     function finish(kept,    at) {
