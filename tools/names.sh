@@ -89,11 +89,12 @@ facts | awk -F '\t' '
         }
         if (!(part[1] in other)) gone(FNR, name)
     }
-    # A name of one of the forms above, but for those that have a part to be filled in, as NAME or x.
+    # A name of one of the forms above, but for what is built, and for a name with a part to be filled in, as NAME or x.
     function token(name,    first) {
         sub(/[.:]+$/, "", name)
         first = substr(name, 1, index(name "/", "/") - 1)
-        if (name in other || name ~ /^[\/~-]|:\/\/|\*|(^|\/)(NAME|CRATE|FILE|FOLDER)(\.|\/|$)|(^|_)x(_|$)|[a-z]X$|^X[A-Z]/) return
+        if (name in other || name ~ /^[\/~-]|:\/\/|\*|(^|\/)(out|dist)\// ||
+            name ~ /(^|\/)(NAME|CRATE|FILE|FOLDER)(\.|\/|$)|(^|_)x(_|$)|[a-z]X$|^X[A-Z]/) return
         if (name in crate) enter(name, "")
         else if (name ~ /^[^:]+\.(rt|antt|edit)$|\/[^:]+\.(sh|txt|md|toml|rs|awk|json)$/) look(name)
         else if (name != first && (first in crate || first in top)) look(name)
@@ -113,14 +114,14 @@ facts | awk -F '\t' '
         count = holder != "" || text ~ / => / ? 0 : split(text, part, /[^A-Za-z0-9_.\/:~*-]+/)
         for (at = 1; at <= count; at++) if (part[at] != "") token(part[at])
     }
-    function spans(line,    count, part, at) {
-        count = split(line, part, "`")
+    function spans(text,    count, part, at) {
+        count = split(text, part, "`")
         for (at = 1; at < count; at++) {
             if (open) span(held part[at], between); else between = held part[at]
             held = ""
             open = !open
         }
-        held = held part[count] " "
+        held = held part[count] " "; line = FNR
     }
     # A paragraph, a heading or a row ends; after it paths may begin in what the first `kept` bases are.
     function finish(kept,    at) {
@@ -135,7 +136,6 @@ facts | awk -F '\t' '
     reading { if ($1 == "row") row[substr($0, 5)]; else other[$2]; next }
     FNR == 1 { finish(0); page = FILENAME; fence = 0; code = 0; blank = 1; table = 0; enter_path(page); own = heading = bases }
     page ~ /antt$/ { width($0, 120); next }
-    { line = FNR }
     /^ *```/ { fence = !fence; next }
     fence { next }
     /^    / && (blank || code) { code = 1; next }
