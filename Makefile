@@ -54,9 +54,10 @@ stack:
 	@sh tools/build.sh tests_hostile
 	@sh tools/stack.sh
 
-# Compares docs/CALLS.md with the public calls of the sources.
+# Prints the public calls of the libraries, with why each may be refused, and checks tools/memory_cases.txt; or prints those of one
+# crate: make calls NAME=spdx_core
 calls:
-	@sh tools/calls.sh
+	@sh tools/calls.sh $(NAME)
 
 # Times the lower layers, beside plain Rust and xxhsum where these are installed, and counts whole runs beside a plain gate
 # where cargo, valgrind and serde_json are.

@@ -1,44 +1,56 @@
 #!/bin/sh
-# Compares the public calls of the libraries, and what their types derive, with the tables of docs/CALLS.md: '<' stands in the
-# sources alone, '>' in the tables alone. Then each group or case of a program, and each test, that the tables name is looked
-# for. With --list it prints what stands in the sources.
-# usage: tools/calls.sh [--list]
+# Prints the public calls of the libraries, read from the sources, of all crates or of those that are named: a line each, with tabs
+# between crate, call, what it may be refused for, its `&mut` arguments (behind a refusal nothing else of its caller's is changed), the
+# names of its `ensures` clauses, and the first sentence of its comment; `-` where there is none. What it may be refused for is the
+# error of its `Result` (AllocError is a want of memory alone), or `never` where its answer is no `Result` and it takes an allocator or
+# a want of memory. What a type derives is a line too. Then it checks tools/memory_cases.txt; with --check it does that alone.
+# usage: tools/calls.sh [--check | CRATE..]
 set -eu
 cd "$(dirname "$0")/.."
-# The tables: of calls that may be refused a row each, of other calls a row for each crate, of derives one for each crate and
-# list of traits.
-listed() {
-    awk -F' *[|] *' '
-        $2 !~ /^`[a-z0-9_]+`$/ { next }
-        { gsub(/`/, "", $2); gsub(/`/, "", $3) }
-        NF == 7 && $3 ~ /^[A-Za-z0-9_:]+$/ { print $2, $3, "refused"; next }
-        NF == 4 { count = split($3, calls, ", "); for (i = 1; i <= count; i++) print $2, calls[i], "plain" }
-        NF == 5 {
-            gsub(/`/, "", $4); gsub(/, /, "+", $3)
-            count = split($4, types, ", "); for (i = 1; i <= count; i++) print $2, types[i], $3
-        }' docs/CALLS.md | sort -u
-}
-# A call may be refused where its signature names an allocator or an answer for want of memory, or its answer is a `Result`.
+tab=$(printf '\t')
 # Programs and tests are left out, and of derives `Drop`.
 public() {
     for root in crates/*/src/lib.rt; do
         crate=${root#crates/}
         crate=${crate%%/*}
         case $crate in tests_* | bench) continue ;; esac
-        find "crates/$crate/src" -name '*.rt' | sort | xargs awk -v crate="$crate" '
-            FNR == 1 { type = ""; sign = ""; derived = "" }
+        case " $* " in "  " | *" $crate "*) ;; *) continue ;; esac
+        find "crates/$crate/src" -name '*.rt' | sort | LC_ALL=C xargs awk -v crate="$crate" '
+            function name_of(text) { sub(/[^A-Za-z0-9_].*/, "", text); return text }
+            function or_none(text) { return text == "" ? "-" : text }
+            function joined(first, between, then) { return first == "" ? then : first between then }
+            function refused(head, answer) {
+                answer = head
+                sub(/ where .*/, "", answer); sub(/ *[{;] *$/, "", answer)
+                if (sub(/.*-> *Result</, "", answer) && answer !~ /->/) {
+                    sub(/> *$/, "", answer); sub(/.*, */, "", answer)
+                    return answer
+                }
+                return head ~ /alloc: *(Global|&)|AllocError|AllocFailed|: Global/ ? "never" : "-"
+            }
+            function changed(head, names, parts, count, at) {
+                sub(/ where .*/, "", head); sub(/-> .*/, "", head)
+                if (head ~ /[(,] *&(.[a-z]+ )?mut self/) names = "self"
+                count = split(head, parts, /: *&(.[a-z]+ )?mut /)
+                for (at = 1; at < count; at++) { sub(/.*[ (]/, "", parts[at]); names = joined(names, ", ", parts[at]) }
+                return or_none(names)
+            }
+            function end_call(at, name) {
+                in_call = 0
+                name = head
+                sub(/^.*fn /, "", name)
+                print crate "\t" (type == "" ? "" : type "::") name_of(name) "\t" refused(head) "\t" changed(head) \
+                    "\t" or_none(clauses) "\t" doc
+            }
+            FNR == 1 { type = ""; derived = ""; comment = "" }
+            /^ *\/\/\/ / { line = $0; sub(/^ *\/\/\/ /, "", line); comment = joined(comment, " ", line); next }
             /^#\[derive\(.*\)\]/ {
                 derived = $0
                 sub(/^#\[derive\(/, "", derived); sub(/\)\].*/, "", derived)
-                derived = ", " derived ","
-                sub(/, Drop,/, ",", derived)
-                gsub(/^, *|,$/, "", derived); gsub(/, /, "+", derived)
+                sub(/(^|, )Drop$/, "", derived); sub(/Drop, /, "", derived)
             }
-            /^pub (struct|enum) / {
-                if (derived != "") { name = $3; sub(/[^A-Za-z0-9_].*/, "", name); print crate, name, derived }
-                derived = ""
-            }
-            /^(struct|enum|pub\(|impl|fn|pub fn)/ { derived = "" }
+            /^pub (struct|enum) / { if (derived != "") print crate "\t" name_of($3) "\tderives\t" derived }
+            /^(struct|enum|pub|impl|fn)/ && !/^#/ { derived = "" }
             /^(impl|pub trait|trait)[ <]/ {
                 type = $0
                 sub(/ *\{.*/, "", type); sub(/ where .*/, "", type)
@@ -48,53 +60,60 @@ public() {
                 sub(/[<:( ].*/, "", type)
             }
             /^}/ { type = "" }
-            /^ *pub (const )?fn / || (is_trait && type != "" && /^ *fn /) { sign = ""; open = 1 }
-            open {
-                sign = sign " " $0
-                if ($0 ~ /[{;]$/ || $0 ~ /^ *(requires|ensures|ghost)/) {
-                    open = 0
-                    name = sign
-                    sub(/.*fn /, "", name); sub(/.*fn /, "", name); sub(/[<(].*/, "", name)
-                    head = sign
-                    sub(/ (requires|ensures|ghost) .*/, "", head)
-                    may = head ~ /alloc: *(Global|&)|AllocError|AllocFailed|: Global|-> *Result</
-                    print crate, (type == "" ? "" : type "::") name, (may ? "refused" : "plain")
+            /^ *pub (const )?fn / || (is_trait && type != "" && /^ *fn /) {
+                in_call = open = 1
+                head = clauses = ""; doc = comment
+                sub(/\. .*/, ".", doc)
+            }
+            in_call {
+                if (/^ *(requires|ensures|ghost)/) open = 0
+                if (open && !/^ *\/\//) head = head " " $0
+                if (match($0, /^ *ensures\*? [a-z_0-9]+ /)) {
+                    clause = $0
+                    sub(/^ *ensures\*? /, "", clause)
+                    clauses = joined(clauses, ", ", name_of(clause))
                 }
-            }'
-    done | sort -u
+                if (/^ *\{/ || /[{;]$/) end_call()
+            }
+            !/^ *#\[/ { comment = "" }'
+    done | LC_ALL=C sort -u
 }
-# What the tables name, a line each: a program, its file, and its group or case; or `tests_code`, its file, and a test. Where a
-# folder of files is named, the group or case stands in one of them.
-named() {
-    awk -F' *[|] *' '$2 ~ /^`[a-z0-9_]+`$/ && NF == 7 { print $6 }' docs/CALLS.md | sed 's/; `/\n`/g' |
-        sed 's/ (it gives no error)$//; s/ (its [a-z]* row)$//' |
-        sed -n -e 's/^`tests_code`, `\([a-z_]*\)::\([a-z_]*\)`$/tests_code\t\1.rt\t\2/p; t' \
-            -e 's/^`\([a-z_]*\)`, \([a-z_/]*\.txt\), /\1\t\2\t/p; t' \
-            -e 's/^`\([a-z_]*\)`, \([a-z_/]*\.txt\)$/\1\t\2\t/p; t' \
-            -e 's/^`\([a-z_]*\)`, \([a-z_]*\), /\1\t\2\/*.txt\t/p' | sort -u
+# Each file of rows and cases, each group and case in it, each test, and each stored run, as tools/memory_cases.txt names them.
+cases() {
+    for file in crates/tests_rows/data/*/*.txt crates/tests_run/data/*/*.txt crates/tests_code/src/*.rt crates/*/stdout; do
+        case $file in crates/tests_code/*) short=tests_code/${file##*/} ;; */data/*) short=${file#*/data/} ;; *) short=${file#*/} ;; esac
+        printf '%s=%s\n' "$short" "$file"
+    done | LC_ALL=C awk -F= '
+        {
+            print $1
+            while ((getline line < $2) > 0) {
+                if (sub(/^case /, "", line) || sub(/^fn /, "", line)) { if ($1 ~ /[.]rt$/) sub(/[(].*/, "", line) }
+                else if (!sub(/^\[/, "", line) || !sub(/\]$/, "", line)) continue
+                print $1 ", " line
+            }
+            close($2)
+        }'
 }
-is_there() {
-    case $1 in
-    tests_code) grep -qF "fn $3(" "crates/$1/src/$2" ;;
-    *) [ -z "$3" ] && [ -s "crates/$1/data/$2" ] || cat "crates/$1/data"/$2 | grep -qxF -e "[$3]" -e "case $3" ;;
-    esac
-}
+# What of tools/memory_cases.txt is not there, and each call that may be refused of which it says nothing.
 missing() {
-    named | while IFS="$(printf '\t')" read -r program file name; do
-        is_there "$program" "$file" "$name" || echo "not there: $program, $file, $name"
-    done
+    { public; cases; sed '/^#/d' tools/memory_cases.txt | sed 's/^/=/'; } | LC_ALL=C awk -F "$tab" '
+        NF > 1 { call = $1 " " $2; there[call] = 1; if ($3 !~ /^(-|never|derives)$/ && call !~ /::from$/) wanted[call] = 1; next }
+        !/^=/ { is_case[$0] = 1; next }
+        {
+            line = substr($0, 2); at = index(line, ": ")
+            call = substr(line, 1, at - 1); name = substr(line, at + 2)
+            sub(/ \([a-z ]*\)$/, "", name)
+            delete wanted[call]
+            if (!(call in there)) print "no such call: " line
+            if (!(name in is_case) && name != "takes no memory" && name !~ /^none: /) print "no such case: " line
+        }
+        END { for (call in wanted) print "no line: " call }'
 }
+[ "${1:-}" = --check ] || public "$@"
 case ${1:-} in
---list) public ;;
-*)
-    here=$(mktemp)
-    trap 'rm -f "$here"' EXIT
-    public > "$here"
-    failed=0
-    listed | diff "$here" - && echo "the tables of docs/CALLS.md have each call" || failed=1
-    missing > "$here"
-    cat "$here"
-    [ ! -s "$here" ] && echo "each group, case and test that they name is there" || failed=1
-    exit "$failed"
+"" | --check)
+    wrong=$(missing)
+    [ -z "$wrong" ] || { echo "$wrong" >&2; exit 1; }
+    echo "tools/memory_cases.txt names calls and cases that are there, and each call that may be refused" >&2
     ;;
 esac

@@ -20,8 +20,8 @@ put_printed bash share/bash-completion/completions/cargo-deny
 put_printed zsh share/zsh/site-functions/_cargo-deny
 put_printed fish share/fish/vendor_completions.d/cargo-deny.fish
 put_printed man share/man/man1/cargo-deny.1
-for file in README.md LICENSE-APACHE LICENSE-MIT docs/DIFFERENCES.md docs/GUIDE.md docs/LIBRARY.md docs/RULES.md \
-    docs/THIRD-PARTY.md; do
+for file in README.md LICENSE-APACHE LICENSE-MIT docs/DIFFERENCES.md docs/GUIDE.md docs/LIBRARY.md docs/PIPELINE.md \
+    docs/REFERENCE.md docs/RULES.md docs/THIRD-PARTY.md; do
     put 644 "$here/$file" "share/doc/cargo-deny/$(basename "$file")"
 done
 for list in built-in spdx; do
