@@ -1,12 +1,13 @@
 #!/bin/sh
-# Sees that what the documents name is in the repository, and that no line of them is over 100 columns outside tables, blocks of
-# code and links. In backticks, by itself or as a part of a longer text, a name is a path with an ending (`x/y.rt`) or below a
-# known folder, a file of the sources (`Check.antt`), a path of Rust (`tree_core::texts`), a word with an underscore
-# (`reads_of_all`) or a type (`CrateReport`). After the word "case", and after a file of cases and a colon, the text is the name
-# of a case; with ` => ` in it, it is a row. A path begins in a folder of `roots` or in the document's own, or else in a crate or
-# module that the row, the head of the table, the paragraph, the heading or the document is about, that is, names: there
-# `specs/Cause.antt` of `tree_core::texts` is crates/tree_core/specs/texts/Cause.antt, and so is `Cause.antt`.
-# usage: tools/names.sh [--specs]; with --specs no line of the specs/ of a crate may be over 120 columns either
+# Sees that what the documents name is in the repository, that no line of them is over 100 columns outside tables, blocks of
+# code and links, and that no line of the specs/ of a crate is over 120. In backticks, by itself or as a part of a longer text,
+# a name is a path with an ending (`x/y.rt`) or below a known folder, a file of the sources (`Check.antt`), a path of Rust
+# (`tree_core::texts`), a word with an underscore (`reads_of_all`) or a type (`CrateReport`). After the word "case", and after a
+# file of cases and a colon, the text is the name of a case; with ` => ` in it, it is a row. A path begins in a folder of
+# `roots` or in the document's own, or else in a crate or module that the row, the head of the table, the paragraph, the heading
+# or the document is about, that is, names: there `specs/Cause.antt` of `tree_core::texts` is
+# crates/tree_core/specs/texts/Cause.antt, and so is `Cause.antt`.
+# usage: tools/names.sh
 set -eu
 export LC_ALL=C
 cd "$(dirname "$0")/.."
@@ -34,8 +35,6 @@ facts() {
         sub(/^case /, "") || (/^\[.*\]$/ && gsub(/^\[|\]$/, "")) { print "case\t" FILENAME "\t" $0; next }
         / => / { print "row\t" $0 }'
 }
-specs=
-[ "${1:-}" != --specs ] || specs=$(files -path './crates/*/specs/*.antt')
 facts | awk -F '\t' '
     function tell(line, text) { print page ":" line ": " text; failed = 1 }
     function gone(line, name) { tell(line, name " is not there") }
@@ -146,4 +145,5 @@ facts | awk -F '\t' '
     /^#/ { finish(own); spans($0); heading = bases; finish(heading); next }
     { spans($0) }
     END { finish(0); if (!failed) print texts " texts in backticks: what they name is there"; exit failed }
-' reading=1 - reading=0 README.md CONTRIBUTING.md CHANGELOG.md SECURITY.md docs/*.md crates/*/README.md $specs
+' reading=1 - reading=0 README.md CONTRIBUTING.md CHANGELOG.md SECURITY.md docs/*.md crates/*/README.md \
+    $(files -path './crates/*/specs/*.antt')
