@@ -1,4 +1,4 @@
-# Everything here stands on the toolchain's command `rt` alone.
+# Everything here needs the toolchain's command `rt` alone.
 PREFIX ?= /usr/local
 PROJECT ?= examples/first
 WORDS ?= check licenses
@@ -13,12 +13,12 @@ FIRST = ../../examples/first
 try:
 	@sh tools/try.sh
 
-# Proves the program and all that it stands on, as much side by side as the machine allows, and builds it.
+# Proves the program and all that it depends on, as much side by side as the machine allows, and builds it.
 build:
 	@sh tools/build.sh cargo_deny
 
-# Runs it in a project's folder, where it looks for the policy and an exceptions file. WORDS are what stands behind the path of
-# the metadata. The metadata of the examples tell of a folder /project, in whose place that folder is put.
+# Runs it in a project's folder, where it looks for the policy and an exceptions file. WORDS are what comes after the path of
+# the metadata. The metadata of the examples name a folder /project, in whose place that folder is put.
 run: build
 	@cd $(PROJECT) && sed -e "s|\"/project|\"$$(pwd)|g" -e "s|file:///project|file://$$(pwd)|g" metadata.json > $(METADATA)
 	@cd $(PROJECT) && $(CURDIR)/$(PROGRAM) deny --metadata-path $(METADATA) $(WORDS)
@@ -36,7 +36,7 @@ test:
 examples: build
 	@sh tools/examples.sh
 
-# Prints what each crate stands on and which crates use it, or of one crate: make map NAME=gather_license
+# Prints what each crate depends on and which crates use it, or of one crate: make map NAME=gather_license
 map:
 	@sh tools/map.sh $(NAME)
 

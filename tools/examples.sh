@@ -74,7 +74,7 @@ for file in TERMS NOTHING; do
 "workspace_members":["odd 1.0.0"],"workspace_root":"$odd",
 "resolve":{"nodes":[{"id":"odd 1.0.0","deps":[]}],"root":"odd 1.0.0"}}
 END
-    # A list of licence files tells their paths, so a place in it moves with the folder's length.
+    # A list of licence files has their paths, so a place in it moves with the folder's length.
     column=$((25 + ${#odd} + 1 + ${#file}))
     compare "odd-$file" "$odd" "'$program' --metadata-path $file.json --config deny.toml check licenses"
 done
@@ -90,7 +90,7 @@ metadata "$first"
 asks="'$program' --metadata-path '$room/metadata.json'"
 compare piped "$first" "'$program' --metadata-path <(cat '$room/metadata.json') check licenses"
 compare denied "$first" "$asks check -D license-not-encountered licenses"
-compare uncarried "$first" "$asks check licenses bans"
+compare unsupported "$first" "$asks check licenses bans"
 compare no-manifest "$first/src" "$asks check licenses"
 compare no-utf8 "$first" "$asks check licenses \$'\\xff'"
 compare word-further "$first" "$asks check licenses twice"

@@ -1,6 +1,6 @@
 #!/bin/sh
-# Prints from crates.txt what each crate stands on and which crates use it, of all crates or of those that are named. What
-# stands in parentheses is a library of the toolchain.
+# Prints from crates.txt what each crate depends on and which crates use it, of all crates or of those that are named. What is
+# in parentheses is a library of the toolchain.
 # usage: tools/map.sh [NAME..]
 set -eu
 cd "$(dirname "$0")/.."
@@ -29,8 +29,8 @@ awk -v wanted="$*" '
                 continue
             }
             print names[at]
-            print "    stands on:" (below[names[at]] == "" ? " nothing" : below[names[at]])
-            print "    used by:  " (users[names[at]] == "" ? " nothing" : users[names[at]])
+            print "    depends on:" (below[names[at]] == "" ? " nothing" : below[names[at]])
+            print "    used by:   " (users[names[at]] == "" ? " nothing" : users[names[at]])
         }
         exit failed
     }' crates.txt
