@@ -73,7 +73,7 @@ public() {
                     sub(/^ *ensures\*? /, "", clause)
                     clauses = joined(clauses, ", ", name_of(clause))
                 }
-                if (/^ *\{/ || /[{;]$/) end_call()
+                if ((/^ *\{/ || /[{;]$/) && !/^ *\/\//) end_call()
             }
             !/^ *#\[/ { comment = "" }'
     done | LC_ALL=C sort -u
