@@ -101,7 +101,7 @@ pub fn put_list(alloc: Global, out: &mut AnswerText, file: &str, built_in: &str)
             let texts = count_lines(file, "imprecise ");
             write!(
                 out,
-                "{licences} licences, {exceptions} exceptions, {texts} imprecise texts"
+                "{licenses} licences, {exceptions} exceptions, {texts} imprecise texts"
             );
             let is_alike = built_in.lines().all(|line| is_as_built_in(&listing, line));
             out.put(if is_alike { "" } else { "; not as built in" });

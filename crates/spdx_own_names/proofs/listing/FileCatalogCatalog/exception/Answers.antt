@@ -2,7 +2,7 @@ use Rattle.std.proofs.Common.{◌∙◌, sym}
 use Rattle.std.proofs.lemmas.Map.Views.{Contains-from_any, list_any-from_Contains}
 use Rattle.std.proofs.lemmas.Slice.Eq.{bytes_eq-Decides}
 use Rattle.std.specs.Cmp.Lexicographic.{nat_list_eq_equiv}
-use Rattle.spdx_own_names.proofs.listing.ListingCatalog.exception.Goals as goal
+use Rattle.spdx_own_names.proofs.listing.FileCatalogCatalog.exception.Goals as goal
 
 pub returns : goal.returns
 returns c = (
