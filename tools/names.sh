@@ -3,10 +3,10 @@
 # code and links, and that no line of the specs/ of a crate is over 120. In backticks, by itself or as a part of a longer text,
 # a name is a path with an ending (`x/y.rt`) or below a known folder, a file of the sources (`Check.antt`), a path of Rust
 # (`tree_core::texts`), a word with an underscore (`reads_of_all`) or a type (`CrateReport`). After the word "case", and after a
-# file of cases and a colon, the text is the name of a case; with ` => ` in it, it is a row. A path begins in a folder of
-# `roots` or in the document's own, or else in a crate or module that the row, the head of the table, the paragraph, the heading
-# or the document is about, that is, names: there `specs/Cause.antt` of `tree_core::texts` is
-# crates/tree_core/specs/texts/Cause.antt, and so is `Cause.antt`.
+# file of cases and a colon, the text is the name of a case; with ` => ` in it, it is a row. A text in quotes after a page is a
+# heading of it, and links lead to what is there. A path begins in a folder of `roots` or in the document's own, or else in a
+# crate or module that the row, the head of the table, the paragraph, the heading or the document is about, that is, names:
+# there `specs/Cause.antt` of `tree_core::texts` is crates/tree_core/specs/texts/Cause.antt, and so is `Cause.antt`.
 # usage: tools/names.sh
 set -eu
 export LC_ALL=C
@@ -20,10 +20,12 @@ others='std serde_json semver url clap thiserror
 files() {
     find . \( -name .git -o -name out -o -name wip -o -name dist \) -prune -o "$@" -print | sed 's/^\.\///' | sort
 }
-# What is there, a line each: a path, a word of a crate's code, a case or a group of a file, a row.
+pages='README.md CONTRIBUTING.md CHANGELOG.md SECURITY.md docs/*.md crates/*/README.md'
+# What is there, a line each: a path, a heading, a word of a crate's code, a case or a group of a file, a row.
 facts() {
     printf 'other\t%s\n' $others
     files ! -name . | sed 's/^/path	/'
+    awk 'sub(/^#+ /, "") { print "head\t" FILENAME "\t" $0 }' $pages
     files -path './crates/*' \( -name '*.rt' -o -name '*.antt' \) | xargs awk '
         FNR == 1 { split(FILENAME, folder, "/"); comment = FILENAME ~ /antt$/ ? "(^|[ \t])--" : "(^|[ \t])//" }
         {
@@ -102,8 +104,43 @@ facts | awk -F '\t' '
         else if (name ~ /^[A-Za-z][A-Za-z0-9]*_[A-Za-z0-9_]*$/ && !(name in word)) gone(FNR, name)
         else if (name ~ /^[A-Z][A-Za-z0-9]*$/ && name ~ /[a-z]/ && name ~ /[A-Z].*[A-Z]/ && !(name in word)) gone(FNR, name)
     }
+    # The headings of a page that are named after it, as in README, "Limits".
+    function titles(number, where, text,    title) {
+        while (match(text, /"[A-Z][^"]*"/)) {
+            title = substr(text, RSTART + 1, RLENGTH - 2)
+            text = substr(text, RSTART + RLENGTH)
+            gsub(/ +/, " ", title)
+            if (!((where, title) in head)) gone(number, where ", " title)
+        }
+    }
+    # What is written after the last text in backticks may name headings.
+    function prose(number, text,    where) {
+        if (last ~ /\.md$/) titles(number, meant(last), text)
+        if (match(text, /(README|CONTRIBUTING), "/))
+            titles(number, substr(text, RSTART, RLENGTH - 3) ".md", substr(text, RSTART + RLENGTH - 1))
+    }
+    function anchor(title) {
+        title = tolower(title)
+        gsub(/[^a-z0-9_ -]/, "", title)
+        gsub(/ /, "-", title)
+        return title
+    }
+    # The paths and the headings of the links of a line.
+    function links(text,    to, part, where) {
+        while (match(text, /\]\([^)]*\)/)) {
+            to = substr(text, RSTART + 2, RLENGTH - 3)
+            text = substr(text, RSTART + RLENGTH)
+            if (to ~ /:\/\//) continue
+            split(to "#", part, "#")
+            where = page
+            if (part[1] != "") sub(/[^\/]*$/, part[1], where)
+            while (sub(/[^\/]+\/\.\.\//, "", where));
+            if (!(where in path) || part[2] != "" && !((where, part[2]) in anchors)) gone(FNR, to)
+        }
+    }
     # A text in backticks, with what is written between it and the one before it.
     function span(text, between,    count, part, at) {
+        prose(FNR, between)
         if (between ~ /(^|[^A-Za-z])[Cc]ases? $/ && between !~ /in case $/) holder = "/"
         else if (between == ": " && last ~ /\.txt$/) holder = "/" last "\n"
         else if (between !~ /^(,| and|, and) $/) holder = ""
@@ -125,11 +162,13 @@ facts | awk -F '\t' '
     # A paragraph, a heading or a row ends; after it paths may begin in what the first `kept` bases are.
     function finish(kept,    at) {
         if (open) tell(line, "a backtick without its end")
+        else prose(line, held)
         for (at = 1; at <= lates; at++) if (meant(late[at]) == "") gone(late_line[at], late[at])
         open = 0; held = ""; holder = ""; last = ""; lates = 0; bases = kept
     }
     BEGIN { roots = split("crates/ docs/ examples/ crates/tests_rows/data/ crates/tests_run/data/", root, " ") }
     reading && $1 == "path" { path[$2]; if (!index($2, "/")) top[$2]; sub(/.*\//, "", $2); file[$2]; next }
+    reading && $1 == "head" { head[$2, $3]; anchors[$2, anchor($3)]; next }
     reading && $1 == "word" { crate[$2]; word[$3]; inside[$2, $3]; next }
     reading && $1 == "case" { cases[$3] = cases[$3] "/" $2 "\n"; next }
     reading { if ($1 == "row") row[substr($0, 5)]; else other[$2]; next }
@@ -138,12 +177,11 @@ facts | awk -F '\t' '
     /^ *```/ { fence = !fence; next }
     fence { next }
     /^    / && (blank || code) { code = 1; next }
-    { code = 0; blank = $0 == "" }
+    { code = 0; blank = $0 == ""; links($0) }
     /^\|/ { if (!table) finish(heading); spans($0); if (!table) table = bases + 1; finish(table - 1); next }
     { table = 0; wide = $0; gsub(/\]\([^)]*\)|https?:\/\/[^ )>]*/, "", wide); width(wide, 100) }
     blank { finish(heading); next }
     /^#/ { finish(own); spans($0); heading = bases; finish(heading); next }
     { spans($0) }
     END { finish(0); if (!failed) print texts " texts in backticks: what they name is there"; exit failed }
-' reading=1 - reading=0 README.md CONTRIBUTING.md CHANGELOG.md SECURITY.md docs/*.md crates/*/README.md \
-    $(files -path './crates/*/specs/*.antt')
+' reading=1 - reading=0 $pages $(files -path './crates/*/specs/*.antt')
