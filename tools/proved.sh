@@ -13,7 +13,7 @@ if [ -n "$(git status --porcelain 2>/dev/null)" ]; then
     commit="$commit, with changes that are not committed"
 fi
 crates=$(for name in cargo_deny licence_hash; do awk -v name="$name" -f tools/below.awk crates.txt; done | cut -d: -f1 | sort -u)
-functions=$(for crate in $crates; do cat "crates/$crate"/src/*.rt; done | grep -cE '^ *(pub(\([a-z]+\))? )?fn ')
+functions=$(for crate in $crates; do find "crates/$crate/src" -name '*.rt' -exec cat {} +; done | grep -cE '^ *(pub(\([a-z]+\))? )?fn ')
 cat <<END
 cargo-deny $(sed -n 's/^static VERSION: &str = "\(.*\)";$/\1/p' crates/run_request/src/command.rt), the licence check
 
@@ -21,7 +21,7 @@ Commit:    $commit
 Toolchain: $(rt version)
 Functions: $functions, in $(echo "$crates" | wc -l) crates; the toolchain builds a program only where each is proved
 
-What is proved, by the clause headline_read of deny_run::run::run:
+What is proved, by the fields headline and complete of the record IsRun, which deny_run::run::run promises:
 
 $(paragraph '*Whenever')
 
