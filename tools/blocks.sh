@@ -1,7 +1,7 @@
 #!/bin/sh
 # Compares the blocks of README.md and docs/ that show an output with the files of examples/outputs. The line above a block
-# names its file and its stream, as `<!-- examples/outputs/rejected, err -->`; its lines stand behind four blanks. Of a block
-# that differs the first such line is told, and so is a block that looks like an output and names no file.
+# names its file and its stream, as `<!-- examples/outputs/rejected, err -->`; its lines begin with four blanks. Of a block
+# that differs the first such line is printed, and so is a block that looks like an output and names no file.
 # usage: tools/blocks.sh
 set -eu
 cd "$(dirname "$0")/.."
@@ -29,7 +29,7 @@ awk '
     # A block ends: each line of its file has to have been there.
     function finish(line) {
         if (!named) return
-        if (seen == 0) tell(line, "no block stands behind the name of " file)
+        if (seen == 0) tell(line, "no block comes after the name of " file)
         else if (seen < stored) differs(line, "the end of the block", lines[seen + 1])
         named = 0
         blocks++
@@ -64,6 +64,6 @@ awk '
     }
     END {
         finish(FNR)
-        if (!failed) print blocks + 0 " blocks of the documents are what stands in examples/outputs"
+        if (!failed) print blocks + 0 " blocks of the documents are what examples/outputs has"
         exit failed
     }' README.md docs/*.md

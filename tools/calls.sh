@@ -1,6 +1,6 @@
 #!/bin/sh
 # Prints the public calls of the libraries, read from the sources, of all crates or of those that are named: a line each, with tabs
-# between crate, call, what it may be refused for, its `&mut` arguments (behind a refusal nothing else of its caller's is changed), the
+# between crate, call, what it may be refused for, its `&mut` arguments (after a refusal nothing else of its caller's is changed), the
 # names of its `ensures` clauses, and the first sentence of its comment; `-` where there is none. What it may be refused for is the
 # error of its `Result` (AllocError is a want of memory alone), or `never` where its answer is no `Result` and it takes an allocator or
 # a want of memory. What a type derives is a line too. Then it checks tools/memory_cases.txt; with --check it does that alone.

@@ -1,6 +1,6 @@
 #!/bin/sh
 # Runs the built program over each folder of examples/ and over words and files that a system can give it, and compares both
-# streams and the status with the files of examples/outputs, and these with the blocks of the documents. What differs is told,
+# streams and the status with the files of examples/outputs, and these with the blocks of the documents. What differs is printed,
 # and the status is then 1.
 # usage: tools/examples.sh [PROGRAM]
 set -eu
@@ -111,7 +111,7 @@ for row in "blanks: a  policy" capital:P.toml empty-path: way-up:../words/p.toml
 done
 compare word-empty "$folder" "'$program' --metadata-path '$room/metadata.json' --config p.toml check licenses ''"
 
-# What a stranger could write: a policy behind a mark of the byte order, one of 128 brackets, a name that holds ESC, and a
+# What a stranger could write: a policy after a mark of the byte order, one of 128 brackets, a name that holds ESC, and a
 # licence file that is a link to itself.
 hostile="$top/examples/hostile"
 metadata "$hostile"
@@ -127,5 +127,5 @@ sed 's|"license":"MIT"|"license":null|' "$hostile/metadata.json" >"$folder/metad
 ln -s LICENSE "$folder/LICENSE"
 metadata "$folder"
 compare hostile-link "$folder" "'$program' --metadata-path '$room/metadata.json' check licenses"
-[ "$failed" = 0 ] && echo "the examples come to what stands in examples/outputs"
+[ "$failed" = 0 ] && echo "the examples come to what examples/outputs has"
 exit "$failed"

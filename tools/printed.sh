@@ -1,6 +1,6 @@
 #!/bin/sh
 # Prints one of the texts that are made from the table of options: the completion for bash, zsh or fish, or the manual page. They
-# stand one behind the other in the stored run of run_completions, which the gate compares; each begins with a line of its own.
+# are one after the other in the stored run of run_completions, which the gate compares; each begins with a line of its own.
 # usage: tools/printed.sh bash|zsh|fish|man
 set -eu
 cd "$(dirname "$0")/.."

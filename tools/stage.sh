@@ -1,5 +1,5 @@
 #!/bin/sh
-# Puts into a folder what is handed out: the built programs, the completions, the manual page and the documents, as they stand under
+# Puts into a folder what is handed out: the built programs, the completions, the manual page and the documents, as they are under
 # a prefix such as /usr/local. tools/build.sh makes the programs.
 # usage: tools/stage.sh FOLDER
 set -eu

@@ -1,5 +1,5 @@
 #!/bin/sh
-# Runs while memory is wanting. Nothing but want of memory may be told: each run says what it came to.
+# Runs while memory is wanting. Nothing but want of memory may be reported: each run says what it came to.
 #
 # starve.sh NAME [FIRST] compares the rows and cases of a folder of crates/tests_rows/data, or of crates/tests_run/data (run) or
 # crates/tests_hostile/data (hostile), with one allocation that fails, at twenty numbers from the first on, each about twice the
@@ -7,7 +7,7 @@
 #
 # starve.sh program [PROGRAM] runs the built program over the two workspaces of crates/tests_hostile/data/hostile/failures.txt
 # with less and less memory, in steps of 16 KiB, from enough down to where the system cannot start it. Each run answers as with
-# enough, or ends with status 1 and `error: out of memory`, behind a front of what it writes with enough.
+# enough, or ends with status 1 and `error: out of memory`, after a prefix of what it writes with enough.
 #
 # starve.sh growths [PROGRAM] lets each call of malloc, calloc, realloc and reallocarray fail in turn, over examples/first. It needs
 # rustc, for tools/growths.rs.
@@ -41,12 +41,12 @@ workspace() {
         }' "$cases"
 }
 
-# Whether a file is a front of another one.
+# Whether a file is a prefix of another one.
 is_front() {
     head -c "$(wc -c <"$1")" "$2" | cmp -s - "$1"
 }
 
-# Whether a run came to what one with enough memory came to, or to want of memory: its line, perhaps cut, stands behind a front.
+# Whether a run came to what one with enough memory came to, or to want of memory: its line, perhaps cut, comes after a prefix.
 is_right() {
     if [ "$status" = "$enough_status" ] && cmp -s "$room/out" "$room/enough.out" && cmp -s "$room/err" "$room/enough.err"; then
         right=$((right + 1))
@@ -105,7 +105,7 @@ less_and_less() {
     echo "$1: $tried runs, $right as with enough, $wanting out of memory; $least KiB were enough, and with $memory none starts"
 }
 
-# Runs the program with the growth of a number failing; at 0 none fails. How many there were stands in a file.
+# Runs the program with the growth of a number failing; at 0 none fails. How many there were is in a file.
 growth() {
     status=0
     (
@@ -172,7 +172,7 @@ for turn in 1 2 3 4 5 6 7 8 9 10 11 12 13 14 15 16 17 18 19 20; do
     ended=$(grep '^run=' "$answer" || echo 'run=none')
     told=$(grep -c "^$name/[a-z_]*\.txt:[0-9]*:" "$answer" || true)
     of_memory=$(grep -ci 'memory' "$answer" || true)
-    echo "$name, allocation $number fails: $ended; lines told: $told; lines that speak of memory: $of_memory"
+    echo "$name, allocation $number fails: $ended; lines printed: $told; lines that speak of memory: $of_memory"
     if [ "$told" -gt 0 ] && [ "$of_memory" -eq 0 ]; then
         cat "$answer"
         exit 1

@@ -1,5 +1,5 @@
 #!/bin/sh
-# Tries the wrong bodies of a crate, those of wrong/ and of must-fail/, in a copy: the checker is to refuse each, and each is told.
+# Tries the wrong bodies of a crate, those of wrong/ and of must-fail/, in a copy: the checker is to refuse each, and each is printed.
 # usage: tools/wrong.sh NAME
 set -eu
 name=${1:?the name of a crate}

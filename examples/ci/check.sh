@@ -5,8 +5,8 @@
 # Other words than `check licenses` ask for another command, over the same metadata and policy, as `check.sh . list`.
 #
 # Features are cargo's to apply. Of the policy's table [graph] these three keys are read here, each by a line of sed, so each has to
-# stand in a line of its own: all-features, no-default-features, features. A policy that names one in another form is refused, since
-# crates behind a feature would go unchecked.
+# be in a line of its own: all-features, no-default-features, features. A policy that names one in another form is refused, since
+# crates that only a feature needs would go unchecked.
 set -fu
 cd "${1:-.}" || exit 1
 if [ $# -gt 0 ]; then shift; fi

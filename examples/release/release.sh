@@ -34,7 +34,7 @@ against() {
         }' "$1"
 }
 
-# Ends where a crate of the record is rejected or has no licence, or where that can't be told.
+# Ends where a crate of the record is rejected or has no licence, or where that can't be known.
 refuse_against() {
     found=0
     against "$record" >&2 || found=$?
