@@ -21,11 +21,12 @@ files() {
     find . \( -name .git -o -name out -o -name wip -o -name dist \) -prune -o "$@" -print | sed 's/^\.\///' | sort
 }
 pages='README.md CONTRIBUTING.md CHANGELOG.md SECURITY.md docs/*.md crates/*/README.md'
-# What is there, a line each: a path, a heading, a word of a crate's code, a case or a group of a file, a row.
+# What is there, a line each: paths, headings, targets of the Makefile, words of crates, cases and groups of files, rows.
 facts() {
     printf 'other\t%s\n' $others
     files ! -name . | sed 's/^/path	/'
     awk 'sub(/^#+ /, "") { print "head\t" FILENAME "\t" $0 }' $pages
+    sed -n 's/^\([a-z]*\):.*/target	\1/p' Makefile
     files -path './crates/*' \( -name '*.rt' -o -name '*.antt' \) | xargs awk '
         FNR == 1 { split(FILENAME, folder, "/"); comment = FILENAME ~ /antt$/ ? "(^|[ \t])--" : "(^|[ \t])//" }
         {
@@ -145,6 +146,7 @@ facts | awk -F '\t' '
         else if (between == ": " && last ~ /\.txt$/) holder = "/" last "\n"
         else if (between !~ /^(,| and|, and) $/) holder = ""
         last = text; texts++
+        if (match(text, /^make [a-z]+/) && !(substr(text, 6, RLENGTH - 5) in target)) gone(FNR, text)
         if (holder != "" && !index(cases[text], holder)) tell(FNR, "no case: " text)
         if (text ~ / => / && text ~ /[a-z0-9]/ && !(text in row)) tell(FNR, "no row: " text)
         count = holder != "" || text ~ / => / ? 0 : split(text, part, /[^A-Za-z0-9_.\/:~*-]+/)
@@ -168,6 +170,7 @@ facts | awk -F '\t' '
     }
     BEGIN { roots = split("crates/ docs/ examples/ crates/tests_rows/data/ crates/tests_run/data/", root, " ") }
     reading && $1 == "path" { path[$2]; if (!index($2, "/")) top[$2]; sub(/.*\//, "", $2); file[$2]; next }
+    reading && $1 == "target" { target[$2]; next }
     reading && $1 == "head" { head[$2, $3]; anchors[$2, anchor($3)]; next }
     reading && $1 == "word" { crate[$2]; word[$3]; inside[$2, $3]; next }
     reading && $1 == "case" { cases[$3] = cases[$3] "/" $2 "\n"; next }
