@@ -16,7 +16,7 @@ cd "$(dirname "$0")/.."
 others='std serde_json semver url clap thiserror
     std_alloc std_collections std_heap std_io fast_float form_urlencoded percent_encoding unicode_normalization ucd_bidi
     ucd_category ucd_idna_map ucd_normal ucd_table clap_builder clap_lex
-    cargo_metadata NO_COLOR MALLOC_MMAP_THRESHOLD_ .cargo/deny.toml .cargo/deny.exceptions.toml'
+    cargo_metadata Copyright NO_COLOR MALLOC_MMAP_THRESHOLD_ .cargo/deny.toml .cargo/deny.exceptions.toml'
 files() {
     find . \( -name .git -o -name out -o -name wip -o -name dist \) -prune -o "$@" -print | sed 's/^\.\///' | sort
 }
@@ -103,7 +103,7 @@ facts | awk -F '\t' '
         else if (name ~ /^[^\/:]+\.(sh|txt|md)$/ && !(name in file)) gone(FNR, name)
         else if (name ~ /^[A-Za-z][A-Za-z0-9_]*(::[A-Za-z0-9_]+)+$/) rust_path(name)
         else if (name ~ /^[A-Za-z][A-Za-z0-9]*_[A-Za-z0-9_]*$/ && !(name in word)) gone(FNR, name)
-        else if (name ~ /^[A-Z][A-Za-z0-9]*$/ && name ~ /[a-z]/ && name ~ /[A-Z].*[A-Z]/ && !(name in word)) gone(FNR, name)
+        else if (name ~ /^[A-Z][A-Za-z0-9]*$/ && name ~ /[a-z]/ && !(name in word) && !(name in file)) gone(FNR, name)
     }
     # The headings of a page that are named after it, as in README, "Limits".
     function titles(number, where, text,    title) {
