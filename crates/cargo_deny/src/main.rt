@@ -1,4 +1,5 @@
 //! The program `cargo-deny`: the gate over the real words, files and streams.
+//! Called by cargo as `cargo deny`; no clause is here, `gate` and `exit_code` of deny_gate have them.
 #![tactic(auto)]
 
 use deny_gate::{exit_code, gate};

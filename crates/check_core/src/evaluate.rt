@@ -1,4 +1,5 @@
 //! The evaluator: an expression of a crate and a valid policy in, a verdict with its certificate out.
+//! Used by crate_check, and by check_verify for hits and the index; what is passed on may change.
 
 mod answers;
 mod entry_index;

@@ -1,4 +1,5 @@
 //! The verdict on a crate as a finding: what it says, and the terms of the crate's expression at their places.
+//! Used by crate_check and unused; the split into files may change, each clause is on its function.
 
 pub mod label;
 pub mod laws;

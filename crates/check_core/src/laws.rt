@@ -1,4 +1,5 @@
 //! What holds of all policies and crates. These functions do nothing: their contracts are the laws.
+//! Called by no code: six laws of verdicts and their findings, whose bodies hold nothing to change.
 ghost use Rattle.check_core.specs.Hits.{TellsTheUnneeded, TermsAreTold};
 ghost use Rattle.check_core.specs.Laws.{MoreAllowedIsAsGood, MoreExceptionsAreAsGood};
 ghost use Rattle.check_core.specs.Own.{VerdictIsByKnownReads, VerdictIsOwn};

@@ -1,4 +1,5 @@
 //! The check: the verdict on each crate with what shows it, and the findings that tell it.
+//! Used by run_check, check_verify and tests_check; what is passed on may change, no clause is here.
 #![tactic(auto)]
 
 pub mod check;

@@ -1,4 +1,5 @@
 //! The lines of a file.
+//! Called by `read_record` of decoding; the walks over places and ids may stop where one does not rise.
 ghost use Rattle.std.specs.Prelude.{◌≡◌, [], length, nat_lt};
 ghost use Rattle.check_record.specs.Items as order;
 ghost use Rattle.check_record.specs.Items.{ids_of, is_before};

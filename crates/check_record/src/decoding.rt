@@ -1,4 +1,5 @@
 //! Reading a file.
+//! Called by `verify_text` of run_record; ids may be compared before the end is read, `Syntax` is for both.
 ghost use Rattle.std.specs.Prelude.{◌≡◌, codes};
 ghost use Rattle.check_record.specs.Decoded.{AnswersDecode};
 ghost use Rattle.check_record.specs.Reading as spec;

@@ -1,4 +1,5 @@
 //! Bytes and numbers at the front of a file's rest.
+//! Called by decode_parts; how a number that is too large is seen is free, that 2^64 is too large is not.
 ghost use Rattle.std.specs.Prelude.{◌≡◌, ◌+◌, ◌-◌, ◌*◌, ◌^◌, ◌<◌, ◌≤◌, IsTrue, SomeIff, length, drop};
 ghost use Rattle.check_record.specs.Reading as spec;
 ghost use Rattle.check_record.specs.Reading.{Reads};

@@ -1,4 +1,5 @@
 //! The parts of a file's lines.
+//! Called by `encode` of encoding; a number may be written by any code, a line may first be made apart.
 ghost use Rattle.std.specs.Prelude.{◌≡◌, ◌++◌, decimal, OnOk};
 ghost use Rattle.std.specs.List.{flat_map};
 ghost use Rattle.check_record.specs.Spelling as spec;

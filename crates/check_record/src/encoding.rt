@@ -1,4 +1,5 @@
 //! Writing a file.
+//! Called by `file_of` of run_record; room for all lines may be taken first, each byte is in a clause.
 ghost use Rattle.std.specs.Prelude.{◌≡◌, IfOk};
 ghost use Rattle.check_record.specs.Spelling.{spelled_of};
 

@@ -1,4 +1,5 @@
 //! Why bytes are no verdict file.
+//! Made by digits, decode_parts and decoding, read by `verify_text`; variants may be in any order.
 ghost use Rattle.std.specs.Prelude.{◌≡◌};
 ghost use Rattle.check_record.specs.declared.error.RecordError.TheVariants.{Memory};
 

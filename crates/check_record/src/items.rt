@@ -1,4 +1,5 @@
 //! What is recorded.
+//! Made by decoding and run_record, read by encoding and check_verify; variants may be in any order.
 ghost use Rattle.std.specs.Prelude.{◌≡◌};
 ghost use Rattle.check_record.specs.Items.{IsRecord};
 

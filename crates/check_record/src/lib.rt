@@ -1,4 +1,5 @@
 //! Verdict files: what is recorded of each crate, and the one spelling of it.
+//! Used by check_verify, run_record and tests_check; what is passed on may change, no clause is here.
 #![tactic(auto)]
 
 mod decode_parts;

@@ -1,4 +1,5 @@
 //! What is recorded of a verdict, and whether a record is right about crates as they are now.
+//! Used by run_record and tests_check; what is passed on may change, no clause is here.
 #![tactic(auto)]
 
 pub mod answer;

@@ -1,4 +1,5 @@
 //! Laws of runs.
+//! Called by no code: two laws of runs at two log levels, whose bodies hold nothing to change.
 ghost use Rattle.deny_run.specs.Laws.{LevelChangesNoReport, LevelKeepsStatus};
 
 /// The log level says which findings are written, and nothing else: what is asked, read and reported at one

@@ -1,4 +1,5 @@
 //! The run of the licence gate: from words and files to verdicts, a summary and a status.
+//! Used by deny_gate, tests_runner and tests_start; what is passed on may change, no clause is here.
 #![tactic(auto)]
 
 pub mod answer;

@@ -1,4 +1,5 @@
 //! What a run comes to.
+//! Made by answer and run, read by deny_gate and tests; fields and variants may be in any order.
 
 use run_check::Report;
 use run_found::{CrateReads, Error};

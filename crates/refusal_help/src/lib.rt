@@ -1,4 +1,5 @@
 //! What is printed behind the line of a refusal: where it comes from, and what to do.
+//! Used by deny_gate; what is passed on may change, no clause is here.
 #![tactic(auto)]
 
 pub mod again;

@@ -1,4 +1,5 @@
 //! The command `check`.
+//! Called by deny_run, run_record and run_sample; the index of the files may be left out, no clause has it.
 ghost use Rattle.std.specs.Prelude.{◌≡◌, ◌≤◌, [], None, IfErr};
 ghost use Rattle.tree_core.specs.texts.Cause.{ReadCounts};
 ghost use Rattle.run_context.specs.Asked.{unsupported_part};

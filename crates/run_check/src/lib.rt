@@ -1,4 +1,5 @@
 //! The command `check`: from a request and the files to verdicts and findings.
+//! Used by deny_run, run_record, run_sample and tests_runner; names may be added, no clause is here.
 #![tactic(auto)]
 
 mod carried;

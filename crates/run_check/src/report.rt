@@ -1,4 +1,5 @@
 //! What a check answers.
+//! Made by `report_of` of command, read by deny_run, run_record and run_sample; fields may be in any order.
 pub use check_core::evaluate::Verdict;
 pub use check_core::{CrateReport, CrateReports};
 use diag_core::{Files, Packs};

@@ -1,5 +1,6 @@
 //! What all commands over crates share: what they are given, what is looked at and read before they do their own, and
 //! in which order they are refused.
+//! Used by deny_run, run_list, run_check and run_record; what is passed on may change, no clause is here.
 #![tactic(auto)]
 
 mod carried;

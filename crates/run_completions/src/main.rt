@@ -1,5 +1,6 @@
-//! Prints what is made from the table of options: the completion for a shell, or the manual page. Each word names a text, and they
-//! are printed one behind the other: `bash`, `zsh`, `fish`, `man`.
+//! Prints what is made from the table of options: the completion for a shell, or the manual page. Each word
+//! names a text, and they are printed one behind the other: `bash`, `zsh`, `fish`, `man`.
+//! Called by no crate: its stored output is cut into files; texts may be added behind, none has a clause.
 #![tactic(auto)]
 
 mod bash;

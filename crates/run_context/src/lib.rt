@@ -1,4 +1,5 @@
 //! The crates that a request looks at, and where its policy is.
+//! Used by run_found, run_command and refusal_help; what is passed on may change, no clause is here.
 #![tactic(auto)]
 
 pub mod gather;

@@ -1,4 +1,5 @@
 //! Where a request's policy and exceptions file are.
+//! Called by `policy_paths` of run_found and by refusal_help; each look is in a clause, the `match` is free.
 ghost use Rattle.std.specs.Prelude.{◌≤◌, IfErr, IfOk};
 ghost use Rattle.tree_core.specs.Hearing.{MadeSome};
 ghost use Rattle.tree_core.specs.texts.Cause.{ReadCounts};

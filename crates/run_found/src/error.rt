@@ -1,4 +1,5 @@
 //! Why a command was refused.
+//! Made by each command, `line` called by deny_run; arms may be in any order, each line is in a clause.
 ghost use Rattle.std.specs.Prelude.{◌≡◌};
 ghost use Rattle.run_found.specs.Error.{fault_line};
 

@@ -1,4 +1,5 @@
 //! What a request finds: its policy, and the licences of the crates that it looks at.
+//! Used by run_command and the crate of each command; what is passed on may change, no clause is here.
 #![tactic(auto)]
 
 pub mod carried;

@@ -1,4 +1,5 @@
 //! The catalogue and the licence texts of a run: those that are built in, or an organisation's own.
+//! Used by the prelude of run_command; the split into files may change, no clause is here.
 
 pub mod found;
 pub mod lists;

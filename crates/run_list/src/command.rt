@@ -1,4 +1,5 @@
 //! The command `list`.
+//! Called by `list_request` of deny_run; the files and the use of the policy may be made in either order.
 ghost use Rattle.std.specs.Prelude.{◌≡◌, ◌≤◌, All, IfErr, IfOk, None, OnOk};
 ghost use Rattle.tree_core.specs.Faults.{Gained};
 ghost use Rattle.graph_core.specs.Metadata.{AreRising};

@@ -1,4 +1,5 @@
 //! Listings: which licences the crates have, whatever the policy allows.
+//! Used by run_list, deny_run's clauses and tests_gather; what is passed on may change, no clause is here.
 #![tactic(auto)]
 
 mod human;

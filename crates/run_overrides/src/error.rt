@@ -1,4 +1,5 @@
 //! Why words override nothing.
+//! Made by overrides, read by `from` of run_found's error; the variants may be in any order.
 ghost use Rattle.std.specs.Prelude.{◌≡◌};
 ghost use Rattle.run_overrides.specs.declared.error.OverrideError.TheVariants.{Memory};
 

@@ -1,4 +1,5 @@
 //! What words say of codes and levels, one after another.
+//! Called by `overrides_of`; room may be taken first, but allowed, warned of, denied is in a clause.
 ghost use Rattle.std.specs.Prelude.{◌≡◌, ◌++◌, map, IfOk, OnOk};
 ghost use Rattle.run_overrides.specs.Items.{items_of, set_to};
 

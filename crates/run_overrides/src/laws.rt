@@ -1,4 +1,5 @@
 //! Laws of codes and levels.
+//! Called by nothing: these are laws of definitions in specs, and the bodies hold no code to change.
 ghost use Rattle.std.specs.Prelude.{◌≡◌, Some};
 ghost use Rattle.run_request.specs.Names.{code_or_level_named};
 ghost use Rattle.run_overrides.specs.Levels.{ChangeNothing};

@@ -1,4 +1,5 @@
 //! Overrides of the levels of findings, as the words of a command line ask for them.
+//! Used by run_command and run_found; what is passed on may change, no clause is here.
 #![tactic(auto)]
 
 pub mod error;

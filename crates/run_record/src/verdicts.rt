@@ -1,4 +1,5 @@
 //! What verifying comes to.
+//! Made by `verify_text` of verifying, read by deny_run; the fields may be in any order.
 pub use check_verify::{NoReason, VerifyAnswer};
 use run_found::CrateReads;
 

@@ -1,4 +1,5 @@
 //! The command `verify`.
+//! Called by `verify_request` of deny_run; steps may be counted in any ledger, no answer depends on it.
 ghost use Rattle.std.specs.Prelude.{◌≡◌, ◌≤◌, ◌<◌, IfErr, IfOk, None, Ok};
 ghost use Rattle.tree_core.specs.texts.Cause.{ReadCounts};
 ghost use Rattle.policy_core.specs.valid.View.{policy_of};

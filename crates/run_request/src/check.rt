@@ -1,4 +1,5 @@
 //! The options of `check`.
+//! Called by `subcommand_named`; the flags and the graph's path may be read anywhere, no clause orders them.
 ghost use Rattle.std.specs.Prelude.{◌≡◌, IfOk};
 ghost use Rattle.clap.specs.Words.{app_of, found_of, rows_of};
 ghost use Rattle.run_request.specs.Cli.{app_of_shape, check_shape};

@@ -1,4 +1,5 @@
 //! The command line as a value.
+//! Called by `given_by`, `refused_below`, check and list; version and help texts may change, rows may not.
 ghost use Rattle.std.specs.Prelude.{◌≡◌, IfOk, false, true, map};
 ghost use Rattle.clap.specs.Words.{rule_of, new_rule, app_of, shape_of, with_subcommand};
 ghost use Rattle.run_request.specs.Cli.{cli, top_shape, app_of_shape};

@@ -1,4 +1,5 @@
 //! Which crates of a project are looked at.
+//! Called by `asked` of read; the options may be read in any order, since only memory can be refused here.
 ghost use Rattle.std.specs.Prelude.{◌≡◌, ◌||◌, IfOk, unwrap_or, codes};
 ghost use Rattle.std.specs.List.{flat_map, slice_split};
 ghost use Rattle.std.specs.Option.{option_to_list};

@@ -1,4 +1,5 @@
 //! Why options are not read.
+//! Made by check, rows and request, read by `refused`; which text of a bad value is copied first is free.
 ghost use Rattle.std.specs.Prelude.{◌≡◌, ◌⊎◌, IfOk};
 ghost use Rattle.run_request.specs.declared.error.ArgsError.TheVariants.{Memory};
 

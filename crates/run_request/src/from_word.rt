@@ -1,4 +1,5 @@
 //! What is read from one word.
+//! Called by level, names, output and rows; any search that finds the first row of a name serves.
 ghost use Rattle.std.specs.Prelude.{◌≡◌, ℕ, List, Option, map};
 ghost use Rattle.run_request.specs.Named.{named_in, pair_of};
 

@@ -1,4 +1,5 @@
 //! What holds of the requests of words.
+//! Called by nothing: both contracts are laws of definitions in specs, and the bodies hold no code to change.
 ghost use Rattle.run_request.specs.Laws.{SecondDenyChangesNothing, FolderShowsInPaths};
 
 /// A second word `deny`, as `cargo deny` passes it on, changes no answer.

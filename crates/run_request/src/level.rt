@@ -1,4 +1,5 @@
 //! What is checked, and what is allowed, warned of and denied.
+//! Called by `read_all` and run_overrides; a code may be tried before a level, as no name is both.
 ghost use Rattle.std.specs.Prelude.{◌≡◌, map};
 ghost use Rattle.run_request.specs.Named.{named_in, pair_of};
 ghost use Rattle.run_request.specs.Names.{which_names, level_names, code_or_level_named, severity_of_level};

@@ -1,4 +1,5 @@
 //! What the words of a command line ask for.
+//! Used by deny_run, the commands' crates and run_completions; no clause is here, names may be added.
 #![tactic(auto)]
 
 pub mod check;

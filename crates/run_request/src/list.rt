@@ -1,4 +1,5 @@
 //! The options of `list`.
+//! Called by `subcommand_named`; the way to the hundredths is free, the order of the values is in a clause.
 ghost use Rattle.std.specs.Prelude.{◌≡◌, IfOk};
 ghost use Rattle.clap.specs.Words.{app_of, found_of, rows_of};
 ghost use Rattle.run_request.specs.Cli.{app_of_shape, list_shape};

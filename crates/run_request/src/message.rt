@@ -1,4 +1,5 @@
 //! What is said of values that are refused.
+//! Called by `refused` of read; every text here may change, no clause names one.
 
 use crate::options::{OptionRow, OptionUse, OptionValues};
 use std::alloc::{AllocError, Global};

@@ -1,4 +1,5 @@
 //! The names of levels, formats and colours of what is printed.
+//! Called by `log_context` of request; a `match` may replace the tables, the names are in the clauses.
 ghost use Rattle.std.specs.Prelude.{◌≡◌, map};
 ghost use Rattle.run_request.specs.Named.{named_in, pair_of};
 ghost use Rattle.run_request.specs.Names.{filter_names, format_names, color_names};

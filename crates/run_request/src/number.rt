@@ -1,4 +1,5 @@
 //! The numbers that words write.
+//! Called by `read_first` for check, list and request; sums may be wider, the digits taken are in clauses.
 ghost use Rattle.std.specs.Prelude.{◌≡◌, ◌+◌, ◌-◌, ◌*◌, ◌≤◌, pos, Some, option_map};
 ghost use Rattle.run_request.specs.Number.{number_of, sample_size_of, threshold_read, hundredths_of};
 ghost use Rattle.run_request.specs.Number.{behind_point, digit_of};

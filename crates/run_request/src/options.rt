@@ -1,4 +1,5 @@
 //! The options of the command line, in the order in which help lists them.
+//! Called by command, request, read and run_completions; no clause has `help`, `about`, `value`, `values`.
 ghost use Rattle.std.specs.Prelude.{◌≡◌, map};
 ghost use Rattle.run_request.specs.Cli.{main_rules, check_rules, list_rules};
 ghost use Rattle.run_request.specs.Cli.{check_shape, list_shape, subcommand_shapes};

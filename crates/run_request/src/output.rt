@@ -1,4 +1,5 @@
 //! How a listing is written.
+//! Called by `parse` of list, used by run_list_text; how a name is found may change, the names may not.
 ghost use Rattle.std.specs.Prelude.{◌≡◌, map};
 ghost use Rattle.run_request.specs.Named.{named_in, pair_of};
 ghost use Rattle.run_request.specs.Names.{output_names, layout_names};

@@ -1,4 +1,5 @@
 //! What the words of a command line are answered with.
+//! Called by `answer_words` of deny_run; texts and the order in which the paths are read may change.
 ghost use Rattle.std.specs.Prelude.{◌≡◌, ◌≢◌, IfOk, IfErr, map};
 ghost use Rattle.clap.specs.Words.{HasKind, app_of, fault_of, found_of, kind_of, rows_of, subcommand_rows_of};
 ghost use Rattle.run_request.specs.Cli.{cli};

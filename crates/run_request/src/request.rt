@@ -1,4 +1,5 @@
 //! What the matches of a command line ask for.
+//! Called by `asked` of read; names may be compared in any order, and `row_below` has no clause at all.
 ghost use Rattle.std.specs.Prelude.{◌≡◌};
 ghost use Rattle.clap.specs.Words.{found_of, rows_of, subcommand_rows_of};
 ghost use Rattle.run_request.specs.Reading.{AnswersArgs};

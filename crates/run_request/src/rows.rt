@@ -1,4 +1,5 @@
 //! What the matches of a command line say of an option.
+//! Called by check, context, list and request; how the lists grow may change, the order in them may not.
 ghost use Rattle.std.specs.Prelude.{◌≡◌, ◌++◌, map, option_map, IfOk, OnOk};
 ghost use Rattle.std.specs.List.{flat_map, slice_split};
 ghost use Rattle.clap.specs.Words.{found_of, rows_of, first_of, all_of};

@@ -1,4 +1,5 @@
 //! The words of a command line that are read.
+//! Called by `read` alone; room for all words may be taken at once, the words that are kept may not change.
 ghost use Rattle.std.specs.Prelude.{◌≡◌, ◌++◌, IfOk, OnOk, map};
 ghost use Rattle.run_request.specs.Given.{texts};
 ghost use Rattle.run_request.specs.Request.{gate_words, without_deny};

@@ -1,4 +1,5 @@
 //! The sample: a workspace of so many crates that is made up, so that anyone can see the whole gate at work.
+//! Used by deny_run; `sample_tree` has no caller outside and may become private, no clause is here.
 #![tactic(auto)]
 
 pub mod command;

@@ -1,4 +1,5 @@
 //! What holds of the labels of all expressions. These functions do nothing: their contracts are the laws.
+//! Called by no code: two laws of labels and their files, whose bodies hold nothing to change.
 ghost use Rattle.check_core.specs.findings.Laws.{LabelsAlwaysPoint, StandsOn};
 
 /// Where an expression's text is in its file, its first label cuts out just this text, and each further one

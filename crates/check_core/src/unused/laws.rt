@@ -1,4 +1,5 @@
 //! What holds of the last packs of all policies. These functions do nothing: their contracts are the laws.
+//! Called by no code: two laws of the last pack, whose bodies hold nothing to change.
 ghost use Rattle.check_core.specs.unused.Laws.{TellsTheUnused, LabelsLieInThePolicy};
 
 /// The last pack tells just the entries of the policy that allow no term: an allowed licensee exactly where no

@@ -1,4 +1,5 @@
 //! The catalogue of a run.
+//! Made by `lists_at` of found, handed on by deny_run; a name may be asked for twice, no clause counts.
 ghost use Rattle.run_found.specs.own_names.Chosen.{lists_chosen, lists_are_catalog};
 
 use spdx_own_names::FileCatalog;

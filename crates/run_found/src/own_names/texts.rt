@@ -1,4 +1,5 @@
 //! The licence texts of a run.
+//! Made by `texts_at` of found, handed on by deny_run; a text may be scanned twice, no clause counts scans.
 ghost use Rattle.run_found.specs.own_names.Chosen.{texts_chosen, texts_within};
 
 use spdx_terms::catalog::{Identifier, LicenseStore, Match};

@@ -1,4 +1,5 @@
 //! What holds of the places of all policies. These functions do nothing: their contracts are the laws.
+//! Called by no code: two laws of a policy's places, whose bodies hold nothing to change.
 ghost use Rattle.run_found.specs.places.Laws.{ClarificationsArePlaced, EntriesLieOn};
 
 /// Where each place of a policy lies in its file, as after its load, its clarifications are placed as
