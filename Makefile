@@ -27,7 +27,7 @@ run: build
 sample: build
 	@$(PROGRAM) sample 20000
 
-# The merge gate.
+# Proves and tests all; the merge gate, .ci/run, also compares documents and examples.
 test:
 	rt ci
 
