@@ -1,5 +1,5 @@
 -- Where what is reported of a crate is.
-use Rattle.std.proofs.Common.{◌≡◌, ◌∙◌, ℕ, zero, suc, ◌+◌, ◌-◌, ◌<◌, ◌≤◌, Bool, true, false, length, drop, List, [], ◌∷◌, Option, None, Some, unwrap_or, refl, sym, ap, subst, arith, length-drop}
+use Rattle.std.proofs.Common.{◌≡◌, ◌∙◌, ℕ, zero, suc, ◌+◌, ◌-◌, ◌^◌, ◌<◌, ◌≤◌, Bool, true, false, length, drop, List, [], ◌∷◌, Option, None, Some, unwrap_or, refl, sym, ap, subst, arith, length-drop}
 use Rattle.std.specs.Prelude.{is_none, option_and_then, option_map}
 use Rattle.std.specs.List.{All}
 use Rattle.std.specs.Option.{option_map_or, option_or}
@@ -74,27 +74,31 @@ text_settles turn =
 
 -- ---- an expression that a place cuts out begins there
 
-pub points_from : (files : List File) (at : Coord) (words : List ℕ) → PointsAt files at words → StandsIn files at.file at.span.start None words
-points_from files at words points =
+pub points_from : (files : List File) (at : Coord) (words : List ℕ) → PointsAt files at words → at.span.end < 2 ^ 64 → StandsIn files at.file at.span.start None words
+points_from files at words points fits =
     let size = at.span.end - at.span.start in
     let rest = drop at.span.start points.source in
     let within : at.span.end ≤ length points.source = points.cuts.ends.0 in
     let long : length words ≡ size = ap length (sym points.cuts.cut_out) ∙ length-take-le size rest (omega (arith, length-drop at.span.start points.source)) in
     let end : at.span.end ≡ at.span.start + length words = (let ordered : at.span.start ≤ at.span.end = points.cuts.ordered in omega arith) in
-    subst (λ (e : ℕ). PointsAt files (record { file = at.file; span = record { start = at.span.start; end = e } }) words) end points
+    record {
+      points = subst (λ (e : ℕ). PointsAt files (record { file = at.file; span = record { start = at.span.start; end = e } }) words) end points;
+      fits = subst (λ (e : ℕ). e < 2 ^ 64) end fits;
+    }
 
-at_place : (files : List File) (place : Option Coord) (words : List ℕ) → StandsAtCoord files place (Some words) → StandsIn files (unwrap_or place no_place).file (unwrap_or place no_place).span.start None words
-at_place files None words stands = absurd stands
-at_place files (Some at) words stands = points_from files at words stands
+at_place : (files : List File) (place : Option Coord) (words : List ℕ) → StandsAtCoord files place (Some words) → (unwrap_or place no_place).span.end < 2 ^ 64
+    → StandsIn files (unwrap_or place no_place).file (unwrap_or place no_place).span.start None words
+at_place files None words stands fits = absurd stands
+at_place files (Some at) words stands fits = points_from files at words stands fits
 
 pub info_stands : (files : List File) (policy : ℕ) (krate : CrateRecord) (location place : Option Coord) (by : LicenseBasis)
-    → ByStands files policy by → TextIs (field_text krate) by → StandsAtCoord files place (text_settled krate by)
+    → ByStands files policy by → TextIs (field_text krate) by → StandsAtCoord files place (text_settled krate by) → (unwrap_or place no_place).span.end < 2 ^ 64
     → InfoStands files (info_by policy location (unwrap_or place no_place) by)
-info_stands files policy krate location place (Clarified held) held_stands words stands = held_stands
-info_stands files policy krate location place (Field expression) held_stands words stands =
-    at_place files place expression.text (subst (λ (words : List ℕ). StandsAtCoord files place (Some words)) (sym words) stands)
-info_stands files policy krate location place (Files seen None) held_stands words stands = tt
-info_stands files policy krate location place (Files seen (Some joined)) held_stands words stands = at_place files place joined.expression.text stands
+info_stands files policy krate location place (Clarified held) held_stands words stands fits = held_stands
+info_stands files policy krate location place (Field expression) held_stands words stands fits =
+    at_place files place expression.text (subst (λ (words : List ℕ). StandsAtCoord files place (Some words)) (sym words) stands) fits
+info_stands files policy krate location place (Files seen None) held_stands words stands fits = tt
+info_stands files policy krate location place (Files seen (Some joined)) held_stands words stands fits = at_place files place joined.expression.text stands fits
 
 -- ---- labels of files that are not there
 

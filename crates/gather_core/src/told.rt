@@ -1,5 +1,5 @@
 //! What is reported of a crate's licence, by what settles it.
-ghost use Rattle.std.specs.Prelude.{◌≡◌, None, unwrap_or};
+ghost use Rattle.std.specs.Prelude.{◌≡◌, ◌^◌, ◌<◌, None, unwrap_or};
 ghost use Rattle.gather_license.specs.Priority.{answer_in};
 ghost use Rattle.gather_core.specs.Told.{field_source, info_at, info_by, joined_info, joined_notes, notes_of};
 ghost use Rattle.gather_core.specs.Told.{no_place};
@@ -20,7 +20,8 @@ pub(crate) struct NotedLicense {
 
 /// Where finding gave no place. It gives one wherever there is an expression.
 fn place_or_nowhere(place: Option<Coord>) -> Coord
-    ensures { result ≡ unwrap_or place no_place }
+    ensures place { result ≡ unwrap_or place no_place }
+    ensures fits { result.span.end < 2 ^ 64 }
 {
     match place {
         Some(at) => at,
@@ -104,6 +105,7 @@ pub(crate) fn told_by(
 ) -> NotedLicense
     ensures info { result.info ≡ info_by policy location (unwrap_or place no_place) by }
     ensures notes { result.notes ≡ notes_of (answer_in by) }
+    ensures fits { let place = unwrap_or place no_place in place.span.end < 2 ^ 64 }
 {
     let place = place_or_nowhere(place);
     match by {

@@ -1,5 +1,5 @@
 -- Each place that a valid policy keeps lies in the text of its file.
-use Rattle.std.proofs.Common.{◌≡◌, ◌∙◌, refl, sym, ap, subst, ℕ, ◌+◌, ◌-◌, true, false, cond, List, [], ◌∷◌, ◌++◌, length, drop, Option, Some, None, Ok, Err, arith}
+use Rattle.std.proofs.Common.{◌≡◌, ◌∙◌, refl, sym, ap, subst, ℕ, ◌+◌, ◌-◌, ◌^◌, ◌<◌, ◌≤◌, true, false, cond, List, [], ◌∷◌, ◌++◌, length, drop, Option, Some, None, Ok, Err, arith}
 use Rattle.std.specs.Prelude.{⊤, slice_range}
 use Rattle.std.specs.List.{AllByRecursion, AllZip, cons_option}
 use Rattle.std.specs.List.Sorted.{IsPermutation}
@@ -83,6 +83,7 @@ expression_more files more file None start words stands = record {
   source = source_more files more file stands.text stands.source;
   lies = stands.lies;
   is = stands.is;
+  fits = stands.fits;
 }
 
 licensees_more : (files more : List File) (file : ℕ) (licensees : List Licensee) → AllByRecursion (LicenseeStands files file) licensees
@@ -146,7 +147,7 @@ policy_in_order files written sorted puts stands =
 
 -- ---- what is valid of a policy
 
-module _ (files : List File) (file : ℕ) (text : List ℕ) (source : source_of_file files file ≡ Some text) where
+module _ (files : List File) (file : ℕ) (text : List ℕ) (source : source_of_file files file ≡ Some text) (short : length text < 2 ^ 64) where
   licensees_stand : (licensees : List Licensee) → AllByRecursion (licensee_keeps text) licensees → AllByRecursion (LicenseeStands files file) licensees
   licensees_stand = weaker (licensee_keeps text) (LicenseeStands files file) (λ licensee lies. in_file files file text source licensee.0.span lies)
 
@@ -163,11 +164,13 @@ module _ (files : List File) (file : ℕ) (text : List ℕ) (source : source_of_
       let ordered = keeps.expression.ordered in
       let len : length one.expression.value ≡ whole.end - whole.start = ap length there ∙ part_length text whole keeps.expression in
       let ends : whole.start + length one.expression.value ≡ whole.end = omega arith in
+      let within : whole.end ≤ length text = keeps.expression.end_border.0 in
       record {
         text = text;
         source = source;
         lies = subst (λ (end : ℕ). LiesBetween text (record { start = whole.start; end = end })) (sym ends) keeps.expression;
         is = ap (slice_range text whole.start) ends ∙ sym there;
+        fits = omega arith;
       }
 
   expression_stands : (one : Clarification) → ClarificationKeeps text one
@@ -209,9 +212,9 @@ module _ (files : List File) (file : ℕ) (text : List ℕ) (source : source_of_
 
 -- what is valid of a policy whose places lie in the text of a file, in order
 pub validated_stands : (lists : CatalogLists) (files : List File) (file : ℕ) (text : List ℕ) (config : Config) (valid : ValidConfig) → source_of_file files file ≡ Some text
-    → ConfigKeeps text config → PutsPolicyInOrder (valid_part lists file config) valid → PolicyStands files valid
-validated_stands lists files file text config valid source keeps puts =
-    policy_in_order files (valid_part lists file config) valid puts (valid_stands files file text source lists config keeps)
+    → length text < 2 ^ 64 → ConfigKeeps text config → PutsPolicyInOrder (valid_part lists file config) valid → PolicyStands files valid
+validated_stands lists files file text config valid source short keeps puts =
+    policy_in_order files (valid_part lists file config) valid puts (valid_stands files file text source short lists config keeps)
 
 -- ---- an exceptions file, whose text goes behind the other files
 
@@ -219,7 +222,7 @@ text_stands : (lists : CatalogLists) → IsCatalog lists → (files : List File)
     → AllByRecursion (ExceptionStands (files ++ record { name = path; source = text; has_path = true } ∷ [])) (exceptions_kept lists (length files) (value_or_fault read))
 text_stands lists laws files path text is_text (Ok toml) is =
     let file : File = record { name = path; source = text; has_path = true } in
-    held_stand (files ++ file ∷ []) (length files) text (source_last files file) (exceptions_file_of lists toml)
+    held_stand (files ++ file ∷ []) (length files) text (source_last files file) is_text.fits (exceptions_file_of lists toml)
     (exceptions_file_stays text is_text.utf8 is_text.fits lists laws toml (text_placed text is_text.utf8 toml (text_sound text toml is)))
 text_stands lists laws files path text is_text (Err fault) is = tt
 

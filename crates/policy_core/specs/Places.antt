@@ -1,5 +1,5 @@
 -- Where findings point, and where a policy is.
-use Rattle.std.specs.Prelude.{◌≡◌, ℕ, ◌+◌, List, length, slice_range, Option, Some, None}
+use Rattle.std.specs.Prelude.{◌≡◌, ℕ, ◌+◌, ◌^◌, ◌<◌, List, length, slice_range, Option, Some, None}
 use Rattle.std.specs.List.{AllByRecursion}
 use Rattle.deny_text.specs.declared.span.Span.{Span}
 use Rattle.diag_core.specs.File.{File, source_of_file}
@@ -43,12 +43,13 @@ pub record IsConfigPlaced (files : List File) (file : ℕ) (root : RootConfig) :
   pub is_text : IsFileText text
   pub keeps : RootKeeps text root
 
--- the text is in the file from that place on, between characters
+-- the text is in the file from that place on, between characters, and its end is a place of 64 bits
 pub record IsSpelledAt (files : List File) (file start : ℕ) (words : List ℕ) : Type 0 where
   pub text : List ℕ
   pub source : source_of_file files file ≡ Some text
   pub lies : LiesBetween text (record { start = start; end = start + length words })
   pub is : slice_range text start (start + length words) ≡ words
+  pub fits : start + length words < 2 ^ 64
 
 -- an expression's string has a place where it has escapes; else the expression is the text there
 abbrev pub ExpressionStands : List File → ℕ → Option Span → ℕ → List ℕ → Type 0

@@ -75,5 +75,5 @@ loads_policy lists laws before after calls more file is_there at root path confi
       labels = λ points. subst (PointInto new) (sym settles)
           (settings_labels new file root heard there
           (exceptions_labels lists laws hearing old behind text loads (subst (PointInto files) (sym told) (checked_labels lists laws files file is_there at root found placed points))));
-      places = exceptions_places lists laws hearing old behind text loads (validated_stands lists files file placed.text config valid placed.source config_keeps puts);
+      places = exceptions_places lists laws hearing old behind text loads (validated_stands lists files file placed.text config valid placed.source placed.is_text.fits config_keeps puts);
     }

@@ -32,7 +32,10 @@ points_grown files more at bytes points = record {
 
 pub stands_grown : (files more : List File) (file offset : ℕ) (whole : Option Span) (words : List ℕ) → StandsIn files file offset whole words → StandsIn (files ++ more) file offset whole words
 stands_grown files more file offset (Some place) words stands = place_grown files more file place stands
-stands_grown files more file offset None words stands = points_grown files more (record { file = file; span = record { start = offset; end = offset + length words } }) words stands
+stands_grown files more file offset None words stands = record {
+  points = points_grown files more (record { file = file; span = record { start = offset; end = offset + length words } }) words stands.points;
+  fits = stands.fits;
+}
 
 pub info_grown : (files more : List File) (info : LicenseInfo) → InfoStands files info → InfoStands (files ++ more) info
 info_grown files more Unlicensed stands = tt

@@ -64,7 +64,8 @@ returns-clause-placed c = λ missing_lie held_stands words.
           (missing_labels new policy taken.missing (places_grown old new policy taken.missing grows missing_lie)) c.in_ok-points.ensures.inside);
       expression =
           subst (InfoStands new) (sym c.told_by-told.ensures.info)
-          (info_stands new policy krate taken.location points.expression taken.by (by_grown old new policy taken.by grows held_stands) words c.in_ok-points.ensures.expression);
+          (info_stands new policy krate taken.location points.expression taken.by (by_grown old new policy taken.by grows held_stands) words c.in_ok-points.ensures.expression
+          c.told_by-told.ensures.fits);
     }
 
 -- the table grows
