@@ -1,5 +1,5 @@
 //! The check of all crates.
-//! Called by `judge_and_report` of run_check; more room than the largest expression needs may be taken.
+//! Called by `judge_and_report` of `run_check`; more room than the largest expression needs may be taken.
 ghost use Rattle.std.specs.Prelude.{◌≡◌, ◌+◌, ◌<◌, ◌≤◌, [], ◌∷◌, All, Bool, IfOk, OnOk, OnErr, List};
 ghost use Rattle.std.specs.Prelude.{length, map};
 ghost use Rattle.std.specs.Option.{option_map_or};

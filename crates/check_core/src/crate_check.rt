@@ -1,5 +1,5 @@
 //! The check of one crate.
-//! Called by `judge_with_room` of check; a checker's three parts may be made in any order.
+//! Called by `judge_with_room` of `check`; a checker's three parts may be made in any order.
 ghost use Rattle.std.specs.Prelude.{◌≡◌, ◌↔◌, ◌+◌, ◌≤◌, ◌++◌, ◌∷◌, ◌⊎◌, [], Bool, IsTrue, List, IfOk, OnErr, length};
 ghost use Rattle.std.specs.Prelude.{false};
 ghost use Rattle.graph_core.specs.Krate.{record_of};

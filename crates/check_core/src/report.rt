@@ -1,5 +1,5 @@
 //! The report on one crate.
-//! Called by `skip` and `tell` of crate_check; the id may be copied last, no clause has the order of copies.
+//! Called by `skip` and `tell` of `crate_check`; the id may be copied last, no clause has the order of copies.
 ghost use Rattle.std.specs.Prelude.{◌≡◌, IfOk};
 ghost use Rattle.check_core.specs.Reports.{license_source, report_of};
 ghost use Rattle.check_core.specs.Turns.{expression_of};

@@ -1,5 +1,5 @@
 //! What verifying a record answers.
-//! Called by `first_reason` of verifying, read by run_record; variants may be in any order.
+//! Called by `first_reason` of `verifying`, read by `run_record`; variants may be in any order.
 ghost use Rattle.std.specs.Prelude.{◌≡◌};
 ghost use Rattle.check_verify.specs.Reasons as spec;
 

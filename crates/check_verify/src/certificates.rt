@@ -1,6 +1,6 @@
-//! Whether places are a choice of an expression, and whether places meet each choice. Both are reported by
+//! Whether places are a choice of an expression, and whether places meet each choice. Both come with
 //! the certificate on the expression where just some terms have a hit.
-//! Called by crates; any hit may be the one that is kept, since only whether there is one is asked.
+//! Called by `crates`; any hit may be the one that is kept, since only whether there is one is asked.
 ghost use Rattle.std.specs.Prelude.{◌≡◌, ◌&&◌, ℕ, IfOk, not, length, nat_lt};
 ghost use Rattle.spdx_core.specs.certificates.Certificates.{has_hit};
 ghost use Rattle.check_verify.specs.Terms as spec;

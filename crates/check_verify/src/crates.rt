@@ -1,5 +1,5 @@
 //! What is wrong with a crate's recorded verdict.
-//! Called by `first_reason` of verifying; either test may run first, the fault that is named is in a clause.
+//! Called by `first_reason` of `verifying`; either test may run first, the fault that is named is in a clause.
 ghost use Rattle.std.specs.Prelude.{◌≡◌, ◌+◌, ◌≤◌, IfOk, None, Some, length, map, sum_by};
 ghost use Rattle.graph_core.specs.Krate.{record_of};
 ghost use Rattle.policy_core.specs.valid.Policy.{first_exception};

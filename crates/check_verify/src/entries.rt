@@ -1,5 +1,5 @@
 //! Recorded entries against terms.
-//! Called by crates; each loop may stop once its answer is known, as steps have an upper bound alone.
+//! Called by `crates`; each loop may stop once its answer is known, as steps have an upper bound alone.
 ghost use Rattle.std.specs.Prelude.{◌≡◌, ◌+◌, ◌≤◌, false, true, map, length, is_some, slice_get, sum_by};
 ghost use Rattle.std.specs.List.{list_any};
 ghost use Rattle.std.specs.Option.{option_map_or, option_to_list};

@@ -1,5 +1,5 @@
 //! What is recorded of a verdict.
-//! Called by `item` of run_record; hits may be copied before places, only memory can be refused.
+//! Called by `item` of `run_record`; hits may be copied before places, only memory can be refused.
 ghost use Rattle.std.specs.Prelude.{◌≡◌, IfOk};
 ghost use Rattle.std.specs.List.{AllByRecursion};
 ghost use Rattle.check_record.specs.Items.{IsHit, IsNumber, IsRecordVerdict};

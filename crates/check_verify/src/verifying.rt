@@ -1,5 +1,5 @@
 //! Verifying a record.
-//! Called by `verify_by_ledger` of run_record; flags and indexes may be made late, ids come before faults.
+//! Called by `verify_by_ledger` of `run_record`; flags and indexes may be made late, ids come before faults.
 ghost use Rattle.std.specs.Prelude.{◌≡◌, ◌+◌, ◌≤◌, IfOk, IsTrue, ◌↔◌, map};
 ghost use Rattle.std.specs.List.{AllZip};
 ghost use Rattle.std.specs.Cmp.Lexicographic.{pointwise};

@@ -1,5 +1,5 @@
 //! What is printed behind a run.
-//! Called by `run_told` of lib; the request may be looked at before `is_whole`, both have to hold.
+//! Called by `run_told` of `lib`; the request may be looked at before `is_whole`, both have to hold.
 ghost use Rattle.std.specs.Prelude.{◌≡◌, ◌≤◌};
 ghost use Rattle.refusal_help.specs.Told.{told_between};
 ghost use Rattle.deny_gate.specs.Behind as behind;

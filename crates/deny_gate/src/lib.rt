@@ -1,5 +1,5 @@
 //! The gate over the words, the files and the streams that a process is given.
-//! Called by cargo_deny and tests_start; words, folder and store may be asked for in any order.
+//! Called by `cargo_deny` and `tests_start`; words, folder and store may be asked for in any order.
 #![tactic(auto)]
 
 ghost use Rattle.std.specs.Prelude.{◌≡◌, ◌≤◌, IfOk, IfErr, OnOk, OnErr};

@@ -1,5 +1,5 @@
 //! What a run answers: to a request, by its command, and to words.
-//! Called by `run` of run; the arms may be in any order, each command has its own part of `Answers`.
+//! Called by `run` of `run`; the arms may be in any order, each command has its own part of `Answers`.
 ghost use Rattle.std.specs.Prelude.{◌≡◌, ◌≤◌, IfErr, IfOk};
 ghost use Rattle.tree_core.specs.texts.Cause.{ReadCounts};
 ghost use Rattle.run_found.specs.Error.{cause_of};

@@ -1,5 +1,5 @@
 //! The command `check` of a request.
-//! Called by `answer_request` of answer; `begun` may be read earlier, `check_since` is the first to write.
+//! Called by `answer_request` of `answer`; `begun` may be read earlier, `check_since` is the first to write.
 ghost use Rattle.std.specs.Prelude.{◌≡◌, ◌≤◌, None, IfErr};
 ghost use Rattle.tree_core.specs.texts.Cause.{ReadCounts};
 ghost use Rattle.run_found.specs.Error.{cause_of};

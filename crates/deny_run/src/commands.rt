@@ -1,5 +1,5 @@
 //! The commands `list`, `record` and `verify` of a request, behind what comes before each.
-//! Called by `answer_request` of answer; each of the three may change by itself, `Runs` ties none to another.
+//! Called by `answer_request` of `answer`; each of the three may change by itself, `Runs` ties none to another.
 ghost use Rattle.std.specs.Prelude.{◌≤◌, IfErr};
 ghost use Rattle.tree_core.specs.texts.Cause.{ReadCounts};
 ghost use Rattle.run_found.specs.Error.{cause_of};

@@ -1,5 +1,5 @@
 //! The run: from words and files to a report, a summary and a status.
-//! Called by `run_started` of deny_gate; the status may be found before the line of a refusal is written.
+//! Called by `run_started` of `deny_gate`; the status may be found before the line of a refusal is written.
 ghost use Rattle.std.specs.Prelude.{◌≡◌, ◌≤◌};
 ghost use Rattle.run_found.specs.Hearing.{seen_between};
 ghost use Rattle.run_found.specs.Written.{sink_between};

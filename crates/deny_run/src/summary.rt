@@ -1,5 +1,5 @@
 //! The summary of a report.
-//! Called by `check_by` of check; a `map_err` may replace the `match`, the counts are in a clause.
+//! Called by `check_by` of `check`; a `map_err` may replace the `match`, the counts are in a clause.
 ghost use Rattle.std.specs.Prelude.{◌≡◌, ◌≤◌, IfErr, OnOk};
 ghost use Rattle.tree_core.specs.Script.{Gains};
 ghost use Rattle.diag_stats.specs.Summary.{count_of, summary_of, target_of};

@@ -1,5 +1,5 @@
 //! What is written where there is no request.
-//! Called by `answer_words` of answer; a text may be written in pieces, a prefix counts where it is refused.
+//! Called by `answer_words` of `answer`; a text may be written in pieces, a prefix counts where it is refused.
 ghost use Rattle.std.specs.Prelude.{◌≡◌, ◌≤◌, Ok, IfErr, OnOk};
 ghost use Rattle.tree_core.specs.Faults.{Gained};
 ghost use Rattle.run_found.specs.Error.{cause_of};

@@ -95,7 +95,7 @@ calls_of_all crates = flat_map (λ one. calls_in (folder_of one.krate) one.reads
 abbrev pub reads_of_all : List ReadsOfCrate → List AnsweredRead
 reads_of_all crates = flat_map (λ one. one.reads) crates
 
--- What is reported of a crate is what its turn says by its own reads, which have the records that are reported of it;
+-- What is reported of a crate is what its turn says by its own reads, which have the records that it comes with;
 -- it has priority by them; and the labels of what is found cut out what they say, in the table that is left at last.
 pub record IsTurnBy (last : List File) (own : CrateTurn) (license : KrateLicense) : Type 0 where
   pub krate : own.turn.krate ≡ krate_of license

@@ -13,7 +13,7 @@ use Rattle.run_found.specs.declared.error.Error.TheVariants.{ConfigRead, ConfigS
 use Rattle.run_request.specs.declared.context.KrateContext.{KrateContext}
 use Rattle.refusal_help.specs.declared.again.Again.{Again}
 
--- a call that was reported that a regular file is at a path
+-- a call with the answer that a regular file is at a path
 abbrev pub file_there : List ℕ → Call
 file_there path = record { asked = call.is_file; path = path; answer = call.told true }
 

@@ -137,7 +137,7 @@ twice_help name first second =
 -- ---- the whole
 
 -- By the request and by what was read of the policy behind the run. A policy whose shape is wrong, or that is not
--- valid, was reported of before the line, with its places; a refused write and want of memory have no help.
+-- valid, was reported before the line, with its places; a refused write and want of memory have no help.
 unfoldable pub help_of : Request → Again → Error → List ℕ
 help_of request again Memory = []
 help_of request again (NotCarried what) = advice (what_words what)

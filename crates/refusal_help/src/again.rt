@@ -1,5 +1,5 @@
 //! What is read of the policy once more, behind a run that refused it.
-//! Called by `tell_help` of tell; the text may be left unread, then help names a byte in place of a line.
+//! Called by `tell_help` of `tell`; the text may be left unread, then help names a byte in place of a line.
 ghost use Rattle.std.specs.Prelude.{◌≡◌, Some, None};
 ghost use Rattle.std.specs.Option.{ForSome};
 ghost use Rattle.refusal_help.specs.Again.{AsksAgain, AsksForText, AsksWhere, IsAgain, IsAskedWhereDue, IsReadAgain};

@@ -1,5 +1,5 @@
 //! The lines behind the line of a refusal.
-//! Called by `write_help` of tell; a line may be put together in any way, each text is in a clause.
+//! Called by `write_help` of `tell`; a line may be put together in any way, each text is in a clause.
 ghost use Rattle.std.specs.Prelude.{◌≡◌, ◌+◌, ◌<◌, ◌^◌, ◌++◌, IfOk, OnOk};
 ghost use Rattle.std.specs.Option.{ForSome};
 ghost use Rattle.std.specs.String.{string_bytes};

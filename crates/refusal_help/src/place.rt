@@ -1,5 +1,5 @@
 //! The place of a fault in the text of a policy.
-//! Called by `push_syntax` of help; the place may be found by any walk, no clause has the table of files.
+//! Called by `push_syntax` of `help`; the place may be found by any walk, no clause has the table of files.
 ghost use Rattle.std.specs.Prelude.{◌≡◌, ◌+◌, ◌<◌, ◌^◌, IfOk, option_map};
 ghost use Rattle.std.specs.Option.{ForSome};
 ghost use Rattle.refusal_help.specs.Help.{found_at, place_in};

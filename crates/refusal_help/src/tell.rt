@@ -1,5 +1,5 @@
 //! What is printed behind a refusal.
-//! Called by `tell_end` of deny_gate; help may be written in pieces once all of it is made.
+//! Called by `tell_end` of `deny_gate`; help may be written in pieces once all of it is made.
 ghost use Rattle.std.specs.Prelude.{◌≤◌};
 ghost use Rattle.refusal_help.specs.Help.{help_of};
 ghost use Rattle.refusal_help.specs.Told.{LinesWritten, TellsHelp, told_between};

@@ -1,5 +1,5 @@
 //! Whether a policy was refused for a licence that the catalogue lacks.
-//! Called by `push_help` of help; findings and labels may be searched in any order, one is enough.
+//! Called by `push_help` of `help`; findings and labels may be searched in any order, one is enough.
 ghost use Rattle.std.specs.Prelude.{◌≡◌};
 ghost use Rattle.std.specs.List.{list_any};
 ghost use Rattle.toml_subset.specs.shapes.ShapeViews.{fault_of};

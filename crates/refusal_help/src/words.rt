@@ -1,5 +1,5 @@
 //! The words of help.
-//! Called by help; each word is in a clause, so only the order of the arms is free.
+//! Called by `help`; each word is in a clause, so only the order of the arms is free.
 ghost use Rattle.std.specs.Prelude.{◌≡◌, IfOk};
 ghost use Rattle.std.specs.String.{string_bytes};
 ghost use Rattle.refusal_help.specs.Words.{fault_words, level_option, manifest_words, read_words, reason_words};

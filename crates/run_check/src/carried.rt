@@ -1,5 +1,5 @@
 //! What of a request for a check is not carried.
-//! Called by `check_request` of deny_run and by `cmd`; parts may be tested in any order, the first is named.
+//! Called by `check_request` of `deny_run` and by `cmd`; parts may be tested in any order, the first is named.
 ghost use Rattle.std.specs.Prelude.{◌≡◌};
 ghost use Rattle.std.specs.List.{list_all};
 ghost use Rattle.run_check.specs.Carried as spec;

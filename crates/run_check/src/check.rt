@@ -1,5 +1,5 @@
 //! The licences of all crates, and the check of them.
-//! Called by `report_since` of command; the level in `CheckCtx` may be any, no clause names it.
+//! Called by `report_since` of `command`; the level in `CheckCtx` may be any, no clause names it.
 ghost use Rattle.std.specs.Prelude.{◌≡◌, All, IfOk, OnErr};
 ghost use Rattle.graph_core.specs.Metadata.{Graph};
 ghost use Rattle.graph_core.specs.selection.Choice.{Choice};

@@ -26,7 +26,7 @@ pub record ComesBy (given : CommandRequest) (hearing : CommandHearing) (had : Li
   pub named : is_manifest given.command.request.context.manifest_path ≡ true
   pub heard : given_heard (handed_in given.command) given.own hearing.lists ≡ Some (Ok had)
 
--- the look, which is reported that the manifest is there
+-- the look, with the answer that the manifest is there
 abbrev pub there_call : CommandRequest → Call
 there_call given = manifest_call given.command.request.context.manifest_path (call.told true)
 

@@ -1,5 +1,5 @@
 //! What of a request is not carried.
-//! Called by deny_run and the commands; parts may be tested in any order, the part that is named may not.
+//! Called by `deny_run` and the commands; parts may be tested in any order, the part that is named may not.
 ghost use Rattle.std.specs.Prelude.{◌≡◌};
 ghost use Rattle.run_command.specs.Carried as spec;
 ghost use Rattle.run_command.specs.Carried.{unsupported_of};

@@ -1,5 +1,5 @@
 //! The policy of a command, and the crates that it looks at.
-//! Called by run_list, run_check and run_record; the threshold may be put in once the policy is there.
+//! Called by `run_list`, `run_check` and `run_record`; the threshold may be put in once the policy is there.
 ghost use Rattle.std.specs.Prelude.{◌≡◌, ◌≤◌, ℕ, List, [], IfErr, IfOk, None};
 ghost use Rattle.tree_core.specs.Hearing.{MadeSome};
 ghost use Rattle.tree_core.specs.texts.Cause.{ReadCounts};

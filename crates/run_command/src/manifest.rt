@@ -1,5 +1,5 @@
 //! The look at the manifest.
-//! Called by `lists_of_request` of prelude; a refusal's copy of the path may be made before the look.
+//! Called by `lists_of_request` of `prelude`; a refusal's copy of the path may be made before the look.
 ghost use Rattle.std.specs.Prelude.{◌≡◌, ◌≤◌, ◌⊎◌, IfErr};
 ghost use Rattle.tree_core.specs.texts.Cause.{ReadCounts};
 ghost use Rattle.run_found.specs.declared.error.Error.TheVariants.{Memory, ManifestPath};

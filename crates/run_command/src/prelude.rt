@@ -1,5 +1,5 @@
 //! What comes before a command.
-//! Called by check and commands of deny_run; `?` may replace a `match`, the order of the steps may not.
+//! Called by check and commands of `deny_run`; `?` may replace a `match`, the order of the steps may not.
 ghost use Rattle.std.specs.Prelude.{◌≡◌, Some, Err, IfErr};
 ghost use Rattle.tree_core.specs.texts.Cause.{ReadCounts};
 ghost use Rattle.graph_workspace.specs.declared.error.UnsupportedPart.{UnsupportedPart};

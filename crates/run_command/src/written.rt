@@ -1,5 +1,5 @@
 //! What a command writes of its answer.
-//! Called by `record_report` and `verify_since` of run_record; the text may be written in pieces.
+//! Called by `record_report` and `verify_since` of `run_record`; the text may be written in pieces.
 ghost use Rattle.std.specs.Prelude.{◌≤◌, IfErr, OnErr, OnOk};
 ghost use Rattle.tree_core.specs.Faults.{Gained, GainedPrefix};
 ghost use Rattle.run_command.specs.Written.{IsWriteFault};

@@ -1,5 +1,5 @@
 //! The completion for bash.
-//! Called by `print_text` of main; no function has a clause, the stored output pins what is printed.
+//! Called by `print_text` of `main`; no function has a clause, the stored output pins what is printed.
 
 use crate::commands::{has_file, has_value, is_word, names_of, push_commands, push_names, top};
 use run_request::options::{OptionRow, OptionValues, SubcommandRow, subcommand_rows};

@@ -1,5 +1,5 @@
 //! The commands that are completed, and what all texts say of an option.
-//! Called by bash, zsh, fish and manual; no clause is here, each helper may change with its callers.
+//! Called by `bash`, `zsh`, `fish` and `manual`; no clause is here, each helper may change with its callers.
 
 use run_request::options::{
     OptionRow, OptionUse, OptionValues, SubcommandRow, main_rows, subcommand_rows,

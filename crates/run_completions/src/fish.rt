@@ -1,5 +1,5 @@
 //! The completion for fish.
-//! Called by `print_text` of main; no clause is here, quoting and order show in the stored output alone.
+//! Called by `print_text` of `main`; no clause is here, quoting and order show in the stored output alone.
 
 use crate::commands::{has_value, is_word, names_of, push_commands, push_names, top};
 use run_request::options::{OptionRow, OptionValues, SubcommandRow, subcommand_rows};

@@ -1,5 +1,5 @@
 //! The manual page.
-//! Called by `print_text` of main; all prose may change with the stored output, no clause has it.
+//! Called by `print_text` of `main`; all prose may change with the stored output, no clause has it.
 
 use crate::commands::{has_value, is_word, top};
 use run_request::options::{OptionRow, SubcommandRow, subcommand_rows};

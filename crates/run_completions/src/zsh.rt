@@ -1,5 +1,5 @@
 //! The completion for zsh.
-//! Called by `print_text` of main; no clause is here, the split of the texts into statics may change.
+//! Called by `print_text` of `main`; no clause is here, the split of the texts into statics may change.
 
 use crate::commands::{has_value, is_word, push_commands, push_names, top};
 use run_request::options::{OptionRow, OptionUse, OptionValues, SubcommandRow, subcommand_rows};

@@ -1,5 +1,5 @@
 //! The crates that a request looks at, from its metadata's file.
-//! Called by `krates_left` of run_command; the two lists of specs may be tested for signs in either order.
+//! Called by `krates_left` of `run_command`; the two lists of specs may be tested for signs in either order.
 ghost use Rattle.std.specs.Prelude.{◌≡◌, ◌≤◌, IfErr, IfOk};
 ghost use Rattle.tree_core.specs.Hearing.{MadeSome};
 ghost use Rattle.graph_core.specs.selection.Choice.{choice_of};

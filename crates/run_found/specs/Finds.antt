@@ -79,7 +79,7 @@ pub data StopsBeforePolicy (given : RequestArguments) (hearing : RequestHearing)
       → StopsBeforePolicy given hearing
 
 -- Memory was wanting or a write was refused: the calls are those that were due up to some place, and a prefix of what
--- is reported by them was written.
+-- they report was written.
 pub record FindsInPart (given : RequestArguments) (tree : TreeSeen) (old new : Option (List ℕ)) (before after : ℕ)
     (cause : Cause) : Type 0 where
   pub heard : PolicyHeard

@@ -86,7 +86,7 @@ look_by call.wrong_kind path rest = unended
 look_by call.failed path rest = look_failed
 look_by call.no_memory path rest = unended
 
--- looks at these paths in order, up to the first that is not reported that nothing is there
+-- looks at these paths in order, up to the first whose answer is not that nothing is there
 abbrev pub looks_by : List (List ℕ) → List CallAnswer → LooksResult
 looks_by [] answers = nowhere
 looks_by (path ∷ paths) [] = unended

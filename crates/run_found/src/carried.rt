@@ -1,5 +1,5 @@
 //! What of a request is not carried.
-//! Called by `unsupported_in` of run_command and of run_check; a `matches!` may replace the `match`.
+//! Called by `unsupported_in` of `run_command` and of `run_check`; a `matches!` may replace the `match`.
 ghost use Rattle.std.specs.Prelude.{◌≡◌};
 ghost use Rattle.run_found.specs.Carried as spec;
 

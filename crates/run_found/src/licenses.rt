@@ -1,5 +1,5 @@
 //! The licences of the crates that a request looks at.
-//! Called by run_list, run_check and run_record; the gatherer may be set up in any order before `gather`.
+//! Called by `run_list`, `run_check` and `run_record`; the gatherer may be set up in any order before `gather`.
 ghost use Rattle.std.specs.Prelude.{◌≤◌, All, IfOk, OnErr};
 ghost use Rattle.graph_core.specs.Metadata.{Graph};
 ghost use Rattle.graph_core.specs.selection.Choice.{Choice};

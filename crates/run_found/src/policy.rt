@@ -1,5 +1,5 @@
 //! The policy of a request.
-//! Called by `crates_found` of run_command; variants may be in any order, that of the looks is in a clause.
+//! Called by `crates_found` of `run_command`; variants may be in any order, that of the looks is in a clause.
 ghost use Rattle.std.specs.Prelude.{◌≡◌, ◌≢◌, ◌≤◌, [], IfErr, IfOk};
 ghost use Rattle.tree_core.specs.texts.Cause.{ReadCounts};
 ghost use Rattle.tree_core.specs.texts.Search.{search_cause};

@@ -1,5 +1,5 @@
 //! What commands answer of the reads of crates.
-//! Called by run_list and run_record; room for all crates may be taken first, their order is in a clause.
+//! Called by `run_list` and `run_record`; room for all crates may be taken first, their order is in a clause.
 ghost use Rattle.std.specs.Prelude.{◌≡◌, IfOk};
 ghost use Rattle.run_found.specs.Reads.{read_gathered, reads_gathered};
 

@@ -1,5 +1,5 @@
 //! The command `list`.
-//! Called by `list_request` of deny_run; the files and the use of the policy may be made in either order.
+//! Called by `list_request` of `deny_run`; the files and the use of the policy may be made in either order.
 ghost use Rattle.std.specs.Prelude.{◌≡◌, ◌≤◌, All, IfErr, IfOk, None, OnOk};
 ghost use Rattle.tree_core.specs.Faults.{Gained};
 ghost use Rattle.graph_core.specs.Metadata.{AreRising};
@@ -129,7 +129,7 @@ pub fn list_since<T: Tree, O: Sink, S: Sink, C: Catalog, I: Identifier>(
     Ok(reads)
 }
 
-/// The command `list` of a request: `list_since`, once a look at the words has reported that all of the
+/// The command `list` of a request: `list_since`, once a look at the words has shown that all of the
 /// request is carried.
 pub fn cmd<T: Tree, O: Sink, S: Sink, C: Catalog, I: Identifier>(
     alloc: Global,

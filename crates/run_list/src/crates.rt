@@ -1,5 +1,5 @@
 //! What is listed of crates.
-//! Called by `listing_found` of command; crates and reads may be made in one walk, only memory is refused.
+//! Called by `listing_found` of `command`; crates and reads may be made in one walk, only memory is refused.
 ghost use Rattle.std.specs.Prelude.{◌≡◌, All, IfOk, map};
 ghost use Rattle.graph_core.specs.Metadata.{AreRising};
 ghost use Rattle.run_found.specs.Reads.{reads_gathered};

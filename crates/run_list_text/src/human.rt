@@ -1,5 +1,5 @@
 //! A listing for a person.
-//! Called by `write_crates` and `write_licenses` of listing; a line may be made apart and then appended.
+//! Called by `write_crates` and `write_licenses` of `listing`; a line may be made apart and then appended.
 ghost use Rattle.std.specs.Prelude.{◌≡◌, ◌++◌, IfOk, None, OnOk, ⊤};
 ghost use Rattle.deny_text.specs.Fronts.{StandsInFront};
 ghost use Rattle.run_list_text.specs.Listed.{names_under};

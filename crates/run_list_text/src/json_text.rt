@@ -1,5 +1,5 @@
 //! A listing for a program.
-//! Called by `write_json` of listing; how crates under a licence are found may change, clauses have values.
+//! Called by `write_json` of `listing`; how crates under a licence are found may change, clauses have values.
 ghost use Rattle.std.specs.Prelude.{◌≡◌, IfOk, OnOk, map};
 ghost use Rattle.serde_json.specs.Data.{array};
 ghost use Rattle.serde_json.specs.View.{items_of};

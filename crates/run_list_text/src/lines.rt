@@ -1,5 +1,5 @@
 //! Lines that are written to a sink, one for each item.
-//! Called by listing; `ROOM` and the moments of writing may change, clauses have the whole text alone.
+//! Called by `listing`; `ROOM` and the moments of writing may change, clauses have the whole text alone.
 ghost use Rattle.std.specs.Prelude.{◌≡◌, ◌≤◌, ℕ, All, List, [], ◌++◌, IfErr, OnErr, OnOk};
 ghost use Rattle.std.specs.List.{flat_map};
 ghost use Rattle.deny_text.specs.Fronts.{StandsInFront};

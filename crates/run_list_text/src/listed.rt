@@ -1,5 +1,5 @@
 //! The crates of a listing.
-//! Called by run_list, human, json_text and listing; `has_text` may look from either end.
+//! Called by `run_list`, `human`, `json_text` and `listing`; `has_text` may look from either end.
 ghost use Rattle.std.specs.Prelude.{◌≡◌, ◌↔◌, All, IfOk, IsTrue, OnOk, [], ◌∷◌, ◌++◌, map, option_copied};
 ghost use Rattle.graph_core.specs.Krate.{has_text, record_of};
 ghost use Rattle.graph_core.specs.Metadata.{AreRising};

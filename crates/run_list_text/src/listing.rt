@@ -1,5 +1,5 @@
 //! Which licences the crates of a summary have.
-//! Called by `write_crates` of run_list, `list` by tests; `unlicensed_line` may be made first.
+//! Called by `write_crates` of `run_list`, `list` by tests; `unlicensed_line` may be made first.
 ghost use Rattle.std.specs.Prelude.{◌≤◌, All, IfErr, OnErr, OnOk, map};
 ghost use Rattle.tree_core.specs.Faults.{Gained, GainedPrefix};
 ghost use Rattle.graph_core.specs.Metadata.{AreRising};

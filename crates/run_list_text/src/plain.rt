@@ -1,5 +1,5 @@
 //! Texts in lines and columns.
-//! Called by human and table; a text may be appended byte by byte or in runs, no clause has the pieces.
+//! Called by `human` and `table`; a text may be appended byte by byte or in runs, no clause has the pieces.
 ghost use Rattle.std.specs.Prelude.{◌≡◌, ◌++◌, OnOk};
 ghost use Rattle.deny_text.specs.Fronts.{StandsInFront};
 ghost use Rattle.run_list_text.specs.Listing.{texts_behind, joined_texts, plain_text, plain_byte};

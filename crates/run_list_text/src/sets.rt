@@ -1,5 +1,5 @@
 //! Texts in byte order, each once.
-//! Called by listed; `distinct` may sort and drop repeats in place of a set, its clause has the texts.
+//! Called by `listed`; `distinct` may sort and drop repeats in place of a set, its clause has the texts.
 ghost use Rattle.std.specs.Prelude.{◌≡◌, [], IfOk, OnOk};
 ghost use Rattle.std.specs.List.{fold};
 ghost use Rattle.std.specs.Ordering.{nat_cmp};

@@ -1,5 +1,5 @@
 //! A listing in columns.
-//! Called by `write_table` of listing; a mark may be sought in all licences, the one walk is for speed.
+//! Called by `write_table` of `listing`; a mark may be sought in all licences, the one walk is for speed.
 ghost use Rattle.std.specs.Prelude.{◌≡◌, ◌++◌, IfOk, OnOk};
 ghost use Rattle.deny_text.specs.Fronts.{StandsInFront};
 ghost use Rattle.run_list_text.specs.Listing.{crate_row, head_row, mark_if, marks};

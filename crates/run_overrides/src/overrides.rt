@@ -1,5 +1,5 @@
 //! The overrides that words ask for.
-//! Called by `crates_found` of run_command; `overrides_of` leaves the order of level pairs free.
+//! Called by `crates_found` of `run_command`; `overrides_of` leaves the order of level pairs free.
 ghost use Rattle.std.specs.Prelude.{◌≡◌, ◌++◌, [], ◌∷◌, None, IfErr, IfOk, OnOk};
 ghost use Rattle.std.specs.FinMap.{get, insert};
 ghost use Rattle.diag_core.specs.Code.{code_name};

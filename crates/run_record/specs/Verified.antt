@@ -44,7 +44,7 @@ abbrev pub answer_text : VerifyAnswer → List ℕ
 answer_text Yes = codes "verified\n"
 answer_text (No reason) = codes "not verified: " ++ reason_words reason ++ codes "\n"
 
--- ---- what is reported of a file, by the policy, the licences and the answer to its read, from a count of faults on
+-- ---- the answer about a file, by the policy, the licences and the answer to its read, from a count of faults on
 
 -- it is the spelling of a record, and the answer tells whether that is right
 pub record TellsVerified (crates : VerifiedCrates) (policy : ValidConfig) (licenses : List KrateLicense) (count : ℕ)
@@ -95,7 +95,7 @@ pub record SettlesBy (given : CommandArguments) (path : List ℕ) (tree : TreeSe
   pub written : Gained err.old err.new (load_heard given hearing)
   pub is_so : IsSo policy licenses (faults_after tree.count_before (calls_of given hearing)) answer
 
--- Before the answer is written: it is reported of what was read. So is a refusal, or the command was refused before it
+-- Before the answer is written: it is about what was read. So is a refusal, or the command was refused before it
 -- did its own.
 abbrev pub VerifiesFirst : CommandArguments → List ℕ → TreeSeen → SinkSeen → Result VerifiedCrates Error → Type 0
 VerifiesFirst given path tree err (Ok crates) = SettlesBy given path tree err (Tells (Ok crates))

@@ -1,5 +1,5 @@
 //! The reads of crates' files.
-//! Called by `record_report` of recording; room for all crates may be taken first, their order stays.
+//! Called by `record_report` of `recording`; room for all crates may be taken first, their order stays.
 ghost use Rattle.std.specs.Prelude.{◌≡◌, IfOk, map};
 ghost use Rattle.run_record.specs.Recorded as spec;
 

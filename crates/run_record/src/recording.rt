@@ -1,5 +1,5 @@
 //! The command `record`.
-//! Called by `record_request` of deny_run; a verdict may be copied before its id, the write comes last.
+//! Called by `record_request` of `deny_run`; a verdict may be copied before its id, the write comes last.
 ghost use Rattle.std.specs.Prelude.{◌≡◌, ◌≤◌, Err, IfErr, IfOk, IfSome, None, map};
 ghost use Rattle.std.specs.List.{AllByRecursion};
 ghost use Rattle.spdx_core.specs.Expressions.{IsExpression};

@@ -1,5 +1,5 @@
 //! The command `verify`.
-//! Called by `verify_request` of deny_run; steps may be counted in any ledger, no answer depends on it.
+//! Called by `verify_request` of `deny_run`; steps may be counted in any ledger, no answer depends on it.
 ghost use Rattle.std.specs.Prelude.{◌≡◌, ◌≤◌, ◌<◌, IfErr, IfOk, None, Ok};
 ghost use Rattle.tree_core.specs.texts.Cause.{ReadCounts};
 ghost use Rattle.policy_core.specs.valid.View.{policy_of};
@@ -166,7 +166,7 @@ pub fn verify_since<T: Tree, O: Sink, S: Sink, C: Catalog, I: Identifier>(
     path: &str,
 ) -> Result<VerifiedCrates, Error>
     requires { unsupported_of log_ctx context.now ≡ None }
-    // The answer is reported of the file, the policy and the licences that were read; a refusal comes before
+    // The answer is about the file, the policy and the licences that were read; a refusal comes before
     // the command does its own, or it is that of the file, or of the write.
     ensures verifies { Verifies
         (command_arguments_of (C.lists catalog.now) (I.match_of identifier.now) log_ctx context.now

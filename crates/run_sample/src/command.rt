@@ -1,5 +1,5 @@
 //! The command `sample`.
-//! Called by `answer_request` of deny_run; tree, context and words of the check may be made in any order.
+//! Called by `answer_request` of `deny_run`; tree, context and words of the check may be made in any order.
 ghost use Rattle.std.specs.Prelude.{◌≢◌, ◌≤◌, Err, IfErr, IfOk, OnOk};
 ghost use Rattle.tree_core.specs.Faults.{Gained};
 ghost use Rattle.tree_core.specs.declared.texts.fault.ReadFault.{ReadFault};

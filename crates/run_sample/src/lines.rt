@@ -1,5 +1,5 @@
 //! What is printed of the sample.
-//! Called by `write_lines` of command; the three counts may be made in one walk, their order may not change.
+//! Called by `write_lines` of `command`; the three counts may be made in one walk, their order may not change.
 ghost use Rattle.std.specs.Prelude.{◌≡◌, ◌++◌, string_bytes, IfOk, OnOk};
 ghost use Rattle.std.specs.Prelude.{count_by};
 ghost use Rattle.run_sample.specs.Lines.{count_line, is_accepted, is_rejected, is_unlicensed, sample_lines};

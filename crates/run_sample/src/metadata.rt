@@ -1,5 +1,5 @@
 //! The metadata of the sample.
-//! Called by `put_texts` of tree; pieces may be appended without `format!`, each byte is in a clause.
+//! Called by `put_texts` of `tree`; pieces may be appended without `format!`, each byte is in a clause.
 ghost use Rattle.std.specs.Prelude.{◌≡◌, ◌≤◌, ◌<◌, ◌+◌, ◌*◌, ◌++◌, string_bytes, IfOk, OnOk};
 ghost use Rattle.std.specs.List.{flat_map};
 ghost use Rattle.run_sample.specs.Metadata.{comma_before, edge_text, license_text, node_text, numbers};

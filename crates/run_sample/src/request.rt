@@ -1,5 +1,5 @@
 //! The request that checks the sample.
-//! Called by `report_on` of command; paths may be copied in any order, each value is in a clause.
+//! Called by `report_on` of `command`; paths may be copied in any order, each value is in a clause.
 ghost use Rattle.std.specs.Prelude.{◌≡◌, IfOk};
 ghost use Rattle.run_sample.specs.Request.{sample_args, sample_context, sample_log};
 

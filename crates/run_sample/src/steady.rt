@@ -1,5 +1,5 @@
 //! A tree of which no call fails, and a sink that refuses nothing.
-//! Called by `report_on` of command; any tree may be inside of which no call is named to fail.
+//! Called by `report_on` of `command`; any tree may be inside of which no call is named to fail.
 ghost use Rattle.std.specs.Prelude.{◌≡◌, [], None, Some};
 
 use deny_text::Bytes;

@@ -1,5 +1,5 @@
 //! The files of the sample.
-//! Called by `report_on` of command; a path may be made by any code, the order of the files is in a clause.
+//! Called by `report_on` of `command`; a path may be made by any code, the order of the files is in a clause.
 ghost use Rattle.std.specs.Prelude.{◌≡◌, ◌≤◌, ◌<◌, [], string_bytes, IfOk, OnOk};
 ghost use Rattle.std.specs.List.{fold};
 ghost use Rattle.tree_core.specs.Content.{resolve};

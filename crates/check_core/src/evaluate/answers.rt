@@ -1,5 +1,5 @@
 //! Whether an expression is accepted, from its nodes and what was found for its terms.
-//! Called by `evaluate` of evaluator; `&&` and `||` may be asked in any way, both answers are off the list.
+//! Called by `evaluate` of `evaluator`; `&&` and `||` may be asked in any way, both answers are off the list.
 ghost use Rattle.std.specs.Prelude.{◌≡◌, ◌+◌, ◌<◌, ◌≤◌, [], false, length, reverse, vec_len, vec_capacity};
 ghost use Rattle.spdx_core.specs.certificates.Certificates.{has_hit as has_hit_at};
 ghost use Rattle.spdx_core.specs.certificates.Stack.{first_of, behind_first};

@@ -1,5 +1,5 @@
 //! Where the entries of each licence family are in a policy.
-//! Called by evaluator, hits and check_verify; the two indexes may be made in either order.
+//! Called by `evaluator`, `hits` and `check_verify`; the two indexes may be made in either order.
 ghost use Rattle.std.specs.Prelude.{◌≡◌, map, IfOk};
 ghost use Rattle.spdx_terms.specs.families.Places.{places_in};
 ghost use Rattle.policy_core.specs.valid.View.{req_of, grant_of, policy_of};

@@ -1,5 +1,5 @@
 //! Evaluators.
-//! Called by crate_check; both lists may have more room than `nodes`, which the invariant bounds below.
+//! Called by `crate_check`; both lists may have more room than `nodes`, which the invariant bounds below.
 ghost use Rattle.std.specs.Prelude.{◌≡◌, ◌+◌, ◌≤◌, [], map, length, IfOk};
 ghost use Rattle.graph_core.specs.Krate.{record_of};
 ghost use Rattle.spdx_core.specs.Reading.{postfix};

@@ -1,5 +1,5 @@
 //! What allows the terms of an expression.
-//! Called by `evaluate` and check_verify; fewer entries may be asked, as steps have an upper bound alone.
+//! Called by `evaluate` and `check_verify`; fewer entries may be asked, as steps have an upper bound alone.
 ghost use Rattle.std.specs.Prelude.{◌≡◌, ◌+◌, ◌≤◌, Bool, false, map, length, Some};
 ghost use Rattle.std.specs.Prelude.{option_map, slice_get, vec_capacity};
 ghost use Rattle.std.specs.Option.{option_map_or};

@@ -1,5 +1,5 @@
 //! Whether a policy passes over a crate.
-//! Called by `judge` of crate_check; registries and addresses may be asked in either order.
+//! Called by `judge` of `crate_check`; registries and addresses may be asked in either order.
 ghost use Rattle.std.specs.Prelude.{◌≡◌, ◌↔◌, true, map, IsTrue, IfOk, Any};
 ghost use Rattle.std.specs.List.{list_all, list_any};
 ghost use Rattle.graph_core.specs.source.Matching.{Matches};

@@ -1,5 +1,5 @@
 //! Vectors that have room, so that they take no memory.
-//! Called by answers and hits; any append serves that needs no memory where there is room.
+//! Called by `answers` and `hits`; any append serves that needs no memory where there is room.
 ghost use Rattle.std.specs.Prelude.{◌≡◌, ◌+◌, ◌<◌, ◌≤◌, [], ◌∷◌, ◌++◌, vec_len, vec_capacity};
 
 /// Appends an item, for which there is room.

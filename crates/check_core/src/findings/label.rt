@@ -1,5 +1,5 @@
 //! The labels of an expression: the whole, and then each term.
-//! Called by `judged` of told; how a message is put together may change, the order of labels may not.
+//! Called by `judged` of `told`; how a message is put together may change, the order of labels may not.
 ghost use Rattle.std.specs.Prelude.{◌≡◌, ◌++◌, IfOk, OnOk, All, length};
 ghost use Rattle.spdx_core.specs.certificates.Certificates as certificates;
 ghost use Rattle.check_core.specs.findings.Findings as spec;

@@ -1,5 +1,5 @@
 //! The pack of a crate.
-//! Called by `skip` and `tell` of crate_check; gathered findings may be moved at once, their order stays.
+//! Called by `skip` and `tell` of `crate_check`; gathered findings may be moved at once, their order stays.
 ghost use Rattle.std.specs.Prelude.{◌≡◌, ◌++◌, ◌∷◌, [], IfOk, OnOk, map};
 ghost use Rattle.graph_core.specs.Krate.{record_of};
 ghost use Rattle.diag_core.specs.Pack.{with_crate};

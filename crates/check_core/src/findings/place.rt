@@ -1,5 +1,5 @@
 //! Places in the text of an expression, as places in its file.
-//! Called by label, and `fits` by tests_check; the sums may be made in any way, `requires` bounds them.
+//! Called by `label`, and `fits` by `tests_check`; the sums may be made in any way, `requires` bounds them.
 ghost use Rattle.std.specs.Prelude.{◌≡◌, ◌↔◌, IsTrue};
 ghost use Rattle.check_core.specs.findings.Places as spec;
 ghost use Rattle.check_core.specs.findings.Places.{PlaceFits, SpanFits};

@@ -1,5 +1,5 @@
 //! What an expression was retrieved via, in words.
-//! Called by `whole_label` of label; room for the paths may be taken first, the words are in a clause.
+//! Called by `whole_label` of `label`; room for the paths may be taken first, the words are in a clause.
 ghost use Rattle.std.specs.Prelude.{◌≡◌, ◌++◌, IfOk, OnOk, string_bytes, codes};
 ghost use Rattle.check_core.specs.findings.Sources as spec;
 ghost use Rattle.check_core.specs.findings.Sources.{with_commas};

@@ -1,5 +1,5 @@
 //! The verdict on a crate, as a finding.
-//! Called by crate_check, and `finding` by unused; notes may be copied before the labels are made.
+//! Called by `crate_check`, and `finding` by `unused`; notes may be copied before the labels are made.
 ghost use Rattle.std.specs.Prelude.{◌≡◌, IfOk, length};
 ghost use Rattle.graph_core.specs.Krate.{record_of};
 ghost use Rattle.check_core.specs.findings.Findings as spec;

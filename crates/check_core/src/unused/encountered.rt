@@ -1,5 +1,5 @@
 //! Which entries of a policy are hits.
-//! Called by crate_check and read by unused; hits may be marked in any order, a flag is never unset.
+//! Called by `crate_check` and read by `unused`; hits may be marked in any order, a flag is never unset.
 ghost use Rattle.std.specs.Prelude.{◌≡◌, ◌++◌, [], List, IfOk, slice_set, true};
 ghost use Rattle.std.specs.List.{fold};
 ghost use Rattle.spdx_core.specs.declared.certificates.verdict.Hit.{Hit};

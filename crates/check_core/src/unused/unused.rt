@@ -1,5 +1,5 @@
 //! The last pack: what of a policy no crate needed.
-//! Called by `finish` of crate_check; flags may be looked up in any way, the order of findings is fixed.
+//! Called by `finish` of `crate_check`; flags may be looked up in any way, the order of findings is fixed.
 ghost use Rattle.std.specs.Prelude.{◌≡◌, ◌∷◌, [], List, IfOk, OnOk, map, if◌then◌else◌};
 ghost use Rattle.spdx_core.specs.declared.certificates.verdict.Hit.{Hit};
 ghost use Rattle.check_core.specs.unused.Flags.{flag_at, flags_by, unused_pack, with_more};

@@ -1,5 +1,5 @@
 //! The catalogue and the licence texts that a request asks for.
-//! Called by `own_lists` of run_command; `?` may replace a `match`, catalogue before texts is in a clause.
+//! Called by `own_lists` of `run_command`; `?` may replace a `match`, catalogue before texts is in a clause.
 ghost use Rattle.std.specs.Prelude.{◌≡◌, Some, IfErr};
 ghost use Rattle.std.specs.Option.{option_copied};
 ghost use Rattle.tree_core.specs.texts.Cause.{ReadCounts};
