@@ -17,7 +17,7 @@ use Rattle.diag_core.specs.File.{File, source_of_file}
 use Rattle.diag_core.specs.Overrides.{finding_at_level, pack_overridden}
 use Rattle.diag_core.specs.Pack.{PackOf, with_crate}
 use Rattle.gather_core.specs.findings.Cuts.{LabelLies, labels_of}
-use Rattle.gather_core.specs.findings.License.{InfoStands, PlaceLies}
+use Rattle.gather_core.specs.findings.License.{InfoStands, PlaceLies, StandsIn}
 use Rattle.gather_core.specs.declared.findings.license.LicenseExprInfo.{LicenseExprInfo}
 use Rattle.gather_core.specs.declared.findings.license.LicenseInfo.{LicenseInfo}
 use Rattle.gather_core.specs.declared.findings.license.LicenseInfo.TheVariants.{SpdxExpression, Unlicensed}
@@ -32,13 +32,13 @@ use Rattle.check_core.specs.unused.Unused.{last_pack, unused_findings}
 use Rattle.check_core.proofs.unused.LawLemmas.{labels_lie}
 use Rattle.check_core.specs.findings.Findings as findings
 use Rattle.check_core.specs.findings.Laws.{term_text}
-use Rattle.check_core.specs.findings.Places.{LabelPoints, PointsBy}
+use Rattle.check_core.specs.findings.Places.{FitsBy, LabelPoints, PointsBy}
 use Rattle.check_core.proofs.findings.PointLemmas.{labels_point}
 use Rattle.check_core.specs.Check.{HasFront, all_hits, findings_of, sink_with_packs, packs_of}
 use Rattle.check_core.specs.Labels.{FindingLies, GainLies, InfoPoints, PackLies, VerdictPoints}
 use Rattle.check_core.specs.declared.report.CrateReport.{CrateReport}
 use Rattle.check_core.specs.Reports.{verdicts_of}
-use Rattle.check_core.specs.Summary.{IsExpressionIn, gathered_of_licenses, gathered_of_license}
+use Rattle.check_core.specs.Summary.{InfoFits, IsExpressionIn, gathered_of_licenses, gathered_of_license}
 use Rattle.check_core.specs.Turns.{GatheredCrate, findings_by, pack_by, verdict_finding}
 use Rattle.check_core.specs.Verdicts.{is_skipped}
 
@@ -203,6 +203,19 @@ any_gain files policy licenses old new (Ok reports) placed points packs front li
 any_gain files policy licenses old new (Err error) placed points packs front lie = front_gain files policy licenses old new placed points front
 
 -- ---- where an expression is
+
+fits_by : (files : List File) (file start : ℕ) (text : List ℕ) (whole : Option Span) → StandsIn files file start whole text → FitsBy (start + length text) whole
+fits_by files file start text None stands = stands.fits
+fits_by files file start text (Some whole) stands = tt
+
+info_fits : (files : List File) (info : LicenseInfo) → InfoStands files info → InfoFits info
+info_fits files Unlicensed stands = tt
+info_fits files (SpdxExpression expression nfo) stands = fits_by files nfo.file_id nfo.offset expression.text nfo.whole stands
+
+-- each place of each expression is one of 64 bits
+pub all_fit : (files : List File) (licenses : List KrateLicense) → All (IsPlacedAt files) licenses → All (λ (license : KrateLicense). InfoFits license.lic_info) licenses
+all_fit files licenses placed =
+    All-weaker (IsPlacedAt files) (λ (license : KrateLicense). InfoFits license.lic_info) (λ license placed. info_fits files license.lic_info placed.expression) licenses placed
 
 info_points : (files : List File) (policy : Policy) (krate : CrateRecord) (info : LicenseInfo) → IsExpressionIn info → InfoStands files info → InfoPoints files policy krate info
 info_points files policy krate Unlicensed facts stands = tt

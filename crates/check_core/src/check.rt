@@ -1,10 +1,8 @@
 //! The check of all crates.
 //! Called by `judge_and_report` of `run_check`; more room than the largest expression needs may be taken.
 ghost use Rattle.std.specs.Prelude.{◌≡◌, ◌+◌, ◌<◌, ◌≤◌, [], ◌∷◌, All, Bool, IfOk, OnOk, OnErr, List};
-ghost use Rattle.std.specs.Prelude.{length, map};
-ghost use Rattle.std.specs.Option.{option_map_or};
+ghost use Rattle.std.specs.Prelude.{map};
 ghost use Rattle.spdx_core.specs.declared.certificates.verdict.Hit.{Hit};
-ghost use Rattle.diag_core.specs.File.{source_of_file};
 ghost use Rattle.diag_core.specs.Overrides.{pack_overridden};
 ghost use Rattle.policy_core.specs.valid.View.{policy_of};
 ghost use Rattle.check_core.specs.evaluate.Entries.{entry_families};
@@ -13,8 +11,6 @@ ghost use Rattle.check_core.specs.evaluate.Private.{private_numbers};
 ghost use Rattle.check_core.specs.unused.Flags.{flags_by};
 ghost use Rattle.check_core.specs.unused.Laws.{EntriesLie};
 ghost use Rattle.check_core.specs.unused.Unused as unused;
-ghost use Rattle.check_core.specs.findings.Places.{PlaceFits};
-ghost use Rattle.gather_core.specs.findings.License.{InfoStands, Stands};
 ghost use Rattle.gather_core.specs.Premises.{IsPlacedAt};
 ghost use Rattle.check_core.specs.Check.{AreVerdicts, HasFront, all_hits, findings_of, sink_with_packs, packs_of};
 ghost use Rattle.check_core.specs.Labels.{GainLies, PackLies, VerdictPoints};
@@ -26,11 +22,10 @@ ghost use Rattle.check_core.specs.Summary.{InfoFits, IsExpressionIn, gathered_of
 use crate::crate_check::Checker;
 use crate::report::CrateReports;
 use deny_text::Steps;
-use diag_core::{ErrorSink, FileId, Files, LevelFilter};
-use gather_core::{KrateLicense, KrateLicenses, LicenseExprInfo, LicenseInfo, Summary};
+use diag_core::{ErrorSink, Files, LevelFilter};
+use gather_core::{KrateLicense, KrateLicenses, LicenseInfo, Summary};
 use graph_core::selection::Krates;
 use policy_core::valid::ValidConfig;
-use spdx_core::Expression;
 use std::alloc::{AllocError, Global};
 use std::marker::Brand;
 use std::sync::ledger::{Blank, Ledger};
@@ -78,41 +73,11 @@ fn most_nodes(licenses: &[KrateLicense<'_>]) -> usize
     most
 }
 
-/// The length of a file's text, which is a number of 64 bits; 0 where there is no such file.
-fn length_in(files: &Files, id: FileId) -> usize
-    ensures { result ≡ option_map_or length (source_of_file files.now id) 0 }
-{
-    match files.source(id) {
-        Ok(text) => text.len(),
-        Err(_) => 0,
-    }
-}
-
-/// The text of an expression that is in its file fits there, since the file's text is at least as long.
-fn text_fits(files: &Files, expr: &Expression, nfo: &LicenseExprInfo)
-    requires { Stands files.now nfo.now expr.now.text }
-    ensures { PlaceFits nfo.now (length expr.now.text) }
-{
-    let _length = length_in(files, nfo.file_id);
-}
-
-/// So it does of a licence.
-fn info_fits(files: &Files, info: &LicenseInfo)
-    requires { InfoStands files.now info.now }
-    ensures { InfoFits info.now }
-{
-    match info {
-        LicenseInfo::SpdxExpression { expr, nfo } => text_fits(files, expr, nfo),
-        LicenseInfo::Unlicensed => {}
-    }
-}
-
 /// The reports on crates, one after another.
 #[tactic(auto, using(crate::proofs::CheckLemmas::has_front, crate::proofs::CheckLemmas::nothing_gained))]
 fn judge_in_order<L: Ledger>(
     alloc: Global,
     policy: &ValidConfig,
-    files: &Files,
     checker: &mut Checker,
     licenses: KrateLicenses<'_>,
     sink: &mut ErrorSink,
@@ -123,7 +88,7 @@ fn judge_in_order<L: Ledger>(
     requires families { entry_families (policy_of policy.now) ≡ checker.old.families }
     requires private { private_numbers (policy_of policy.now) ≡ checker.old.private }
     requires flags { checker.old.flags ≡ flags_by policy.now [] }
-    requires placed { All (IsPlacedAt files.now) licenses }
+    requires fits { All (λ license. InfoFits license.lic_info) licenses }
     ensures verdicts { IfOk result (λ reports.
         AreVerdicts (policy_of policy.now) (gathered_of_licenses licenses.entry) (verdicts_of reports)) }
     ensures reports { IfOk result (λ reports. reports ≡ reports_of licenses.entry (verdicts_of reports)) }
@@ -140,7 +105,6 @@ fn judge_in_order<L: Ledger>(
 {
     let mut reports = CrateReports::new(alloc);
     'licenses: for license in licenses.into_vec() {
-        info_fits(files, &license.lic_info);
         let judged = checker.judge(alloc, policy, license, steps)?;
         reports.push(judged.report)?;
         sink.push(judged.pack)?;
@@ -169,14 +133,13 @@ fn tell_unused(
 fn judge_with_room<L: Ledger>(
     alloc: Global,
     policy: &ValidConfig,
-    files: &Files,
     licenses: KrateLicenses<'_>,
     nodes: usize,
     sink: &mut ErrorSink,
     steps: &mut Steps<L>,
 ) -> Result<CrateReports, AllocError>
     requires room { All (λ license. spec.nodes_in license.lic_info ≤ nodes) licenses }
-    requires placed { All (IsPlacedAt files.now) licenses }
+    requires fits { All (λ license. InfoFits license.lic_info) licenses }
     ensures verdicts { IfOk result (λ reports.
         AreVerdicts (policy_of policy.now) (gathered_of_licenses licenses.entry) (verdicts_of reports)) }
     ensures reports { IfOk result (λ reports. reports ≡ reports_of licenses.entry (verdicts_of reports)) }
@@ -190,7 +153,7 @@ fn judge_with_room<L: Ledger>(
         → steps.new ≤ steps.old + entries_of_all (policy_of policy.now) asked passed }
 {
     let mut checker = Checker::with_room(alloc, nodes, policy)?;
-    let reports = judge_in_order(alloc, policy, files, &mut checker, licenses, sink, steps)?;
+    let reports = judge_in_order(alloc, policy, &mut checker, licenses, sink, steps)?;
     tell_unused(alloc, policy, &checker, sink)?;
     Ok(reports)
 }
@@ -199,6 +162,7 @@ fn judge_with_room<L: Ledger>(
 /// order, and then always one of the policy's entries that allow no term, which may be empty. Where memory is
 /// refused the sink has the packs of some first crates. A step is counted for each entry that is asked for a term:
 /// those of the term's family, in the crate's exception and in what is allowed, at most once each.
+#[tactic(auto, using(crate::proofs::LabelLemmas::all_fit))]
 pub fn check<L: Ledger>(
     alloc: Global,
     ctx: &CheckCtx<'_, ValidConfig>,
@@ -223,7 +187,7 @@ pub fn check<L: Ledger>(
         → steps.new ≤ steps.old + entries_of_all (policy_of ctx.now.cfg) asked passed }
 {
     let nodes = most_nodes(summary.nfos.items());
-    judge_with_room(alloc, &ctx.cfg, ctx.files, summary.nfos, nodes, sink, steps)
+    judge_with_room(alloc, &ctx.cfg, summary.nfos, nodes, sink, steps)
 }
 
 /// The same, into a sink that holds no packs yet, with its steps counted in a ledger that is handed in.

@@ -81,7 +81,7 @@ part_cut files file start text span ordered starts ends points =
 part_points : (files : List File) (file start : ℕ) (text : List ℕ) (span : Span) → span.start ≤ span.end → IsCharBoundary text span.start → IsCharBoundary text span.end
     → (whole : Option Span) → StandsIn files file start whole text
     → PointsBy files file (span_by start span whole) (slice_range text span.start span.end) whole
-part_points files file start text span ordered starts ends None stands = part_cut files file start text span ordered starts ends stands
+part_points files file start text span ordered starts ends None stands = part_cut files file start text span ordered starts ends stands.points
 part_points files file start text span ordered starts ends (Some whole) stands = (stands, refl)
 
 -- the text as a whole
@@ -89,7 +89,7 @@ whole_points : (files : List File) (file start : ℕ) (text : List ℕ) (whole :
     → PointsBy files file (span_by start (all_of text) whole) text whole
 whole_points files file start text None stands =
     let none_more : start + 0 ≡ start = omega arith in
-    subst (λ (n : ℕ). PointsAt files (record { file = file; span = record { start = n; end = start + length text } }) text) (sym none_more) stands
+    subst (λ (n : ℕ). PointsAt files (record { file = file; span = record { start = n; end = start + length text } }) text) (sym none_more) stands.points
 whole_points files file start text (Some whole) stands = (stands, refl)
 
 term_points : (files : List File) (nfo : LicenseExprInfo) (text : List ℕ) (place : ℕ) (term : ExpressionReq) (hit : Option Hit) → Stands files nfo text → LiesFrom text place term.span
