@@ -125,7 +125,12 @@ impl Pack {
             && diag.graph_nodes.items().is_empty()
         {
             let kid = Text::copy(self.alloc, kid.as_str())?;
-            diag.graph_nodes.push(GraphNode { kid, feature: None })?;
+            let mut nodes = Vec::with_capacity(self.alloc, 1)?;
+            nodes.push(GraphNode { kid, feature: None })?;
+            diag.graph_nodes = GraphNodes::from(nodes);
+        }
+        if self.findings.is_empty() {
+            self.findings.reserve_exact(1)?;
         }
         self.findings.push(diag)?;
         Ok(())

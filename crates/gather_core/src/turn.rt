@@ -46,12 +46,14 @@ pub(crate) fn joined<T: Drop>(front: ListOf<T>, back: ListOf<T>) -> Result<ListO
 fn reads_of(alloc: Global, read: Option<ReadRecord>) -> Result<Reads, AllocError>
     ensures { IfOk result (λ reads. reads ≡ option_to_list read) }
 {
-    let mut reads = Reads::new(alloc);
     match read {
-        Some(read) => reads.push(read)?,
-        None => {}
+        Some(read) => {
+            let mut reads = Vec::with_capacity(alloc, 1)?;
+            reads.push(read)?;
+            Ok(Reads::from(reads))
+        }
+        None => Ok(Reads::new(alloc)),
     }
-    Ok(reads)
 }
 
 /// Where a crate's field is, where it has one; else its manifest is not asked for.

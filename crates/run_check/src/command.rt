@@ -84,7 +84,7 @@ pub fn report_since<T: Tree, S: Sink, C: Catalog, I: Identifier>(
         alloc,
         found.policy,
         found.overrides,
-        &found.krates,
+        found.krates,
         &mut files,
         tree,
         catalog,

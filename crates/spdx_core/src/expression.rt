@@ -70,6 +70,7 @@ impl Expression {
     {
         let mut reader = read_text(alloc, text, mode, catalog)?;
         reader.finish()?;
+        reader.terms.shrink_to_fit();
         let text = Text::copy(alloc, text)?;
         Ok(Expression {
             text,

@@ -308,7 +308,7 @@ impl Rows for PolicyRows {
             "lint level" => put_as::<LintLevel>(alloc, text, out),
             "left out" if text == "agreement" => BlanketAgreement::default().put(out),
             "left out" => LintLevel::default().put(out),
-            "licensee" => put_as::<Licensee>(alloc, text, out),
+            "licensee entry" => put_as::<Licensee>(alloc, text, out),
             "exception" => put_as::<Exception>(alloc, text, out),
             "exceptions file" => put_as::<ExceptionsFile>(alloc, text, out),
             "clarification" => put_as::<Clarification>(alloc, text, out),

@@ -24,7 +24,7 @@ impl Rows for Specs {
             "specs in values" | "specs in values with further keys" => put_read(
                 alloc, out, group, text, 0,
             ),
-            "widened" | "narrowed" | "order" | "printed" | "matches" | "index" => {
+            "widened" | "narrowed" | "order of specs" | "printed specs" | "matches" | "index" => {
                 if put_made(alloc, out, group, text).is_err() {
                     out.want_memory();
                 }
@@ -118,7 +118,7 @@ fn put_made(
     let (text, behind) = text.split_once(" | ").unwrap_or((text, ""));
     match group {
         "widened" | "narrowed" => put_converted(alloc, out, text),
-        "order" | "printed" => put_compared(alloc, out, text, behind),
+        "order of specs" | "printed specs" => put_compared(alloc, out, text, behind),
         _ => put_found(alloc, out, group, text, behind),
     }
 }

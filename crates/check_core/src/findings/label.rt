@@ -92,9 +92,10 @@ pub(crate) fn labels(
     requires { PlaceFits nfo.now (length expression.now.text) }
     ensures { IfOk result (λ labels. labels ≡ verdict_labels expression.now nfo.now hits.now) }
 {
-    let mut labels = Labels::new(alloc);
+    let terms = expression.requirements();
+    let mut labels = Labels::from(Vec::with_capacity(alloc, terms.len() + 1)?);
     let whole = whole_label(alloc, nfo, expression.as_ref())?;
     labels.push(whole)?;
-    push_terms(alloc, &mut labels, nfo, expression.requirements(), hits)?;
+    push_terms(alloc, &mut labels, nfo, terms, hits)?;
     Ok(labels)
 }

@@ -76,7 +76,7 @@ fn put<T: Drop>(list: &mut Vec<T>, item: T, wanted: bool) -> Result<(), AllocErr
 fn crates_kept(alloc: Global, crates: Vec<Krate>, marks: &[bool]) -> Result<Vec<Krate>, AllocError>
     ensures { IfOk result (λ left. left.items ≡ spec.marked_items crates.items marks.now) }
 {
-    let mut left = Vec::new(alloc);
+    let mut left = Vec::with_capacity(alloc, crates.len())?;
     'crates: for (krate, mark) in crates.into_iter().zip(marks.iter()) {
         put(&mut left, krate, *mark)?;
     }
