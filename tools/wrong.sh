@@ -18,4 +18,4 @@ for edit in "$here/crates/$name"/must-fail/*.edit "$here/crates/$name"/wrong/*.e
     [ ! -f "$edit" ] || cp "$edit" "$room/crates/$name/must-fail/"
 done
 cd "$room"
-rt ci "$name"
+rt ci
