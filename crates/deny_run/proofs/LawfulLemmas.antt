@@ -91,7 +91,7 @@ module _ (lists : CatalogLists) (match_of : List ℕ → Match) (request : Reque
   request_lawful (Sample size) ends options is lawful = tt
   request_lawful Record runs options is lawful =
       run_lawful Recorded _ RecordsAs seen answer runs IsWanting (λ error may. may) (λ own rest is_done. records_made seen.out seen.err own rest runs.value is_done)
-      (λ own rest apart is_done. wanting_end runs.value (writes_lawful own rest seen.err seen.out (IsRecorded own) file_in reads_in apart err_quiet out_quiet runs.value is_done)) (at_options _ options is lawful)
+      (λ own rest apart is_done. wanting_end runs.value (writes_lawful own rest seen.err seen.out (IsRecorded own) file_in reads_in apart err_quiet out_quiet runs.value is_done.0)) (at_options _ options is lawful)
   request_lawful (Verify path) runs options is lawful =
       run_lawful Verified _ (VerifiesAs path) seen answer runs MayEndVerify verify_wanting (λ own rest is_done. verifies_made own path rest seen.err seen.out runs.value is_done)
       (λ own rest apart is_done. verifies_lawful own path rest seen.err seen.out apart out_quiet err_quiet runs.value is_done) (at_options _ options is lawful)

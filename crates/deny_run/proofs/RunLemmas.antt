@@ -47,7 +47,7 @@ lists_made args out err own tree value lists =
     writes_made own tree err out (IsListing (record { command = own; args = args })) (λ listing. listing_text (record { command = own; args = args }) listing.crates) (λ listing. listing.reads) value lists
 
 pub records_made : (out err : SinkSeen) (own : CommandArguments) (tree : TreeSeen) (value : Result (List CrateRead) Error) → RecordsAs out err own tree value → HasMade tree
-records_made out err own tree value records = writes_made own tree err out (IsRecorded own) file_in reads_in value records
+records_made out err own tree value records = writes_made own tree err out (IsRecorded own) file_in reads_in value records.0
 
 module _ {X : Type 0} (end_by : X → RunEnd) (asked : CommandRequest) (IsDone : SinkSeen → SinkSeen → CommandArguments → TreeSeen → Result X Error → Type 0) (seen : RunSeen) (answer : Result RunEnd Error)
     (runs : RunsAs end_by asked IsDone seen answer) where
@@ -103,7 +103,7 @@ module _ (lists : CatalogLists) (match_of : List ℕ → Match) (request : Reque
       (λ own rest done.
       writes_never own rest seen.err seen.out (IsListing (record { command = own; args = args })) (λ listing. listing_text (record { command = own; args = args }) listing.crates) (λ listing. listing.reads) done)
   request_never (Sample size) ends = λ e. sample_never size ends.value ends.is_so.1 (refused_as Sampled sampled_apart ends.value (ConfigRead Absent) (sym (ap end_of ends.is) ∙ e))
-  request_never Record runs = run_never Recorded _ RecordsAs seen answer runs recorded_apart (λ own rest done. writes_never own rest seen.err seen.out (IsRecorded own) file_in reads_in done)
+  request_never Record runs = run_never Recorded _ RecordsAs seen answer runs recorded_apart (λ own rest done. writes_never own rest seen.err seen.out (IsRecorded own) file_in reads_in done.0)
   request_never (Verify path) runs = run_never Verified _ (VerifiesAs path) seen answer runs verified_apart (λ own rest done. verifies_never own path rest seen.err seen.out done)
 
   pub request_ends : (command : Subcommand) → Answers lists match_of request command seen answer → (own : RunEnd) (error : Error) → answer ≡ Ok own → own ≡ Refused error → ⊥

@@ -9,10 +9,11 @@ use Rattle.run_request.specs.declared.request.Request.{Request}
 use Rattle.run_request.specs.declared.request.Subcommand.{Subcommand}
 use Rattle.run_request.specs.declared.request.Subcommand.TheVariants.{Check, List as Listing, Sample, Record, Verify}
 use Rattle.run_found.specs.declared.error.Error.{Error}
+use Rattle.run_found.specs.declared.error.Error.TheVariants.{Memory}
 use Rattle.run_found.specs.declared.reads.CrateRead.{CrateRead}
 use Rattle.run_found.specs.Error.{cause_of}
 use Rattle.run_found.specs.Hearing.{TreeSeen}
-use Rattle.run_found.specs.Written.{SinkSeen}
+use Rattle.run_found.specs.Written.{IsSilent, SinkSeen}
 use Rattle.run_command.specs.Carried.{plain_options}
 use Rattle.run_command.specs.Given.{CommandArguments, CommandRequest, command_asked}
 use Rattle.run_command.specs.Prelude.{IsUntouched, Runs}
@@ -58,13 +59,13 @@ RunsAs {X} end_by asked IsDone seen answer =
     IsEndBy end_by
     (λ (value : Result X Error). Runs asked (IsDone seen.out seen.err) seen.tree seen.err seen.out value) answer
 
--- so a listing, a verdict file, and whether one is right
+-- so a listing, a verdict file, of which nothing is written where memory was wanting, and whether one is right
 abbrev pub ListsAs : ListArgs → SinkSeen → SinkSeen → CommandArguments → TreeSeen → Result (List CrateRead) Error
     → Type 0
 ListsAs args out err own tree value = Lists (record { command = own; args = args }) tree err out value
 
 abbrev pub RecordsAs : SinkSeen → SinkSeen → CommandArguments → TreeSeen → Result (List CrateRead) Error → Type 0
-RecordsAs out err own tree value = Records own tree err out value
+RecordsAs out err own tree value = Records own tree err out value × (value ≡ Err Memory → IsSilent out)
 
 abbrev pub VerifiesAs : List ℕ → SinkSeen → SinkSeen → CommandArguments → TreeSeen → Result VerifiedCrates Error
     → Type 0

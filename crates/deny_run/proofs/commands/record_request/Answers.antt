@@ -20,7 +20,7 @@ pub returns-in-Ok-clause-runs : goal.returns-in-Ok-clause-runs
 returns-in-Ok-clause-runs g c =
     let options = plain_options c.args.request.now.log_ctx c.args.request.now.krate_ctx in
     let had = lists_given (lists_chosen g.C.Catalog.lists c.in-Ok.found.catalog) (texts_chosen g.I.Identifier.match_of c.in-Ok.found.identifier) in
-    came (g.T.Tree.content c.lists_of_request.new.tree) (g.T.Tree.fault_count c.lists_of_request.new.tree) (g.T.Tree.trace c.lists_of_request.new.tree) had (c.in-Ok.ensures.comes options (sym c.unsupported_in-unsupported.ensures)) c.record_since.ensures.records
+    came (g.T.Tree.content c.lists_of_request.new.tree) (g.T.Tree.fault_count c.lists_of_request.new.tree) (g.T.Tree.trace c.lists_of_request.new.tree) had (c.in-Ok.ensures.comes options (sym c.unsupported_in-unsupported.ensures)) (c.record_since.ensures.records, c.record_since.ensures.silent)
 
 pub returns-in-Ok-clause-counts : goal.returns-in-Ok-clause-counts
 returns-in-Ok-clause-counts g c =
