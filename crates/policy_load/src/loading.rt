@@ -1,7 +1,8 @@
 //! The load of a policy.
-ghost use Rattle.std.specs.Prelude.{◌≡◌, ◌≢◌, ◌≤◌, ◌⊎◌, ◌++◌, ◌∷◌, [], length, map, None, Some, Err};
+ghost use Rattle.std.specs.Prelude.{◌≡◌, ◌≢◌, ◌^◌, ◌<◌, ◌≤◌, ◌⊎◌, ◌++◌, ◌∷◌, [], length, map, None, Some, Err};
 ghost use Rattle.std.specs.Prelude.{IfOk, IfErr, OnOk, OnErr};
 ghost use Rattle.std.specs.Option.{ForSome, option_and_then, option_copied};
+ghost use Rattle.std.specs.Str.{IsUtf8};
 ghost use Rattle.tree_core.specs.Faults.{Gained, GainedPrefix};
 ghost use Rattle.tree_core.specs.Hearing.{MadeSome};
 ghost use Rattle.tree_core.specs.texts.Cause.{ReadCounts, heard_cause};
@@ -9,7 +10,6 @@ ghost use Rattle.tree_core.specs.declared.texts.fault.ReadFault.{ReadFault};
 ghost use Rattle.diag_core.specs.File.{Grows, file_id_at};
 ghost use Rattle.policy_core.specs.text.Config as config;
 ghost use Rattle.policy_core.specs.Exceptions.{shape_diagnostic};
-ghost use Rattle.policy_core.specs.Heard.{IsFileText};
 ghost use Rattle.policy_core.specs.Places.{IsConfigPlaced, PointInto, PolicyStands};
 ghost use Rattle.policy_core.specs.Policy.{absence_findings};
 ghost use Rattle.policy_load.specs.Answer.{Comes, EndsLoad, IsBehindRead, IsUnprinted};
@@ -86,6 +86,7 @@ fn add_policy(
     requires { file_id_at files.old (policy_name path.now) ≡ None }
     ensures number { IfOk result (λ id. id ≡ length files.old) }
     ensures ok { OnOk result (files.new ≡ files.old ++ policy_file path.now text ∷ []) }
+    ensures fits { OnOk result (length text < 2 ^ 64) }
     ensures err { OnErr result (files.new ≡ files.old) }
 {
     let name = name_of(alloc, path)?;
@@ -314,10 +315,8 @@ fn load_root<T: Tree, S: Sink, C: Catalog>(
 fn read_text<C: Catalog>(alloc: Global, text: &str, catalog: &C) -> Result<RootConfig, ConfigError>
     ensures told { config.AnswersConfig (config.config_of_text (C.lists catalog.now) text.now) result }
     ensures of_text { IfErr result config.IsOfText }
-    ensures text { IsFileText text.now }
+    ensures utf8 { IsUtf8 text.now }
 {
-    // How long a text is, and so that a number counts it, is known once it was asked.
-    let _length = text.len();
     read_config(alloc, text, catalog)
 }
 

@@ -26,9 +26,12 @@ place_lies files file span lies =
 stands_in : (files : List File) (file start : ℕ) (whole : Option Span) (words : List ℕ) → ExpressionStands files file whole start words → StandsIn files file start whole words
 stands_in files file start (Some place) words lies = place_lies files file place lies
 stands_in files file start None words stands = record {
-  source = stands.text;
-  is_source = stands.source;
-  cuts = record { ordered = stands.lies.ordered; starts = stands.lies.start_border; ends = stands.lies.end_border; cut_out = stands.is };
+  points = record {
+    source = stands.text;
+    is_source = stands.source;
+    cuts = record { ordered = stands.lies.ordered; starts = stands.lies.start_border; ends = stands.lies.end_border; cut_out = stands.is };
+  };
+  fits = stands.fits;
 }
 
 paths_lie : (files : List File) (file : ℕ) (sources : List FileSource) → AllByRecursion (FileStands files file) sources

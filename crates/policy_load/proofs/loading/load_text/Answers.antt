@@ -1,6 +1,6 @@
 use Rattle.std.proofs.Common.{◌∙◌, ◌⊎◌, inl, refl, sym, ap, subst, length, Err}
+use Rattle.std.specs.Str.{IsUtf8}
 use Rattle.policy_core.specs.text.Config.{AnswersConfig, config_of_text}
-use Rattle.policy_core.specs.Heard.{IsFileText}
 use Rattle.policy_core.specs.Places.{IsConfigPlaced}
 use Rattle.policy_core.specs.Policy.{absence_findings}
 use Rattle.policy_core.proofs.ExceptionLemmas.{grows_itself}
@@ -19,22 +19,22 @@ load_root-requires-clause-placed g c =
     let lists = g.C.Catalog.lists c.args.catalog.now in
     let old = c.args.files.now in
     let file = policy_file c.args.paths.policy c.args.found.text in
-    let is_text = subst IsFileText c.as_str.ensures c.read_text-config.ensures.text in
+    let utf8 = subst IsUtf8 c.as_str.ensures c.read_text-config.ensures.utf8 in
     let told = ap (config_of_text lists) (sym c.as_str.ensures) ∙ c.in-Ok.ensures.told in
     subst (λ number. IsConfigPlaced c.add_policy.new.files number c.in-Ok.root) (sym c.in_ok-file_id.ensures.number)
     (subst (λ files. IsConfigPlaced files (length old) c.in-Ok.root) (sym c.in_ok-file_id.ensures.ok)
-    (root_in old file is_text.utf8 is_text.fits lists (g.met.C.Catalog.lawful c.args.catalog.now) c.in-Ok.root told))
+    (root_in old file utf8 c.in_ok-file_id.ensures.fits lists (g.met.C.Catalog.lawful c.args.catalog.now) c.in-Ok.root told))
 
 pub refuse-requires : goal.refuse-requires
 refuse-requires g c =
     let lists = g.C.Catalog.lists c.args.catalog.now in
     let old = c.args.files.now in
     let file = policy_file c.args.paths.policy c.args.found.text in
-    let is_text = subst IsFileText c.as_str.ensures c.read_text-config.ensures.text in
+    let utf8 = subst IsUtf8 c.as_str.ensures c.read_text-config.ensures.utf8 in
     let told = subst (λ text. AnswersConfig (config_of_text lists text) (Err c.in-Err.refused)) c.as_str.ensures c.in-Err.ensures.told in
     subst (λ number. AreInside c.add_policy.new.files (refusal_findings number c.in-Err.refused)) (sym c.in_ok-file_id.ensures.number)
     (subst (λ files. AreInside files (refusal_findings (length old) c.in-Err.refused)) (sym c.in_ok-file_id.ensures.ok)
-    (refusal_inside old file is_text.utf8 is_text.fits lists (g.met.C.Catalog.lawful c.args.catalog.now) c.in-Err.refused told))
+    (refusal_inside old file utf8 c.in_ok-file_id.ensures.fits lists (g.met.C.Catalog.lawful c.args.catalog.now) c.in-Err.refused told))
 
 pub returns-in_err-file_id-clause-reads : goal.returns-in_err-file_id-clause-reads
 returns-in_err-file_id-clause-reads g c =
