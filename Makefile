@@ -7,7 +7,7 @@ METADATA = $(CURDIR)/crates/cargo_deny/out/metadata.json
 
 FIRST = ../../examples/first
 
-.PHONY: try build run sample test examples map wrong starve stack calls bench dist install
+.PHONY: try build run sample test cases examples map wrong starve stack calls bench dist install
 
 # A first answer in minutes, by an unproved build.
 try:
@@ -30,6 +30,11 @@ sample: build
 # Proves and tests all; the merge gate, .ci/run, also compares documents and examples.
 test:
 	rt ci
+
+# Compares the rows and cases of a folder without a proof, and prints what differs with its file and line: make cases NAME=spdx;
+# NAME=run and NAME=hostile are whole runs
+cases:
+	@sh tools/cases.sh $(NAME)
 
 # Compares what the built program prints of each example, and of odd words and files, and the outputs that the documents show,
 # with examples/outputs.
