@@ -8,5 +8,5 @@ use Rattle.check_core.proofs.findings.label.labels.Goals as goal
 pub push_terms-requires : goal.push_terms-requires
 push_terms-requires c =
     let expression = c.args.expression.now in
-    subst (λ (terms : List ExpressionReq). All (TermFits c.args.nfo.now) terms) (sym c.requirements.ensures.terms)
-    (terms_have_room c.args.nfo.now expression.text expression.terms c.requirements.ensures.facts.spans c.requires)
+    subst (λ (terms : List ExpressionReq). All (TermFits c.args.nfo.now) terms) (sym c.requirements-terms.ensures.terms)
+    (terms_have_room c.args.nfo.now expression.text expression.terms c.requirements-terms.ensures.facts.spans c.requires)
