@@ -33,7 +33,7 @@ pub fn terms_are_told()
 {}
 
 /// The last pack tells just the entries of the policy that no crate needs, at their lint levels: a crate that is not
-/// skipped needs what allows a term of its expression, also where it is rejected and where no choice takes the term.
+/// skipped needs what allows a term of its expression, also where it is rejected.
 pub fn tells_the_unneeded()
     ensures { TellsTheUnneeded }
 {}

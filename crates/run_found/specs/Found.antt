@@ -23,14 +23,13 @@ use Rattle.policy_core.specs.text.Config.{config_of_text}
 use Rattle.policy_core.specs.declared.text.error.ConfigError.{ConfigError}
 use Rattle.policy_core.specs.declared.text.text.ConfigText.{ConfigText}
 use Rattle.graph_workspace.specs.declared.error.KratesError.{KratesError}
-use Rattle.graph_workspace.specs.declared.error.UnsupportedPart.{UnsupportedPart}
 use Rattle.spdx_terms.specs.catalog.Catalog.{CatalogLists}
 use Rattle.gather_core.specs.Calls.{calls_of_all}
 use Rattle.policy_load.specs.declared.loading.PolicyPaths.{PolicyPaths}
 use Rattle.policy_core.specs.Policy.{PolicyFound}
 use Rattle.policy_core.specs.text.Text.{config_text_of}
 use Rattle.run_found.specs.declared.error.Error.{Error}
-use Rattle.run_found.specs.declared.error.Error.TheVariants.{ConfigRead, NotCarried}
+use Rattle.run_found.specs.declared.error.Error.TheVariants.{ConfigRead}
 use Rattle.run_found.specs.Error.{error_of_krates, error_of_load}
 use Rattle.run_found.specs.Given.{RequestArguments}
 use Rattle.run_found.specs.Hearing.{RequestHearing, LooksResult, look_failed, nowhere, at, unended, count_behind}
@@ -221,11 +220,6 @@ abbrev pub load_told : RequestArguments → RequestHearing → List ℕ
 load_told given hearing = if is_load_heard given hearing then load_text given.log (loaded_of given hearing) else []
 
 -- ---- with a command's own steps
-
--- nothing, where all of a request is carried
-abbrev pub unless_unsupported : Option UnsupportedPart → Result (Unit {0}) Error
-unless_unsupported None = Ok tt
-unless_unsupported (Some what) = Err (NotCarried what)
 
 -- what was found: the policy, and the crates with the edges between them
 pub record PolicyAndGraph : Type 0 where

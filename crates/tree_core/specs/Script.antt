@@ -39,12 +39,6 @@ pub record FaultCounts : Type 0 where
   pub err_before : ℕ
   pub err_after : ℕ
 
--- no count rose
-pub record IsWithoutFault (counts : FaultCounts) : Type 0 where
-  pub tree : ¬ (Rose counts.tree_before counts.tree_after)
-  pub out : ¬ (Rose counts.out_before counts.out_after)
-  pub err : ¬ (Rose counts.err_before counts.err_after)
-
 -- A sink refused a write: its count rose from the first number to the second. To `err` a line may still be written
 -- after that.
 abbrev pub RefusedBy : FaultCounts → OutputSink → ℕ → ℕ → Type 0
@@ -62,11 +56,6 @@ pub record IsCut (counts : FaultCounts) (before after : ℕ) (whole begun : Scri
   pub parts : whole ≡ earlier ++ (target, front ++ rest) ∷ later
   pub written : begun ≡ earlier ++ (target, front) ∷ []
   pub refused : RefusedBy counts target before after
-
--- a line, or a prefix of it where the sink's count rose
-abbrev pub IsLineOrFront : ℕ → ℕ → List ℕ → List ℕ → Type 0
-IsLineOrFront before after line written =
-    (written ≡ line) ⊎ (Rose before after × ((rest : List ℕ) × (line ≡ written ++ rest)))
 
 -- a line was written, or a prefix of it where the sink's count rose
 abbrev pub LineWritten : Option (List ℕ) → Option (List ℕ) → ℕ → ℕ → List ℕ → Type 0
