@@ -40,7 +40,7 @@ findings_by false policy asked = asked.gathered ++ verdict_finding policy asked.
 abbrev pub pack_by : Bool → Policy → GatheredCrate → PackOf
 pack_by private policy asked = pack_of asked.krate (findings_by private policy asked)
 
--- the hits of all terms of its expression, also of those that no choice takes; a crate that is passed over has none
+-- the hits of all terms of its expression, be they enough or not; a crate that is passed over has none
 abbrev pub hits_of : Policy → CrateRecord → LicenseInfo → List Hit
 hits_of policy krate Unlicensed = []
 hits_of policy krate (SpdxExpression expression nfo) = hits_in (term_hits policy krate expression.terms)
