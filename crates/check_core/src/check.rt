@@ -25,7 +25,7 @@ use deny_text::Steps;
 use diag_core::{ErrorSink, Files, LevelFilter};
 use gather_core::{KrateLicense, KrateLicenses, LicenseInfo, Summary};
 use graph_core::selection::Krates;
-use policy_core::valid::ValidConfig;
+use policy_core::valid::{CountedPolicy, ValidConfig};
 use std::alloc::{AllocError, Global};
 use std::marker::Brand;
 use std::sync::ledger::{Blank, Ledger};
@@ -77,7 +77,7 @@ fn most_nodes(licenses: &[KrateLicense<'_>]) -> usize
 #[tactic(auto, using(crate::proofs::CheckLemmas::has_front, crate::proofs::CheckLemmas::nothing_gained))]
 fn judge_in_order<L: Ledger>(
     alloc: Global,
-    policy: &ValidConfig,
+    policy: &CountedPolicy<'_, L>,
     checker: &mut Checker,
     licenses: KrateLicenses<'_>,
     sink: &mut ErrorSink,
@@ -113,9 +113,9 @@ fn judge_in_order<L: Ledger>(
 }
 
 /// Tells the policy's entries that allowed no term so far.
-fn tell_unused(
+fn tell_unused<L: Ledger>(
     alloc: Global,
-    policy: &ValidConfig,
+    policy: &CountedPolicy<'_, L>,
     checker: &Checker,
     sink: &mut ErrorSink,
 ) -> Result<(), AllocError>
@@ -132,7 +132,7 @@ fn tell_unused(
 #[tactic(auto, using(crate::proofs::CheckLemmas::no_front, crate::proofs::CheckLemmas::whole_front, crate::proofs::CheckLemmas::gained_then))]
 fn judge_with_room<L: Ledger>(
     alloc: Global,
-    policy: &ValidConfig,
+    policy: &CountedPolicy<'_, L>,
     licenses: KrateLicenses<'_>,
     nodes: usize,
     sink: &mut ErrorSink,
@@ -165,7 +165,7 @@ fn judge_with_room<L: Ledger>(
 #[tactic(auto, using(crate::proofs::LabelLemmas::all_fit))]
 pub fn check<L: Ledger>(
     alloc: Global,
-    ctx: &CheckCtx<'_, ValidConfig>,
+    ctx: &CheckCtx<'_, CountedPolicy<'_, L>>,
     summary: Summary<'_>,
     sink: &mut ErrorSink,
     steps: &mut Steps<L>,
@@ -215,7 +215,13 @@ fn judge_by_ledger<L: Ledger>(
     ensures labels { OnOk result (All (PackLies ctx.now.files.now) sink.new.packs) }
 {
     let mut steps = Steps::<L>::new(ledger);
-    check(alloc, ctx, summary, sink, &mut steps)
+    let counted = CheckCtx {
+        cfg: CountedPolicy::<L>::of(&ctx.cfg),
+        krates: ctx.krates,
+        log_level: ctx.log_level,
+        files: ctx.files,
+    };
+    check(alloc, &counted, summary, sink, &mut steps)
 }
 
 /// The reports on the crates of a summary, as `check` gives them, with its steps counted in a ledger of its own,

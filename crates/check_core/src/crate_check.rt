@@ -28,7 +28,7 @@ use crate::unused::{EntryHits, last_pack};
 use deny_text::Steps;
 use diag_core::{Diag, Pack};
 use gather_core::{Diags, KrateLicense, LicenseExprInfo, LicenseInfo};
-use policy_core::valid::ValidConfig;
+use policy_core::valid::CountedPolicy;
 use spdx_core::Expression;
 use std::alloc::{AllocError, Global};
 use std::marker::Model;
@@ -115,10 +115,10 @@ fn tell_unlicensed(alloc: Global, license: &KrateLicense<'_>) -> Result<ToldVerd
 
 impl Checker {
     /// A checker with room for so many nodes of an expression, made for a policy. Nothing was encountered yet.
-    pub fn with_room(
+    pub fn with_room<L: Ledger>(
         alloc: Global,
         nodes: usize,
-        policy: &ValidConfig,
+        policy: &CountedPolicy<'_, L>,
     ) -> Result<Checker, AllocError>
         ensures { IfOk result (λ checker. checker ≡ record {
           nodes = nodes;
@@ -142,7 +142,7 @@ impl Checker {
     fn certify<L: Ledger>(
         &mut self,
         alloc: Global,
-        policy: &ValidConfig,
+        policy: &CountedPolicy<'_, L>,
         license: &KrateLicense<'_>,
         expr: &Expression,
         nfo: &LicenseExprInfo,
@@ -181,7 +181,7 @@ impl Checker {
     fn answer<L: Ledger>(
         &mut self,
         alloc: Global,
-        policy: &ValidConfig,
+        policy: &CountedPolicy<'_, L>,
         license: &KrateLicense<'_>,
         steps: &mut Steps<L>,
     ) -> Result<ToldVerdict, AllocError>
@@ -216,7 +216,7 @@ impl Checker {
     fn ask<L: Ledger>(
         &mut self,
         alloc: Global,
-        policy: &ValidConfig,
+        policy: &CountedPolicy<'_, L>,
         license: KrateLicense<'_>,
         steps: &mut Steps<L>,
     ) -> Result<JudgedCrate, AllocError>
@@ -251,7 +251,7 @@ impl Checker {
     pub fn judge<L: Ledger>(
         &mut self,
         alloc: Global,
-        policy: &ValidConfig,
+        policy: &CountedPolicy<'_, L>,
         license: KrateLicense<'_>,
         steps: &mut Steps<L>,
     ) -> Result<JudgedCrate, AllocError>
@@ -287,7 +287,11 @@ impl Checker {
     }
 
     /// What is reported after all crates: the entries of the policy that were no hit. It may be empty.
-    pub fn finish(&self, alloc: Global, policy: &ValidConfig) -> Result<Pack, AllocError>
+    pub fn finish<L: Ledger>(
+        &self,
+        alloc: Global,
+        policy: &CountedPolicy<'_, L>,
+    ) -> Result<Pack, AllocError>
         ensures { (hits : List Hit) → self.now.flags ≡ flags_by policy.now hits
             → IfOk result (λ pack. pack ≡ unused.last_pack policy.now hits) }
     {

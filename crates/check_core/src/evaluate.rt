@@ -11,6 +11,6 @@ mod room;
 
 pub use entry_index::EntryIndex;
 pub use evaluator::Evaluator;
-pub use hits::{granted, hit_by, satisfies_at};
+pub use hits::hit_by;
 pub use private_index::PrivateIndex;
 pub use spdx_core::certificates::{Hit, Hits, TermPlaces, Verdict};

@@ -11,13 +11,7 @@ use Rattle.spdx_terms.specs.declared.term.ExpressionReq.{ExpressionReq}
 use Rattle.spdx_core.specs.declared.certificates.verdict.Hit.{Hit}
 use Rattle.gather_core.specs.declared.summary.KrateLicense.{KrateLicense}
 use Rattle.gather_core.specs.Gathered.{krate_of}
-use Rattle.policy_parts.specs.spec.Index.{spec_numbers}
-use Rattle.policy_core.specs.declared.valid.policy.ValidConfig.{ValidConfig}
-use Rattle.policy_core.specs.declared.valid.policy.ValidException.{ValidException}
 use Rattle.policy_core.specs.valid.Policy.{Policy}
-use Rattle.policy_core.specs.valid.View.{policy_of}
-use Rattle.check_core.specs.evaluate.Evaluation.{exception_numbers}
-use Rattle.check_core.proofs.evaluate.EvaluationLemmas.{spec_of, specs_are}
 use Rattle.check_record.specs.declared.items.RecordItem.{RecordItem}
 use Rattle.check_record.specs.Items.{ids_of}
 use Rattle.check_verify.specs.declared.answer.VerifyAnswer.TheVariants.{No}
@@ -161,7 +155,3 @@ module _ (policy : Policy) where
       seen = seen_all licenses flags each;
       is = ap answer_by (sym (ap (λ b. cond b (first_reason policy (all_seen licenses flags) items) (Some Crates)) (same_by same is ∙ apart)));
     }
-
--- the numbers of the names of the exceptions of a policy
-pub numbers_are : (policy : ValidConfig) (exceptions : List ValidException) → exceptions ≡ policy.exceptions → spec_numbers (map spec_of exceptions) ≡ exception_numbers (policy_of policy)
-numbers_are policy exceptions same = ap (λ es. spec_numbers (map spec_of es)) same ∙ ap spec_numbers (specs_are policy.exceptions)

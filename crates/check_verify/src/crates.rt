@@ -19,7 +19,7 @@ use check_record::RecordVerdict;
 use deny_text::Steps;
 use gather_core::LicenseInfo;
 use graph_core::Krate;
-use policy_core::valid::ValidConfig;
+use policy_core::valid::CountedPolicy;
 use spdx_core::Expression;
 use spdx_core::certificates::Hit;
 use std::alloc::{AllocError, Global};
@@ -37,7 +37,7 @@ pub struct CrateInPolicy<'k> {
 /// What is wrong with a choice and its hits.
 fn choice_fault<L: Ledger>(
     alloc: Global,
-    policy: &ValidConfig,
+    policy: &CountedPolicy<'_, L>,
     asked: &CrateInPolicy<'_>,
     expr: &Expression,
     choice: &[usize],
@@ -65,7 +65,7 @@ fn choice_fault<L: Ledger>(
 /// What is wrong with places that are to stand in the way.
 fn blocks_fault<L: Ledger>(
     alloc: Global,
-    policy: &ValidConfig,
+    policy: &CountedPolicy<'_, L>,
     asked: &CrateInPolicy<'_>,
     expr: &Expression,
     blocks: &[usize],
@@ -99,7 +99,7 @@ fn blocks_fault<L: Ledger>(
 /// What is wrong with a verdict on an expression.
 fn certificate_fault<L: Ledger>(
     alloc: Global,
-    policy: &ValidConfig,
+    policy: &CountedPolicy<'_, L>,
     asked: &CrateInPolicy<'_>,
     expr: &Expression,
     verdict: &RecordVerdict,
@@ -156,7 +156,7 @@ fn unlicensed_fault(verdict: &RecordVerdict) -> Option<VerdictFault>
 /// What is wrong with the verdict on a crate that is not passed over.
 fn asked_fault<L: Ledger>(
     alloc: Global,
-    policy: &ValidConfig,
+    policy: &CountedPolicy<'_, L>,
     asked: &CrateInPolicy<'_>,
     info: &LicenseInfo,
     verdict: &RecordVerdict,
@@ -182,7 +182,7 @@ fn asked_fault<L: Ledger>(
 /// What is wrong with a crate's verdict, where it is known whether the policy passes the crate over.
 pub fn fault_of<L: Ledger>(
     alloc: Global,
-    policy: &ValidConfig,
+    policy: &CountedPolicy<'_, L>,
     asked: &CrateInPolicy<'_>,
     private: bool,
     info: &LicenseInfo,

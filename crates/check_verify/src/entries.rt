@@ -8,9 +8,9 @@ ghost use Rattle.check_core.specs.evaluate.Entries.{entry_families};
 ghost use Rattle.check_verify.specs.Terms as spec;
 ghost use Rattle.check_verify.specs.Terms.{entries_at};
 
-use check_core::evaluate::{EntryIndex, granted, hit_by, satisfies_at};
+use check_core::evaluate::{EntryIndex, hit_by};
 use deny_text::Steps;
-use policy_core::valid::ValidConfig;
+use policy_core::valid::CountedPolicy;
 use spdx_core::certificates::Hit;
 use spdx_core::{ExpressionReq, LicenseReq};
 use std::sync::ledger::Ledger;
@@ -27,7 +27,7 @@ fn counts(counted: Option<usize>, exception: usize) -> bool
 
 /// Whether a hit is one of the policy for a crate, and satisfies a term. It takes a step at most.
 fn is_allowed_by<L: Ledger>(
-    policy: &ValidConfig,
+    policy: &CountedPolicy<'_, L>,
     counted: Option<usize>,
     term: &LicenseReq,
     hit: Hit,
@@ -37,24 +37,19 @@ fn is_allowed_by<L: Ledger>(
     ensures bound { steps.new ≤ steps.old + 1 }
 {
     match hit {
-        Hit::Allowed(entry) => satisfies_at(policy.allowed.items(), entry, term, steps),
+        Hit::Allowed(entry) => policy.allowed().satisfies_at(entry, term, steps),
         Hit::Exception { exception, entry } => {
             if !counts(counted, exception) {
                 return false;
             }
-            satisfies_at(
-                granted(policy.exceptions.items(), exception),
-                entry,
-                term,
-                steps,
-            )
+            policy.granted(exception).satisfies_at(entry, term, steps)
         }
     }
 }
 
 /// Whether a hit allows the term at a place.
 fn is_allowed_at<L: Ledger>(
-    policy: &ValidConfig,
+    policy: &CountedPolicy<'_, L>,
     counted: Option<usize>,
     terms: &[ExpressionReq],
     place: usize,
@@ -74,7 +69,7 @@ fn is_allowed_at<L: Ledger>(
 
 /// Whether each hit allows the term at its place. It takes a step a hit at most.
 pub fn are_allowed<L: Ledger>(
-    policy: &ValidConfig,
+    policy: &CountedPolicy<'_, L>,
     counted: Option<usize>,
     terms: &[ExpressionReq],
     places: &[usize],
@@ -98,7 +93,7 @@ pub fn are_allowed<L: Ledger>(
 
 /// Whether a place is outside an expression, or its term is allowed. It takes a step for each entry that it asks.
 fn has_hit_or_none<L: Ledger>(
-    policy: &ValidConfig,
+    policy: &CountedPolicy<'_, L>,
     index: &EntryIndex,
     counted: Option<usize>,
     terms: &[ExpressionReq],
@@ -117,7 +112,7 @@ fn has_hit_or_none<L: Ledger>(
 
 /// Whether one of some places is outside an expression, or its term is allowed.
 pub fn any_has_hit<L: Ledger>(
-    policy: &ValidConfig,
+    policy: &CountedPolicy<'_, L>,
     index: &EntryIndex,
     counted: Option<usize>,
     terms: &[ExpressionReq],

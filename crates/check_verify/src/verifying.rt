@@ -18,15 +18,15 @@ use check_core::evaluate::EntryIndex;
 use check_record::{Record, RecordItem};
 use deny_text::{Steps, Text};
 use gather_core::{KrateLicense, Summary};
-use policy_core::valid::ValidConfig;
+use policy_core::valid::CountedPolicy;
 use policy_parts::spec::SpecIndex;
 use std::alloc::{AllocError, Global};
 use std::sync::ledger::Ledger;
 
 /// Of each crate, whether the policy passes it over.
-fn private_flags(
+fn private_flags<L: Ledger>(
     alloc: Global,
-    policy: &ValidConfig,
+    policy: &CountedPolicy<'_, L>,
     licenses: &[KrateLicense<'_>],
 ) -> Result<Vec<bool>, AllocError>
     ensures { IfOk result (λ flags. AllZip (IsFlagged (policy_of policy.now)) licenses.now flags.items) }
@@ -56,7 +56,7 @@ fn same_ids(licenses: &[KrateLicense<'_>], items: &[RecordItem]) -> bool
 /// The first reason, crate after crate.
 fn first_reason<L: Ledger>(
     alloc: Global,
-    policy: &ValidConfig,
+    policy: &CountedPolicy<'_, L>,
     exceptions: &SpecIndex,
     index: &EntryIndex,
     licenses: &[KrateLicense<'_>],
@@ -77,7 +77,7 @@ fn first_reason<L: Ledger>(
         let license = &licenses[place];
         let asked = CrateInPolicy {
             krate: license.krate,
-            counted: exceptions.first(policy.exceptions.items(), license.krate),
+            counted: policy.first_exception(exceptions, license.krate),
             index,
         };
         let private = flags[place];
@@ -105,7 +105,7 @@ pub fn verify<L: Ledger>(
     alloc: Global,
     verdict_file: &Record,
     summary: &Summary<'_>,
-    policy: &ValidConfig,
+    policy: &CountedPolicy<'_, L>,
     steps: &mut Steps<L>,
 ) -> Result<VerifyAnswer, AllocError>
     ensures answer { IfOk result
@@ -119,7 +119,7 @@ pub fn verify<L: Ledger>(
     if !same_ids(licenses, items) {
         return Ok(VerifyAnswer::No(NoReason::Crates));
     }
-    let exceptions = SpecIndex::of(alloc, policy.exceptions.items())?;
+    let exceptions = policy.exception_index(alloc)?;
     let index = EntryIndex::of(alloc, policy)?;
     let flags = flags.as_slice();
     match first_reason(

@@ -19,7 +19,7 @@ use deny_text::Steps;
 use diag_core::Files;
 use diag_print::LogContext;
 use gather_core::Summary;
-use policy_core::valid::ValidConfig;
+use policy_core::valid::{CountedPolicy, ValidConfig};
 use run_command::{PolicyUse, crates_found, no_levels, write_answer};
 use run_found::{Error, licenses_found, reads_of_licenses};
 use run_request::KrateContext;
@@ -44,7 +44,8 @@ fn verify_by_ledger<L: Ledger>(
     ensures { IfOk result (IsVerified (policy_of policy.now) summary.now.nfos verdicts.now) }
 {
     let mut steps = Steps::<L>::new(ledger);
-    verify(alloc, verdicts, summary, policy, &mut steps)
+    let counted = CountedPolicy::<L>::of(policy);
+    verify(alloc, verdicts, summary, &counted, &mut steps)
 }
 
 /// Whether the record that a text spells is right.

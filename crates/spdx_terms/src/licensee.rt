@@ -87,8 +87,8 @@ impl Licensee {
         self.printed.as_str()
     }
 
-    /// The family of its licence; references have one of their own.
-    pub fn family(&self) -> Family
+    /// The family of its licence; references have one of their own. An index alone asks for it.
+    pub(crate) fn family(&self) -> Family
         ensures { result ≡ family_of self.now }
     {
         self.req.family()

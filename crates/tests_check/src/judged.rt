@@ -11,7 +11,7 @@ use diag_core::{Diag, Files, Label, Labels, LevelFilter, Notes, Pack, Severity};
 use diag_print::{Color, DiagPrinter, Format, LogContext, pack_labels_are_inside};
 use gather_core::{Diags, LicenseExprInfo, LicenseExprSource};
 use graph_core::{Krate, Source};
-use policy_core::valid::ValidConfig;
+use policy_core::valid::{CountedPolicy, ValidConfig};
 use spdx_core::Expression;
 use std::alloc::{AllocError, Global};
 use std::marker::Brand;
@@ -68,10 +68,11 @@ fn asked_twice<L: Ledger>(
     requires some { 0 < ledger.parts }
 {
     let nodes = expression.nodes().len();
-    let mut evaluator = Evaluator::with_room(alloc, nodes, policy)?;
+    let policy = CountedPolicy::<L>::of(policy);
+    let mut evaluator = Evaluator::with_room(alloc, nodes, &policy)?;
     let mut steps = Steps::<L>::new(ledger);
-    let _first = evaluator.evaluate(expression, krate, policy, &mut steps);
-    let accepts = evaluator.evaluate(expression, krate, policy, &mut steps);
+    let _first = evaluator.evaluate(expression, krate, &policy, &mut steps);
+    let accepts = evaluator.evaluate(expression, krate, &policy, &mut steps);
     out.put(if accepts { "accepted:" } else { "rejected:" });
     match &evaluator.certificate(alloc, expression) {
         Ok(verdict) => put_certificate(out, verdict),
@@ -303,9 +304,10 @@ fn mark(alloc: Global, entries: &[CaseEntry], encountered: &mut EntryHits) -> Op
 }
 
 fn pack_after(alloc: Global, case: &Case<'_>, policy: &ValidConfig) -> Option<Pack> {
-    let mut encountered = ok!(EntryHits::of(alloc, policy));
+    let policy = CountedPolicy::<Brand>::of(policy);
+    let mut encountered = ok!(EntryHits::of(alloc, &policy));
     match mark(alloc, case.own, &mut encountered) {
-        Some(()) => last_pack(alloc, policy, &encountered).ok(),
+        Some(()) => last_pack(alloc, &policy, &encountered).ok(),
         None => None,
     }
 }

@@ -9,7 +9,7 @@ use gather_core::{
     Diags, KrateLicense, KrateLicenses, LicenseExprInfo, LicenseExprSource, LicenseInfo, Summary,
 };
 use graph_core::Krate;
-use policy_core::valid::ValidConfig;
+use policy_core::valid::{CountedPolicy, ValidConfig};
 use std::alloc::Global;
 use std::marker::Brand;
 use std::sync::ledger::{Blank, Ledger};
@@ -110,7 +110,8 @@ fn verify_file<L: Ledger>(
 {
     let summary = summary_of(alloc, krate, lic_info)?;
     let mut steps = Steps::<L>::new(ledger);
-    let answer = verify(alloc, verdicts, &summary, policy, &mut steps).ok()?;
+    let policy = CountedPolicy::<L>::of(policy);
+    let answer = verify(alloc, verdicts, &summary, &policy, &mut steps).ok()?;
     put_answer(out, &answer);
     Some(())
 }

@@ -1,6 +1,6 @@
 //! Where licence families are in lists of licences.
 use crate::terms::pair_of;
-use spdx_core::{Expression, Family, ParseMode, Table};
+use spdx_core::{Expression, Family, Licensee, ParseMode, Table};
 use spdx_terms::families::FamilyIndex;
 use std::alloc::Global;
 use tests_files::AnswerText;
@@ -21,8 +21,8 @@ fn index_of(alloc: Global, names: &str) -> Option<FamilyIndex> {
     let mut index = FamilyIndex::new(alloc);
     if names != "none" {
         for name in names.split_whitespace() {
-            let family = family_of(alloc, name)?;
-            index.push(family).ok()?;
+            let licensee = Licensee::parse_mode(alloc, name, ParseMode::LAX, &Table).ok()?;
+            index.push(&licensee).ok()?;
         }
     }
     Some(index)

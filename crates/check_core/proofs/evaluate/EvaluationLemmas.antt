@@ -1,42 +1,33 @@
 -- What is kept is what the policy says of each term.
-use Rattle.std.proofs.Common.{◌≡◌, ◌∙◌, sym, ap, ℕ, List, map, Option}
-use Rattle.std.proofs.lemmas.Simd.{map-map}
+use Rattle.std.proofs.Common.{◌≡◌, ◌∙◌, ap, ℕ, List, map, Option}
 use Rattle.spdx_terms.specs.declared.term.ExpressionReq.{ExpressionReq}
 use Rattle.graph_core.specs.Krate.{CrateRecord}
-use Rattle.policy_parts.specs.spec.Index.{first_of, matching_places}
-use Rattle.policy_parts.specs.spec.Spec.{Spec}
 use Rattle.spdx_core.specs.declared.certificates.verdict.Hit.{Hit}
-use Rattle.policy_core.specs.declared.valid.policy.ValidException.{ValidException}
-use Rattle.policy_core.specs.declared.valid.policy.ValidConfig.{ValidConfig}
-use Rattle.policy_core.specs.valid.Policy.{Grant, hit_by, hit_of}
-use Rattle.policy_core.specs.valid.View.{grant_of, policy_of}
-use Rattle.check_core.specs.evaluate.Entries.{entries_by_terms, entries_of_terms}
+use Rattle.policy_core.specs.valid.Policy.{Policy, first_exception, hit_by, hit_of}
+use Rattle.check_core.specs.evaluate.Entries.{EntryFamilies, entries_by_terms, entries_of_terms}
 use Rattle.check_core.specs.evaluate.Evaluation.{Evaluation, term_hits}
 
-abbrev pub spec_of : ValidException → Spec
-spec_of exception = exception.spec
-
--- the specs of exceptions are those that contracts see
-pub specs_are : (exceptions : List ValidException) → map spec_of exceptions ≡ map (λ grant. grant.spec) (map grant_of exceptions)
-specs_are exceptions = sym (map-map (λ (grant : Grant). grant.spec) grant_of exceptions)
-
-pub kept_is : (policy : ValidConfig) (krate : CrateRecord) (terms asked : List ExpressionReq) (exceptions : List ValidException) (exception : Option ℕ) (kept : List (Option Hit))
-    → exceptions ≡ policy.exceptions → asked ≡ terms → exception ≡ first_of (matching_places (map spec_of exceptions) krate)
-    → kept ≡ map (λ term. hit_by (policy_of policy) exception term.req) asked → kept ≡ term_hits (policy_of policy) krate terms
-kept_is policy krate terms asked exceptions exception kept are is first h =
+pub kept_is : (policy : Policy) (krate : CrateRecord) (terms asked : List ExpressionReq) (exception : Option ℕ) (kept : List (Option Hit))
+    → asked ≡ terms → exception ≡ first_exception policy krate → kept ≡ map (λ term. hit_by policy exception term.req) asked → kept ≡ term_hits policy krate terms
+kept_is policy krate terms asked exception kept is first h =
     h
-    ∙ ap (λ place. map (λ (term : ExpressionReq). hit_by (policy_of policy) place term.req) asked)
-    (first ∙ ap (λ es. first_of (matching_places (map spec_of es) krate)) are ∙ ap (λ specs. first_of (matching_places specs krate)) (specs_are policy.exceptions))
-    ∙ ap (map (λ (term : ExpressionReq). hit_of (policy_of policy) krate term.req)) is
+    ∙ ap (λ place. map (λ (term : ExpressionReq). hit_by policy place term.req) asked) first
+    ∙ ap (map (λ (term : ExpressionReq). hit_of policy krate term.req)) is
 
 -- the entries of all terms, where the exception is the first that matches
-pub entries_are : (policy : ValidConfig) (krate : CrateRecord) (terms asked : List ExpressionReq) (exceptions : List ValidException) (exception : Option ℕ)
-    → exceptions ≡ policy.exceptions → asked ≡ terms → exception ≡ first_of (matching_places (map spec_of exceptions) krate)
-    → entries_by_terms (policy_of policy) exception asked ≡ entries_of_terms (policy_of policy) krate terms
-entries_are policy krate terms asked exceptions exception are is first =
-    ap (λ place. entries_by_terms (policy_of policy) place asked)
-    (first ∙ ap (λ es. first_of (matching_places (map spec_of es) krate)) are ∙ ap (λ specs. first_of (matching_places specs krate)) (specs_are policy.exceptions))
-    ∙ ap (entries_of_terms (policy_of policy) krate) is
+pub entries_are : (policy : Policy) (krate : CrateRecord) (terms asked : List ExpressionReq) (exception : Option ℕ) → asked ≡ terms → exception ≡ first_exception policy krate
+    → entries_by_terms policy exception asked ≡ entries_of_terms policy krate terms
+entries_are policy krate terms asked exception is first = ap (λ place. entries_by_terms policy place asked) first ∙ ap (entries_of_terms policy krate) is
 
-abbrev pub with_hits : Evaluation → List (Option Hit) → Evaluation
-with_hits evaluation hits = record { nodes = evaluation.nodes; numbers = evaluation.numbers; families = evaluation.families; hits = hits }
+-- ---- an evaluator as it was but for its hits
+
+abbrev pub seen_as : ℕ → List ℕ → EntryFamilies → List (Option Hit) → ℕ → ℕ → Evaluation
+seen_as nodes numbers families hits hits_room answers_room =
+    record { nodes = nodes; numbers = numbers; families = families; hits = hits; hits_room = hits_room; answers_room = answers_room }
+
+pub with_hits : (old : Evaluation) (hits meant : List (Option Hit)) (hits_room answers_room : ℕ) → hits ≡ meant → hits_room ≡ old.hits_room → answers_room ≡ old.answers_room
+    → seen_as old.nodes old.numbers old.families hits hits_room answers_room ≡ record old { hits = meant }
+with_hits old hits meant hits_room answers_room are room other =
+    ap (λ (kept : List (Option Hit)). seen_as old.nodes old.numbers old.families kept hits_room answers_room) are
+    ∙ ap (λ (held : ℕ). seen_as old.nodes old.numbers old.families meant held answers_room) room
+    ∙ ap (λ (held : ℕ). seen_as old.nodes old.numbers old.families meant old.hits_room held) other

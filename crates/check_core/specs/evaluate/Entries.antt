@@ -1,5 +1,5 @@
 -- How many entries of a policy can allow a term: those of the term's own licence family.
-use Rattle.std.specs.Prelude.{ℕ, ◌+◌, List, [], length, map, slice_get, sum_by, Option, unwrap_or}
+use Rattle.std.specs.Prelude.{ℕ, ◌+◌, List, [], length, slice_get, sum_by, Option, unwrap_or}
 use Rattle.std.specs.Option.{option_map_or}
 use Rattle.spdx_terms.specs.declared.term.ExpressionReq.{ExpressionReq}
 use Rattle.spdx_terms.specs.declared.term.Family.{Family}
@@ -7,17 +7,10 @@ use Rattle.spdx_terms.specs.declared.term.LicenseReq.{LicenseReq}
 use Rattle.spdx_terms.specs.Terms.{family_of}
 use Rattle.spdx_terms.specs.families.Places.{places_in}
 use Rattle.graph_core.specs.Krate.{CrateRecord}
+pub use Rattle.policy_core.specs.valid.Indexes.{families_in, granted_families}
 use Rattle.policy_core.specs.valid.Policy.{Grant, Policy, first_exception, granted_licensees}
 
 -- ---- families
-
--- the families of licensees, place by place
-abbrev pub families_in : List LicenseReq → List Family
-families_in licensees = map family_of licensees
-
--- those of the licensees of each exception
-abbrev pub granted_families : List Grant → List (List Family)
-granted_families exceptions = map (λ grant. families_in grant.allowed) exceptions
 
 -- the families of a policy's entries, list by list
 pub record EntryFamilies : Type 0 where

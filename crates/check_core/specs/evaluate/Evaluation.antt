@@ -6,7 +6,7 @@ use Rattle.graph_core.specs.Krate.{CrateRecord}
 use Rattle.spdx_core.specs.declared.certificates.verdict.Hit.{Hit}
 use Rattle.spdx_core.specs.certificates.Certificates.{has_hit}
 use Rattle.spdx_core.specs.certificates.Choices.{is_accepted}
-use Rattle.policy_parts.specs.spec.Index.{spec_numbers}
+pub use Rattle.policy_core.specs.valid.Indexes.{exception_numbers}
 use Rattle.policy_core.specs.valid.Policy.{Policy, hit_of}
 use Rattle.check_core.specs.evaluate.Entries.{EntryFamilies}
 
@@ -19,13 +19,12 @@ abbrev pub is_allowed : Policy → CrateRecord → List ExpressionReq → Expres
 is_allowed policy krate terms tree = is_accepted (has_hit (term_hits policy krate terms)) tree
 
 -- An evaluator: for how many nodes it has room, the numbers of the exceptions that it was made for, place by place, the
--- families of the entries that it was made for, list by list, and the hits that it keeps.
+-- families of the entries that it was made for, list by list, the hits that it keeps, and how many hits and answers the
+-- memory of its two lists holds.
 pub record Evaluation : Type 0 where
   pub nodes : ℕ
   pub numbers : List ℕ
   pub families : EntryFamilies
   pub hits : List (Option Hit)
-
--- the numbers that a policy's exceptions are found by, place by place
-abbrev pub exception_numbers : Policy → List ℕ
-exception_numbers policy = spec_numbers (map (λ grant. grant.spec) policy.exceptions)
+  pub hits_room : ℕ
+  pub answers_room : ℕ

@@ -14,7 +14,7 @@ fn take_off(answers: &mut Vec<bool>) -> bool
     ensures answer { result ≡ first_of false (reverse answers.old.items) }
     ensures rest { reverse answers.new.items ≡ behind_first (reverse answers.old.items) }
     ensures len { vec_len answers.new ≤ vec_len answers.old }
-    ensures room { vec_capacity answers.old ≤ vec_capacity answers.new }
+    ensures room { vec_capacity answers.new ≡ vec_capacity answers.old }
 {
     answers.pop().unwrap_or(false)
 }
@@ -34,7 +34,7 @@ fn step(answers: &mut Vec<bool>, node: ExprNode, kept: &[Option<Hit>])
     ensures answers { reverse answers.new.items
         ≡ answers_after (has_hit_at kept.now) (reverse answers.old.items) node }
     ensures len { vec_len answers.new ≤ vec_len answers.old + 1 }
-    ensures room { vec_capacity answers.old ≤ vec_capacity answers.new }
+    ensures room { vec_capacity answers.new ≡ vec_capacity answers.old }
 {
     match node {
         ExprNode::Term(place) => put(answers, has_hit(kept, place)),
@@ -56,7 +56,7 @@ fn step(answers: &mut Vec<bool>, node: ExprNode, kept: &[Option<Hit>])
 pub fn is_accepted(answers: &mut Vec<bool>, nodes: &[ExprNode], kept: &[Option<Hit>]) -> bool
     requires { length nodes.now ≤ vec_capacity answers.old }
     ensures answer { result ≡ first_of false (answers_over (has_hit_at kept.now) [] nodes.now) }
-    ensures room { vec_capacity answers.old ≤ vec_capacity answers.new }
+    ensures room { vec_capacity answers.new ≡ vec_capacity answers.old }
 {
     answers.clear();
     'nodes: for node in nodes {

@@ -1,16 +1,16 @@
 //! Where the entries of each licence family are in a policy.
 //! Called by `evaluator`, `hits` and `check_verify`; the two indexes may be made in either order.
-ghost use Rattle.std.specs.Prelude.{◌≡◌, map, IfOk};
+ghost use Rattle.std.specs.Prelude.{◌≡◌, IfOk};
 ghost use Rattle.spdx_terms.specs.families.Places.{places_in};
-ghost use Rattle.policy_core.specs.valid.View.{req_of, grant_of, policy_of};
-ghost use Rattle.check_core.specs.evaluate.Entries.{entry_families, families_at, families_in, granted_families};
+ghost use Rattle.policy_core.specs.valid.View.{policy_of};
+ghost use Rattle.check_core.specs.evaluate.Entries.{entry_families, families_at};
 
-use policy_core::valid::{ValidConfig, ValidException};
-use policy_parts::entries::Licensee;
+use policy_core::valid::CountedPolicy;
 use spdx_terms::Family;
 use spdx_terms::families::{FamilyIndex, FamilyIndexes};
 use std::alloc::{AllocError, Global};
 use std::marker::Model;
+use std::sync::ledger::Ledger;
 
 /// The places of each family among the allowed licensees of a policy, and among those of each exception.
 #[derive(Drop)]
@@ -27,36 +27,16 @@ impl Model for EntryIndex {
     ghost view = { λ index. record { allowed = index.allowed; granted = index.granted } };
 }
 
-/// The index of some licensees.
-fn index_of(alloc: Global, licensees: &[Licensee]) -> Result<FamilyIndex, AllocError>
-    ensures { IfOk result (λ index. index ≡ families_in (map req_of licensees.now)) }
-{
-    let mut index = FamilyIndex::new(alloc);
-    'licensees: for licensee in licensees {
-        index.push(licensee.0.value.family())?;
-    }
-    Ok(index)
-}
-
-/// The index of the licensees of each exception.
-fn indexes_of(alloc: Global, exceptions: &[ValidException]) -> Result<FamilyIndexes, AllocError>
-    ensures { IfOk result (λ indexes. indexes ≡ granted_families (map grant_of exceptions.now)) }
-{
-    let mut indexes = FamilyIndexes::new(alloc);
-    'exceptions: for exception in exceptions {
-        let index = index_of(alloc, exception.allowed.items())?;
-        indexes.push(index)?;
-    }
-    Ok(indexes)
-}
-
 impl EntryIndex {
     /// The index of a policy's entries.
-    pub fn of(alloc: Global, policy: &ValidConfig) -> Result<EntryIndex, AllocError>
+    pub fn of<L: Ledger>(
+        alloc: Global,
+        policy: &CountedPolicy<'_, L>,
+    ) -> Result<EntryIndex, AllocError>
         ensures { IfOk result (λ index. index ≡ entry_families (policy_of policy.now)) }
     {
-        let allowed = index_of(alloc, policy.allowed.items())?;
-        let granted = indexes_of(alloc, policy.exceptions.items())?;
+        let allowed = policy.allowed_families(alloc)?;
+        let granted = policy.granted_families(alloc)?;
         Ok(EntryIndex { allowed, granted })
     }
 

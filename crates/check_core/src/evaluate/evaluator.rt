@@ -14,7 +14,7 @@ use crate::evaluate::entry_index::EntryIndex;
 use crate::evaluate::hits::keep_hits;
 use deny_text::Steps;
 use graph_core::Krate;
-use policy_core::valid::ValidConfig;
+use policy_core::valid::CountedPolicy;
 use policy_parts::spec::SpecIndex;
 use spdx_core::Expression;
 use spdx_core::certificates::{Hit, Verdict};
@@ -44,6 +44,8 @@ impl Model for Evaluator {
       numbers = e.exceptions;
       families = e.index;
       hits = e.kept.items;
+      hits_room = vec_capacity e.kept;
+      answers_room = vec_capacity e.answers;
     } };
 
     ghost invariant = { λ e. (e.nodes ≤ vec_capacity e.kept) × (e.nodes ≤ vec_capacity e.answers) };
@@ -51,19 +53,21 @@ impl Model for Evaluator {
 
 impl Evaluator {
     /// An evaluator with room for so many nodes of an expression, made for the entries of a policy.
-    pub fn with_room(
+    pub fn with_room<L: Ledger>(
         alloc: Global,
         nodes: usize,
-        policy: &ValidConfig,
+        policy: &CountedPolicy<'_, L>,
     ) -> Result<Evaluator, AllocError>
         ensures { let policy = policy_of policy.now in IfOk result (λ e. e ≡ record {
           nodes = nodes;
           numbers = exception_numbers policy;
           families = entry_families policy;
           hits = [];
+          hits_room = e.hits_room;
+          answers_room = e.answers_room;
         }) }
     {
-        let exceptions = SpecIndex::of(alloc, policy.exceptions.items())?;
+        let exceptions = policy.exception_index(alloc)?;
         let index = EntryIndex::of(alloc, policy)?;
         let kept = Vec::with_capacity(alloc, nodes)?;
         let answers = Vec::with_capacity(alloc, nodes)?;
@@ -83,7 +87,7 @@ impl Evaluator {
         &mut self,
         expression: &Expression,
         krate: &Krate,
-        policy: &ValidConfig,
+        policy: &CountedPolicy<'_, L>,
         steps: &mut Steps<L>,
     ) -> bool
         requires room { length (postfix expression.now.tree) ≤ self.old.nodes }
@@ -97,7 +101,7 @@ impl Evaluator {
         ensures bound { let policy = policy_of policy.now in
             steps.new ≤ steps.old + entries_of_terms policy (record_of krate.now) expression.now.terms }
     {
-        let exception = self.exceptions.first(policy.exceptions.items(), krate);
+        let exception = policy.first_exception(&self.exceptions, krate);
         keep_hits(
             &mut self.kept,
             policy,

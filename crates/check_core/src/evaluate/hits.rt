@@ -1,10 +1,7 @@
 //! What allows the terms of an expression.
 //! Called by `evaluate` and `check_verify`; fewer entries may be asked, as steps have an upper bound alone.
-ghost use Rattle.std.specs.Prelude.{◌≡◌, ◌+◌, ◌≤◌, Bool, false, map, length, Some};
-ghost use Rattle.std.specs.Prelude.{option_map, slice_get, vec_capacity};
-ghost use Rattle.std.specs.Option.{option_map_or};
+ghost use Rattle.std.specs.Prelude.{◌≡◌, ◌+◌, ◌≤◌, map, length, Some, option_map, vec_capacity};
 ghost use Rattle.spdx_core.specs.declared.certificates.verdict.Hit.TheVariants.{Allowed};
-ghost use Rattle.policy_core.specs.valid.Satisfied.{satisfies};
 ghost use Rattle.policy_core.specs.valid.Policy as spec;
 ghost use Rattle.policy_core.specs.valid.View.{req_of, grant_of, policy_of};
 ghost use Rattle.check_core.specs.evaluate.Entries.{entries_by, entries_by_terms, entries_in, entry_families};
@@ -13,42 +10,15 @@ ghost use Rattle.check_core.specs.evaluate.Entries.{families_in, granted_entries
 use crate::evaluate::entry_index::EntryIndex;
 use crate::evaluate::room::put;
 use deny_text::Steps;
-use policy_core::valid::{ValidConfig, ValidException};
-use policy_parts::entries::Licensee;
+use policy_core::valid::{CountedLicensees, CountedPolicy};
 use spdx_core::certificates::Hit;
 use spdx_core::{ExpressionReq, LicenseReq};
 use std::sync::ledger::Ledger;
 
-/// Whether a licensee satisfies a term. It takes one step.
-fn satisfies_term<L: Ledger>(licensee: &Licensee, term: &LicenseReq, steps: &mut Steps<L>) -> bool
-    ensures answer { result ≡ satisfies (req_of licensee.now) term.now }
-    ensures tick { steps.new ≡ steps.old + 1 }
-{
-    licensee.0.value.satisfies(term, steps)
-}
-
-/// Whether the licensee at a place satisfies a term. It takes a step where there is one.
-pub fn satisfies_at<L: Ledger>(
-    licensees: &[Licensee],
-    place: usize,
-    term: &LicenseReq,
-    steps: &mut Steps<L>,
-) -> bool
-    ensures answer { let licensee = slice_get (map req_of licensees.now) place in
-        result ≡ option_map_or (λ req. satisfies req term.now) licensee false }
-    ensures steps { steps.old ≤ steps.new }
-    ensures bound { steps.new ≤ steps.old + 1 }
-{
-    match licensees.get(place) {
-        Some(licensee) => satisfies_term(licensee, term, steps),
-        None => false,
-    }
-}
-
 /// The place of the first of some licensees that satisfies a term, where `places` are those of the term's family
 /// among them. It takes a step for each that it asks.
 fn first_entry<L: Ledger>(
-    licensees: &[Licensee],
+    licensees: &CountedLicensees<'_, L>,
     places: &[usize],
     term: &LicenseReq,
     steps: &mut Steps<L>,
@@ -59,65 +29,56 @@ fn first_entry<L: Ledger>(
     ensures bound { steps.new ≤ steps.old + entries_in (map req_of licensees.now) term.now }
 {
     'places: for place in places {
-        if satisfies_at(licensees, *place, term, steps) {
+        if licensees.satisfies_at(*place, term, steps) {
             return Some(*place);
         }
     }
     None
 }
 
-/// The licensees of the exception at a place.
-pub fn granted(exceptions: &[ValidException], place: usize) -> &[Licensee]
-    ensures { map req_of result.now ≡ spec.granted_licensees (map grant_of exceptions.now) place }
-{
-    match exceptions.get(place) {
-        Some(exception) => exception.allowed.items(),
-        None => &[],
-    }
-}
-
 /// The hit of a term by the exception at a place. It asks the entries of the term's family alone.
 fn granted_hit<L: Ledger>(
-    exceptions: &[ValidException],
+    policy: &CountedPolicy<'_, L>,
     index: &EntryIndex,
     exception: usize,
     term: &LicenseReq,
     steps: &mut Steps<L>,
 ) -> Option<Hit>
-    requires { granted_families (map grant_of exceptions.now) ≡ index.now.granted }
-    ensures hit { result ≡ spec.exception_hit (map grant_of exceptions.now) (Some exception) term.now }
+    requires { granted_families (map grant_of policy.now.exceptions) ≡ index.now.granted }
+    ensures hit { result ≡ spec.exception_hit (map grant_of policy.now.exceptions) (Some exception) term.now }
     ensures steps { steps.old ≤ steps.new }
     ensures bound { steps.new
-        ≤ steps.old + entries_in (spec.granted_licensees (map grant_of exceptions.now) exception) term.now }
+        ≤ steps.old + entries_in (spec.granted_licensees (map grant_of policy.now.exceptions) exception) term.now }
 {
     let places = index.granted(exception, term.family());
-    let entry = first_entry(granted(exceptions, exception), places, term, steps)?;
+    let licensees = policy.granted(exception);
+    let entry = first_entry(&licensees, places, term, steps)?;
     Some(Hit::Exception { exception, entry })
 }
 
 /// The hit of a term by the exception at a place, if there is one.
 fn exception_hit<L: Ledger>(
-    exceptions: &[ValidException],
+    policy: &CountedPolicy<'_, L>,
     index: &EntryIndex,
     exception: Option<usize>,
     term: &LicenseReq,
     steps: &mut Steps<L>,
 ) -> Option<Hit>
-    requires { granted_families (map grant_of exceptions.now) ≡ index.now.granted }
-    ensures hit { result ≡ spec.exception_hit (map grant_of exceptions.now) exception term.now }
+    requires { granted_families (map grant_of policy.now.exceptions) ≡ index.now.granted }
+    ensures hit { result ≡ spec.exception_hit (map grant_of policy.now.exceptions) exception term.now }
     ensures steps { steps.old ≤ steps.new }
     ensures bound { steps.new
-        ≤ steps.old + granted_entries (map grant_of exceptions.now) exception term.now }
+        ≤ steps.old + granted_entries (map grant_of policy.now.exceptions) exception term.now }
 {
     match exception {
-        Some(exception) => granted_hit(exceptions, index, exception, term, steps),
+        Some(exception) => granted_hit(policy, index, exception, term, steps),
         None => None,
     }
 }
 
 /// The hit of a term by what is allowed. It asks the entries of the term's family alone.
 fn allowed_hit<L: Ledger>(
-    policy: &ValidConfig,
+    policy: &CountedPolicy<'_, L>,
     index: &EntryIndex,
     term: &LicenseReq,
     steps: &mut Steps<L>,
@@ -129,14 +90,15 @@ fn allowed_hit<L: Ledger>(
     ensures bound { steps.new ≤ steps.old + entries_in (map req_of policy.now.allowed) term.now }
 {
     let places = index.allowed(term.family());
-    let entry = first_entry(policy.allowed.items(), places, term, steps)?;
+    let licensees = policy.allowed();
+    let entry = first_entry(&licensees, places, term, steps)?;
     Some(Hit::Allowed(entry))
 }
 
 /// What allows a term, where `exception` is the place of the first exception that matches the crate. It takes
 /// a step for each licensee that it asks.
 pub fn hit_by<L: Ledger>(
-    policy: &ValidConfig,
+    policy: &CountedPolicy<'_, L>,
     index: &EntryIndex,
     exception: Option<usize>,
     term: &LicenseReq,
@@ -147,7 +109,7 @@ pub fn hit_by<L: Ledger>(
     ensures steps { steps.old ≤ steps.new }
     ensures bound { steps.new ≤ steps.old + entries_by (policy_of policy.now) exception term.now }
 {
-    match exception_hit(policy.exceptions.items(), index, exception, term, steps) {
+    match exception_hit(policy, index, exception, term, steps) {
         Some(hit) => Some(hit),
         None => allowed_hit(policy, index, term, steps),
     }
@@ -156,7 +118,7 @@ pub fn hit_by<L: Ledger>(
 /// Fills a list, which has room, with what allows each term. What stood in it goes.
 pub fn keep_hits<L: Ledger>(
     kept: &mut Vec<Option<Hit>>,
-    policy: &ValidConfig,
+    policy: &CountedPolicy<'_, L>,
     index: &EntryIndex,
     exception: Option<usize>,
     terms: &[ExpressionReq],
@@ -166,7 +128,7 @@ pub fn keep_hits<L: Ledger>(
     requires families { entry_families (policy_of policy.now) ≡ index.now }
     ensures kept { kept.new.items
         ≡ map (λ term. spec.hit_by (policy_of policy.now) exception term.req) terms.now }
-    ensures room { vec_capacity kept.old ≤ vec_capacity kept.new }
+    ensures room { vec_capacity kept.new ≡ vec_capacity kept.old }
     ensures steps { steps.old ≤ steps.new }
     ensures bound { steps.new ≤ steps.old + entries_by_terms (policy_of policy.now) exception terms.now }
 {

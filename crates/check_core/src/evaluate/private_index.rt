@@ -13,11 +13,12 @@ ghost use Rattle.check_core.specs.evaluate.Private.{MatchesAt, private_numbers};
 use deny_text::Text;
 use graph_core::Krate;
 use graph_core::source::{Source, matches_address};
-use policy_core::valid::ValidConfig;
+use policy_core::valid::CountedPolicy;
 use policy_parts::spec::NumberIndex;
 use policy_parts::spec::number::{mixed, name_number};
 use std::alloc::{AllocError, Global};
 use std::marker::Model;
+use std::sync::ledger::Ledger;
 use url::Url;
 
 /// The registries and the addresses of a policy that make a crate private, found by numbers. It keeps neither:
@@ -110,11 +111,14 @@ fn is_source_at_any(addresses: &[Url], places: &[usize], source: &Source) -> boo
 
 impl PrivateIndex {
     /// The index of a policy.
-    pub fn of(alloc: Global, policy: &ValidConfig) -> Result<PrivateIndex, AllocError>
+    pub fn of<L: Ledger>(
+        alloc: Global,
+        policy: &CountedPolicy<'_, L>,
+    ) -> Result<PrivateIndex, AllocError>
         ensures { IfOk result (λ all. all ≡ private_numbers (policy_of policy.now)) }
     {
-        let registries = index_of_names(alloc, policy.private.registries.items())?;
-        let addresses = index_of_addresses(alloc, policy.ignore_sources.items())?;
+        let registries = index_of_names(alloc, policy.registries())?;
+        let addresses = index_of_addresses(alloc, policy.ignore_sources())?;
         Ok(PrivateIndex {
             registries,
             addresses,
@@ -186,12 +190,12 @@ impl PrivateIndex {
 
     /// Whether a crate is passed over: private crates are, and it is published at most to private registries,
     /// or comes from one of the addresses exactly.
-    pub fn is_private(&self, policy: &ValidConfig, krate: &Krate) -> bool
+    pub fn is_private<L: Ledger>(&self, policy: &CountedPolicy<'_, L>, krate: &Krate) -> bool
         requires { private_numbers (policy_of policy.now) ≡ self.now }
         ensures { IsTrue result ↔ IsPrivate (policy_of policy.now) (record_of krate.now) }
     {
-        policy.private.ignore
-            && (self.is_kept(policy.private.registries.items(), krate)
-                || self.is_ignored(policy.ignore_sources.items(), krate))
+        policy.ignores_private()
+            && (self.is_kept(policy.registries(), krate)
+                || self.is_ignored(policy.ignore_sources(), krate))
     }
 }

@@ -7,10 +7,11 @@ ghost use Rattle.policy_core.specs.declared.valid.policy.ValidConfig.{ValidConfi
 ghost use Rattle.check_core.specs.unused.Flags.{Flags, flags_by, flags_with_hit, marked_by, no_flags};
 ghost use Rattle.check_core.specs.unused.Unused.{hits_in};
 
-use policy_core::valid::ValidConfig;
+use policy_core::valid::CountedPolicy;
 use spdx_core::certificates::Hit;
 use std::alloc::{AllocError, Global};
 use std::marker::Model;
+use std::sync::ledger::Ledger;
 
 /// Which allowed licensees of a policy, and which exceptions, have allowed a term so far, by their places.
 #[derive(Drop)]
@@ -46,11 +47,11 @@ fn set(flags: &mut Vec<bool>, place: usize)
 
 impl EntryHits {
     /// Nothing so far, of the entries of a policy.
-    pub fn of(alloc: Global, policy: &ValidConfig) -> Result<EntryHits, AllocError>
+    pub fn of<L: Ledger>(alloc: Global, policy: &CountedPolicy<'_, L>) -> Result<EntryHits, AllocError>
         ensures { IfOk result (λ e. e ≡ flags_by policy.now []) }
     {
-        let allowed = unset(alloc, policy.allowed.items().len())?;
-        let exceptions = unset(alloc, policy.exceptions.items().len())?;
+        let allowed = unset(alloc, policy.allowed_count())?;
+        let exceptions = unset(alloc, policy.exception_count())?;
         Ok(EntryHits {
             allowed,
             exceptions,

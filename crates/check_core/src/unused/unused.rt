@@ -11,10 +11,10 @@ use crate::findings::finding;
 use crate::unused::encountered::EntryHits;
 use diag_core::licenses::Code;
 use diag_core::{Check, Diag, FileId, Label, Labels, Notes, Pack, Severity};
-use policy_core::valid::{ValidConfig, ValidException};
+use policy_core::valid::{AllowedPlace, CountedPolicy, ExceptionPlace};
 use policy_parts::LintLevel;
-use policy_parts::entries::Licensee;
 use std::alloc::{AllocError, Global};
+use std::sync::ledger::Ledger;
 
 /// The level of what is reported; nothing is reported where the policy allows it.
 fn severity_of(level: LintLevel) -> Option<Severity>
@@ -47,11 +47,11 @@ fn license_told(
     alloc: Global,
     severity: Severity,
     file: FileId,
-    licensee: &Licensee,
+    licensee: &AllowedPlace<'_>,
 ) -> Result<Diag, AllocError>
     ensures { IfOk result (λ told. told ≡ unused_license severity file licensee.now) }
 {
-    let label = Label::primary(alloc, file, licensee.0.span).with_message(
+    let label = Label::primary(alloc, file, licensee.span()).with_message(
         "unmatched license allowance",
     )?;
     unused(
@@ -67,11 +67,11 @@ fn license_told(
 fn exception_told(
     alloc: Global,
     severity: Severity,
-    exception: &ValidException,
+    exception: &ExceptionPlace<'_>,
 ) -> Result<Diag, AllocError>
     ensures { IfOk result (λ told. told ≡ unused_exception severity exception.now) }
 {
-    let label = Label::primary(alloc, exception.file_id, exception.spec.name.span).with_message(
+    let label = Label::primary(alloc, exception.file_id(), exception.span()).with_message(
         "unmatched license exception",
     )?;
     unused(
@@ -89,7 +89,7 @@ fn push_license(
     pack: &mut Pack,
     severity: Severity,
     file: FileId,
-    licensee: &Licensee,
+    licensee: &AllowedPlace<'_>,
     is_hit: bool,
 ) -> Result<(), AllocError>
     ensures { OnOk result (pack.new ≡ with_more pack.old (map (unused_license severity file)
@@ -109,11 +109,11 @@ fn push_own(
     pack: &mut Pack,
     severity: Severity,
     file: FileId,
-    exception: &ValidException,
+    exception: &ExceptionPlace<'_>,
 ) -> Result<(), AllocError>
     ensures { OnOk result (pack.new ≡ with_more pack.old (own_findings severity file (exception.now ∷ []))) }
 {
-    if exception.file_id != file {
+    if exception.file_id() != file {
         return Ok(());
     }
     let told = exception_told(alloc, severity, exception)?;
@@ -127,7 +127,7 @@ fn push_exception(
     pack: &mut Pack,
     severity: Severity,
     file: FileId,
-    exception: &ValidException,
+    exception: &ExceptionPlace<'_>,
     is_hit: bool,
 ) -> Result<(), AllocError>
     ensures { OnOk result (pack.new ≡ with_more pack.old (own_findings severity file
@@ -151,52 +151,56 @@ fn is_set(flags: &[bool], place: usize) -> bool
 }
 
 /// Appends each allowed licensee that is no hit, in order.
-fn push_licenses(
+fn push_licenses<L: Ledger>(
     alloc: Global,
     pack: &mut Pack,
     severity: Severity,
-    policy: &ValidConfig,
+    policy: &CountedPolicy<'_, L>,
     flags: &[bool],
 ) -> Result<(), AllocError>
     ensures { OnOk result (pack.new ≡ with_more pack.old (map (unused_license severity policy.now.file_id)
         (items_without_hit (flag_at flags.now) 0 policy.now.allowed))) }
 {
-    'licensees: for (place, licensee) in policy.allowed.items().iter().enumerate() {
+    let file = policy.file_id();
+    'licensees: for place in 0..policy.allowed_count() {
+        let licensee = policy.allowed_at(place);
         let is_hit = is_set(flags, place);
-        push_license(alloc, pack, severity, policy.file_id, licensee, is_hit)?;
+        push_license(alloc, pack, severity, file, &licensee, is_hit)?;
     }
     Ok(())
 }
 
 /// Appends each exception of the policy's own file that is no hit, in order.
-fn push_exceptions(
+fn push_exceptions<L: Ledger>(
     alloc: Global,
     pack: &mut Pack,
     severity: Severity,
-    policy: &ValidConfig,
+    policy: &CountedPolicy<'_, L>,
     flags: &[bool],
 ) -> Result<(), AllocError>
     ensures { OnOk result (pack.new ≡ with_more pack.old (own_findings severity policy.now.file_id
         (items_without_hit (flag_at flags.now) 0 policy.now.exceptions))) }
 {
-    'exceptions: for (place, exception) in policy.exceptions.items().iter().enumerate() {
+    let file = policy.file_id();
+    'exceptions: for place in 0..policy.exception_count() {
+        let exception = policy.exception_at(place);
         let is_hit = is_set(flags, place);
-        push_exception(alloc, pack, severity, policy.file_id, exception, is_hit)?;
+        push_exception(alloc, pack, severity, file, &exception, is_hit)?;
     }
     Ok(())
 }
 
 /// Appends each allowed licensee that is no hit, at the level that the policy asks for.
-fn push_unused_licenses(
+fn push_unused_licenses<L: Ledger>(
     alloc: Global,
     pack: &mut Pack,
-    policy: &ValidConfig,
+    policy: &CountedPolicy<'_, L>,
     flags: &[bool],
 ) -> Result<(), AllocError>
     ensures { OnOk result (pack.new
         ≡ with_more pack.old (license_findings policy.now (flag_at flags.now))) }
 {
-    match severity_of(policy.unused_allowed_license) {
+    match severity_of(policy.unused_allowed_license()) {
         Some(severity) => {
             push_licenses(alloc, pack, severity, policy, flags)?;
             Ok(())
@@ -206,16 +210,16 @@ fn push_unused_licenses(
 }
 
 /// Appends each exception of the policy's own file that is no hit, at the level that the policy asks for.
-fn push_unused_exceptions(
+fn push_unused_exceptions<L: Ledger>(
     alloc: Global,
     pack: &mut Pack,
-    policy: &ValidConfig,
+    policy: &CountedPolicy<'_, L>,
     flags: &[bool],
 ) -> Result<(), AllocError>
     ensures { OnOk result (pack.new
         ≡ with_more pack.old (exception_findings policy.now (flag_at flags.now))) }
 {
-    match severity_of(policy.unused_license_exception) {
+    match severity_of(policy.unused_license_exception()) {
         Some(severity) => {
             push_exceptions(alloc, pack, severity, policy, flags)?;
             Ok(())
@@ -225,7 +229,11 @@ fn push_unused_exceptions(
 }
 
 /// By the flags.
-fn pack_of(alloc: Global, policy: &ValidConfig, encountered: &EntryHits) -> Result<Pack, AllocError>
+fn pack_of<L: Ledger>(
+    alloc: Global,
+    policy: &CountedPolicy<'_, L>,
+    encountered: &EntryHits,
+) -> Result<Pack, AllocError>
     ensures { IfOk result (λ pack. pack ≡ unused_pack policy.now encountered.now) }
 {
     let mut pack = Pack::new(alloc, Check::Licenses);
@@ -236,9 +244,9 @@ fn pack_of(alloc: Global, policy: &ValidConfig, encountered: &EntryHits) -> Resu
 
 /// What of a policy is no hit, where `encountered` has marked all hits: the allowed licensees, and then the
 /// exceptions of the policy's own file, each at the level that the policy asks for. It may be empty.
-pub fn last_pack(
+pub fn last_pack<L: Ledger>(
     alloc: Global,
-    policy: &ValidConfig,
+    policy: &CountedPolicy<'_, L>,
     encountered: &EntryHits,
 ) -> Result<Pack, AllocError>
     ensures { (hits : List Hit) → encountered.now ≡ flags_by policy.now hits

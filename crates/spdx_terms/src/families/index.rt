@@ -1,9 +1,10 @@
 //! Places of families in a list.
 ghost use Rattle.std.specs.Prelude.{◌≡◌, ◌≤◌, [], ◌∷◌, ◌++◌, length, if◌then◌else◌, OnOk, OnErr};
+ghost use Rattle.spdx_terms.specs.Terms.{family_of};
 ghost use Rattle.spdx_terms.specs.families.Places.{places_in, same_family};
 ghost use Rattle.spdx_terms.specs.families.Map.{IsIndex};
 
-use crate::Family;
+use crate::{Family, Licensee};
 use crate::families::map::{FamilyMap, add_place, places_at, two_places};
 use deny_text::ListOf;
 use std::alloc::{AllocError, Global};
@@ -101,7 +102,7 @@ impl FamilyIndex {
     }
 
     /// A further family. Where memory ends, the index is as it was.
-    pub fn push(&mut self, family: Family) -> Result<(), AllocError>
+    fn push_family(&mut self, family: Family) -> Result<(), AllocError>
         ensures ok { OnOk result (self.new ≡ self.old ++ family ∷ []) }
         ensures err { OnErr result (self.new ≡ self.old) }
     {
@@ -114,6 +115,14 @@ impl FamilyIndex {
         )?;
         self.families.push_reserved(family);
         Ok(())
+    }
+
+    /// The family of a further licensee. Where memory ends, the index is as it was.
+    pub fn push(&mut self, licensee: &Licensee) -> Result<(), AllocError>
+        ensures ok { OnOk result (self.new ≡ self.old ++ family_of licensee.now ∷ []) }
+        ensures err { OnErr result (self.new ≡ self.old) }
+    {
+        self.push_family(licensee.family())
     }
 
     /// The places at which a family is, from 0 and rising.

@@ -1,12 +1,9 @@
-use Rattle.std.proofs.Common.{◌∙◌, ◌+◌, ◌≤◌, ◌<◌, sym, ap, map, length, false, arith}
+use Rattle.std.proofs.Common.{◌∙◌, ◌+◌, ◌≤◌, ◌<◌, sym, ap, length, false, arith}
 use Rattle.std.proofs.lemmas.List.{drop_more}
-use Rattle.graph_core.specs.Krate.{record_of}
-use Rattle.policy_parts.specs.spec.Index.{first_of, matching_places}
 use Rattle.policy_core.specs.valid.View.{policy_of}
-use Rattle.check_core.proofs.evaluate.EvaluationLemmas.{spec_of, specs_are}
 use Rattle.check_verify.specs.Reasons.{reason_with}
 use Rattle.check_verify.specs.Verified.{IsFlagged, steps_at}
-use Rattle.check_verify.proofs.Walk.{as_many, at_index, at_item, first_here, numbers_are, none_here, none_left, none_of, past_items, steps_left}
+use Rattle.check_verify.proofs.Walk.{as_many, at_index, at_item, first_here, none_here, none_left, none_of, past_items, steps_left}
 use Rattle.check_verify.proofs.verifying.first_reason.Goals as goal
 
 pub returns-in_default-clause-reason : goal.returns-in_default-clause-reason
@@ -16,21 +13,11 @@ returns-in_default-clause-reason g c =
     let past = past_items c.args.items.now place c.get.result c.get.ensures.lookup c.in_default.not-Some in
     sym (none_left policy c.args.licenses.now c.args.flags.now c.args.items.now place past) ∙ c.crates.invariant.reason
 
-pub first-requires : goal.first-requires
-first-requires g c = numbers_are c.args.policy.now c.items.result.now c.items.ensures ∙ c.requires.numbers
-
 pub bounds-flags-place : goal.bounds-flags-place
 bounds-flags-place g c =
     let same = as_many (IsFlagged (policy_of c.args.policy.now)) c.args.licenses.now c.args.flags.now c.requires.flags in
     let below = c.crates-test.true in
     omega arith
-
-pub fault_of-requires-clause-counted : goal.fault_of-requires-clause-counted
-fault_of-requires-clause-counted g c =
-    let krate = record_of c.index-licenses-place.result.krate.now in
-    c.first.ensures
-    ∙ ap (λ es. first_of (matching_places (map spec_of es) krate)) c.items.ensures
-    ∙ ap (λ specs. first_of (matching_places specs krate)) (specs_are c.args.policy.now.exceptions)
 
 pub returns-in-Some-fault-clause-reason : goal.returns-in-Some-fault-clause-reason
 returns-in-Some-fault-clause-reason g c =

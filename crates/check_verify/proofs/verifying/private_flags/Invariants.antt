@@ -5,4 +5,4 @@ use Rattle.check_verify.specs.Verified.{IsFlagged}
 use Rattle.check_verify.proofs.verifying.private_flags.Given as goal
 
 abbrev pub invariant-crates : goal.invariant-crates
-invariant-crates l = AllZip (IsFlagged (policy_of l.policy)) (take l.license-index l.licenses) l.flags.items
+invariant-crates g l = AllZip (IsFlagged (policy_of l.policy)) (take l.license-index l.licenses) l.flags.items

@@ -1,11 +1,11 @@
-use Rattle.std.proofs.Common.{◌∙◌, sym, subst, Some, None}
+use Rattle.std.proofs.Common.{sym, subst, Some, None}
 use Rattle.std.specs.List.{AllZip}
 use Rattle.policy_core.specs.valid.View.{policy_of}
 use Rattle.check_verify.specs.declared.answer.VerifyAnswer.TheVariants.{No, Yes}
 use Rattle.check_verify.specs.declared.answer.NoReason.TheVariants.{Crates}
 use Rattle.check_verify.specs.Reasons.{answer_by}
 use Rattle.check_verify.specs.Verified.{IsFirst, IsFlagged, IsVerified}
-use Rattle.check_verify.proofs.Walk.{numbers_are, not_verified, verified_by}
+use Rattle.check_verify.proofs.Walk.{not_verified, verified_by}
 use Rattle.check_verify.proofs.verifying.verify.Goals as goal
 
 pub returns-then-not-same_ids-clause-answer : goal.returns-then-not-same_ids-clause-answer
@@ -15,9 +15,6 @@ returns-then-not-same_ids-clause-answer g c =
     let items = c.items-items.result.now in
     let own = not_verified policy licenses c.in_ok-flags.flags.items items c.in_ok-flags.ensures c.same_ids.result c.same_ids.ensures c.if-not-same_ids.true in
     subst (λ some. IsVerified policy some c.args.verdict_file.now (No Crates)) c.items-licenses.ensures (subst (λ some. IsVerified policy licenses some (No Crates)) c.items-items.ensures.items own)
-
-pub first_reason-requires-clause-numbers : goal.first_reason-requires-clause-numbers
-first_reason-requires-clause-numbers g c = sym (c.in_ok-exceptions.ensures ∙ numbers_are c.args.policy.now c.items.result.now c.items.ensures)
 
 pub returns-in-Some-clause-answer : goal.returns-in-Some-clause-answer
 returns-in-Some-clause-answer g c =

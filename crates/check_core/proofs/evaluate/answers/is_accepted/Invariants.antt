@@ -9,5 +9,5 @@ invariant-nodes l = record {
   goes_on : answers_over (has_hit l.kept) (reverse l.answers.items) (drop l.node-index l.nodes) ≡ answers_over (has_hit l.kept) [] l.nodes;
   few : vec_len l.answers ≤ l.node-index;
   room : length l.nodes ≤ vec_capacity l.answers;
-  grown : vec_capacity l.fn.answers ≤ vec_capacity l.answers;
+  same_room : vec_capacity l.answers ≡ vec_capacity l.fn.answers;
 }

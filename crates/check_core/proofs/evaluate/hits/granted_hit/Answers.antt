@@ -5,5 +5,5 @@ use Rattle.check_core.proofs.evaluate.hits.granted_hit.Goals as goal
 
 pub first_entry-requires : goal.first_entry-requires
 first_entry-requires g c =
-    granted_places (map grant_of c.args.exceptions.now) c.args.index.now.granted c.args.exception c.args.term.now c.family.result c.granted-places.result.now
-    (map req_of c.granted.result.now) c.requires c.family.ensures c.granted-places.ensures c.granted.ensures
+    granted_places (map grant_of c.args.policy.now.exceptions) c.args.index.now.granted c.args.exception c.args.term.now c.family.result c.granted-places.result.now
+    (map req_of c.granted-licensees.result) c.requires c.family.ensures c.granted-places.ensures c.granted-licensees.ensures

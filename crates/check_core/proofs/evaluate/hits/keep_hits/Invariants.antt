@@ -10,7 +10,7 @@ invariant-terms g l = record {
   kept : l.kept.items ≡ map (λ term. hit_by (policy_of l.policy) l.exception term.req) (take l.term-index l.terms);
   as_many : vec_len l.kept ≡ l.term-index;
   room : length l.terms ≤ vec_capacity l.kept;
-  grown : vec_capacity l.fn.kept ≤ vec_capacity l.kept;
+  same_room : vec_capacity l.kept ≡ vec_capacity l.fn.kept;
   steps : l.fn.steps ≤ l.steps;
   bound : l.steps ≤ l.fn.steps + entries_by_terms (policy_of l.policy) l.exception (take l.term-index l.terms);
 }

@@ -5,7 +5,7 @@ use Rattle.check_core.proofs.unused.UnusedLemmas.{both_told}
 use Rattle.check_core.proofs.unused.unused.pack_of.Goals as goal
 
 pub returns : goal.returns
-returns c =
+returns g c =
     let policy = c.args.policy.now in
     let encountered = c.args.encountered.now in
     let first = c.push_unused_licenses.new.pack in

@@ -1,7 +1,7 @@
 use Rattle.std.proofs.Common.{◌≡◌, map, take}
 use Rattle.policy_core.specs.valid.View.{req_of}
-use Rattle.check_core.specs.evaluate.Entries.{families_in}
-use Rattle.check_core.proofs.evaluate.entry_index.index_of.Given as goal
+use Rattle.policy_core.specs.valid.Indexes.{families_in}
+use Rattle.policy_core.proofs.valid.counted.index_of.Given as goal
 
 -- the families so far
 abbrev pub invariant-licensees : goal.invariant-licensees

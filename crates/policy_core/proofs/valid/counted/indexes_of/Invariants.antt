@@ -1,7 +1,7 @@
 use Rattle.std.proofs.Common.{◌≡◌, map, take}
 use Rattle.policy_core.specs.valid.View.{grant_of}
-use Rattle.check_core.specs.evaluate.Entries.{granted_families}
-use Rattle.check_core.proofs.evaluate.entry_index.indexes_of.Given as goal
+use Rattle.policy_core.specs.valid.Indexes.{granted_families}
+use Rattle.policy_core.proofs.valid.counted.indexes_of.Given as goal
 
 -- the exceptions so far
 abbrev pub invariant-exceptions : goal.invariant-exceptions
