@@ -47,7 +47,10 @@ fn set(flags: &mut Vec<bool>, place: usize)
 
 impl EntryHits {
     /// Nothing so far, of the entries of a policy.
-    pub fn of<L: Ledger>(alloc: Global, policy: &CountedPolicy<'_, L>) -> Result<EntryHits, AllocError>
+    pub fn of<L: Ledger>(
+        alloc: Global,
+        policy: &CountedPolicy<'_, L>,
+    ) -> Result<EntryHits, AllocError>
         ensures { IfOk result (λ e. e ≡ flags_by policy.now []) }
     {
         let allowed = unset(alloc, policy.allowed_count())?;

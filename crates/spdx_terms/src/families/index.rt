@@ -4,8 +4,8 @@ ghost use Rattle.spdx_terms.specs.Terms.{family_of};
 ghost use Rattle.spdx_terms.specs.families.Places.{places_in, same_family};
 ghost use Rattle.spdx_terms.specs.families.Map.{IsIndex};
 
-use crate::{Family, Licensee};
 use crate::families::map::{FamilyMap, add_place, places_at, two_places};
+use crate::{Family, Licensee};
 use deny_text::ListOf;
 use std::alloc::{AllocError, Global};
 use std::collections::BTreeMap;
