@@ -58,7 +58,7 @@ of_side false xs ys Is one other = other
 abbrev InRange : ℕ → ℕ → List ℕ → Type 0
 InRange n m xs = (p : ℕ) → Has xs p → (n ≤ p) × (p < m)
 
-blocks_within : (test : ℕ → Bool) (n m : ℕ) (tree : ExpressionTree) → numbered_from n tree ≡ Some m → InRange n m (blocks_of test tree)
+pub blocks_within : (test : ℕ → Bool) (n m : ℕ) (tree : ExpressionTree) → numbered_from n tree ≡ Some m → InRange n m (blocks_of test tree)
 blocks_within test n m (leaf q) h p (inl same) = let at = numbered_leaf n m q _ refl h in (omega (arith, at.0, same), omega (arith, at.0, at.1, same))
 blocks_within test n m (leaf q) h p (inr none) = absurd none
 blocks_within test n m (both left right) h p at =

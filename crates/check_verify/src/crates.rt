@@ -49,6 +49,7 @@ fn choice_fault<L: Ledger>(
     requires families { entry_families (policy_of policy.now) ≡ asked.now.index.now }
     ensures fault { let krate = record_of asked.now.krate.now in IfOk result (λ fault.
         fault ≡ spec.choice_fault (policy_of policy.now) krate expr.now choice.now hits.now) }
+    ensures steps { steps.old ≤ steps.new }
     ensures bound { steps.new ≤ steps.old + length hits.now }
 {
     if !is_choice(alloc, expr, choice)? {
@@ -76,6 +77,7 @@ fn blocks_fault<L: Ledger>(
     requires families { entry_families (policy_of policy.now) ≡ asked.now.index.now }
     ensures fault { let krate = record_of asked.now.krate.now in IfOk result (λ fault.
         fault ≡ spec.blocks_fault (policy_of policy.now) krate expr.now blocks.now) }
+    ensures steps { steps.old ≤ steps.new }
     ensures bound { steps.new
         ≤ steps.old + sum_by (entries_at (policy_of policy.now) asked.now.counted expr.now.terms) blocks.now }
 {
@@ -110,6 +112,7 @@ fn certificate_fault<L: Ledger>(
     requires families { entry_families (policy_of policy.now) ≡ asked.now.index.now }
     ensures fault { let krate = record_of asked.now.krate.now in IfOk result (λ fault.
         fault ≡ spec.certificate_fault (policy_of policy.now) krate expr.now verdict.now) }
+    ensures steps { steps.old ≤ steps.new }
     ensures bound { steps.new
         ≤ steps.old + steps_for (policy_of policy.now) (record_of asked.now.krate.now)
         (Some expr.now) verdict.now }
@@ -167,6 +170,7 @@ fn asked_fault<L: Ledger>(
     requires families { entry_families (policy_of policy.now) ≡ asked.now.index.now }
     ensures fault { let krate = record_of asked.now.krate.now in IfOk result (λ fault.
         fault ≡ spec.asked_fault (policy_of policy.now) krate (expression_of info.now) verdict.now) }
+    ensures steps { steps.old ≤ steps.new }
     ensures bound { steps.new
         ≤ steps.old + steps_for (policy_of policy.now) (record_of asked.now.krate.now)
         (expression_of info.now) verdict.now }
@@ -195,6 +199,7 @@ pub fn fault_of<L: Ledger>(
     ensures fault { let krate = record_of asked.now.krate.now in
         let seen : SeenCrate = record { krate = krate; private = private; expression = expression_of info.now } in
         IfOk result (λ fault. fault ≡ spec.fault_of (policy_of policy.now) seen verdict.now) }
+    ensures steps { steps.old ≤ steps.new }
     ensures bound { steps.new
         ≤ steps.old + steps_for (policy_of policy.now) (record_of asked.now.krate.now)
         (expression_of info.now) verdict.now }

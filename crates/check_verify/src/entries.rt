@@ -34,6 +34,7 @@ fn is_allowed_by<L: Ledger>(
     steps: &mut Steps<L>,
 ) -> bool
     ensures answer { result ≡ spec.is_allowed_by (policy_of policy.now) (option_to_list counted) term.now hit }
+    ensures steps { steps.old ≤ steps.new }
     ensures bound { steps.new ≤ steps.old + 1 }
 {
     match hit {
@@ -59,6 +60,7 @@ fn is_allowed_at<L: Ledger>(
     ensures answer { let policy = policy_of policy.now in
         result ≡ option_map_or (λ term. spec.is_allowed_by policy (option_to_list counted) term.req hit)
         (slice_get terms.now place) false }
+    ensures steps { steps.old ≤ steps.new }
     ensures bound { steps.new ≤ steps.old + 1 }
 {
     match terms.get(place) {
@@ -78,6 +80,7 @@ pub fn are_allowed<L: Ledger>(
 ) -> bool
     ensures answer { result
         ≡ spec.are_allowed (policy_of policy.now) (option_to_list counted) terms.now places.now hits.now }
+    ensures steps { steps.old ≤ steps.new }
     ensures bound { steps.new ≤ steps.old + length hits.now }
 {
     if places.len() != hits.len() {
@@ -102,6 +105,7 @@ fn has_hit_or_none<L: Ledger>(
 ) -> bool
     requires { entry_families (policy_of policy.now) ≡ index.now }
     ensures answer { result ≡ spec.hit_or_none_by (policy_of policy.now) counted terms.now place }
+    ensures steps { steps.old ≤ steps.new }
     ensures bound { steps.new ≤ steps.old + entries_at (policy_of policy.now) counted terms.now place }
 {
     match terms.get(place) {
@@ -121,6 +125,7 @@ pub fn any_has_hit<L: Ledger>(
 ) -> bool
     requires { entry_families (policy_of policy.now) ≡ index.now }
     ensures answer { result ≡ list_any (spec.hit_or_none_by (policy_of policy.now) counted terms.now) places.now }
+    ensures steps { steps.old ≤ steps.new }
     ensures bound { steps.new
         ≤ steps.old + sum_by (entries_at (policy_of policy.now) counted terms.now) places.now }
 {

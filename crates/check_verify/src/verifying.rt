@@ -68,6 +68,7 @@ fn first_reason<L: Ledger>(
     requires families { entry_families (policy_of policy.now) ≡ index.now }
     requires flags { AllZip (IsFlagged (policy_of policy.now)) licenses.now flags.now }
     ensures reason { IfOk result (IsFirst (policy_of policy.now) licenses.now flags.now items.now) }
+    ensures steps { steps.old ≤ steps.new }
     ensures bound { steps.new ≤ steps.old + all_steps (policy_of policy.now) licenses.now items.now }
 {
     'crates: for place in 0..licenses.len() {
@@ -110,6 +111,7 @@ pub fn verify<L: Ledger>(
 ) -> Result<VerifyAnswer, AllocError>
     ensures answer { IfOk result
         (IsVerified (policy_of policy.now) summary.now.nfos verdict_file.now) }
+    ensures steps { steps.old ≤ steps.new }
     ensures bound { steps.new
         ≤ steps.old + all_steps (policy_of policy.now) summary.now.nfos verdict_file.now }
 {

@@ -9,5 +9,6 @@ abbrev pub invariant-places : goal.invariant-places
 invariant-places g l = record {
   answer : (l.found || list_any (hit_or_none_by (policy_of l.policy) l.counted l.terms) (drop l.place-index l.places))
       ≡ list_any (hit_or_none_by (policy_of l.policy) l.counted l.terms) l.places;
+  later : l.fn.steps ≤ l.steps;
   steps : l.steps ≤ l.fn.steps + sum_by (entries_at (policy_of l.policy) l.counted l.terms) (take l.place-index l.places);
 }

@@ -9,5 +9,6 @@ abbrev pub invariant-hits : goal.invariant-hits
 invariant-hits g l = record {
   answer : (l.allowed && are_allowed (policy_of l.policy) (option_to_list l.counted) l.terms (drop l.place l.places) (drop l.place l.hits))
       ≡ are_allowed (policy_of l.policy) (option_to_list l.counted) l.terms l.places l.hits;
+  later : l.fn.steps ≤ l.steps;
   steps : l.steps ≤ l.fn.steps + l.place;
 }

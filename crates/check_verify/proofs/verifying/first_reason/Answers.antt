@@ -51,8 +51,11 @@ crates-preserved g c =
     let fewer = steps_left policy licenses flags items place license item of_license of_item in
     let before = c.crates.invariant.steps in
     let taken : c.fault_of.new.steps ≤ c.crates.steps + steps_at policy license item = c.in_ok-fault.ensures.bound in
+    let later = c.in_ok-fault.ensures.steps in
+    let since = c.crates.invariant.later in
     record {
       reason = none_here policy licenses flags items place license _ item of_license (drop_more flags place false below) of_item (none_of c.in_ok-fault.fault c.in_default-fault.not-Some ∙ c.in_ok-fault.ensures.fault)
           ∙ c.crates.invariant.reason;
+      later = omega (arith, since, later);
       steps = omega (arith, fewer, before, taken);
     }

@@ -9,5 +9,6 @@ abbrev pub invariant-crates : goal.invariant-crates
 invariant-crates g l = record {
   reason : first_reason (policy_of l.policy) (all_seen (drop l.place l.licenses) (drop l.place l.flags)) (drop l.place l.items)
       ≡ first_reason (policy_of l.policy) (all_seen l.licenses l.flags) l.items;
+  later : l.fn.steps ≤ l.steps;
   steps : l.steps + all_steps (policy_of l.policy) (drop l.place l.licenses) (drop l.place l.items) ≤ l.fn.steps + all_steps (policy_of l.policy) l.licenses l.items;
 }
