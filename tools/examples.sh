@@ -127,5 +127,13 @@ sed 's|"license":"MIT"|"license":null|' "$hostile/metadata.json" >"$folder/metad
 ln -s LICENSE "$folder/LICENSE"
 metadata "$folder"
 compare hostile-link "$folder" "'$program' --metadata-path '$room/metadata.json' check licenses"
+
+# An exceptions file that is a link to itself, beside a policy in order: the refusal names both.
+folder="$room/exceptions"
+mkdir "$folder"
+cp "$first/Cargo.toml" "$first/deny.toml" "$first/metadata.json" "$folder"
+ln -s deny.exceptions.toml "$folder/deny.exceptions.toml"
+metadata "$folder"
+compare hostile-exceptions "$folder" "'$program' --metadata-path '$room/metadata.json' check licenses"
 [ "$failed" = 0 ] && echo "the examples come to what examples/outputs has"
 exit "$failed"

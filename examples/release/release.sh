@@ -2,7 +2,8 @@
 # A release that trusts the verifier alone. At build time the verdicts on all crates are recorded; at release time the record
 # is verified over the policy, the metadata and the files as they are then. `verified` says that the record is right, also of a
 # crate that was rejected or has no licence: so a record with such a crate is refused here, at both times, with status 4. Cargo's
-# ids hold the path of the checkout, so both steps run under one path. A changed policy wants a new record.
+# ids hold the path of the checkout, so both steps run under one path. A changed policy wants a new record. `verify` prints nothing of
+# a licence file that could not be read, so the check is run before it, and what that finds goes to standard error.
 # usage: release.sh record|verify, in the project's folder, with examples/ci/check.sh beside this script
 # RECORD names the record's file, if not verdicts.record; CARGO_DENY the program and DENY_CONFIG the policy, as for check.sh, which
 # makes the metadata with the policy's features.
@@ -58,6 +59,7 @@ case ${1:-} in
         ;;
     verify)
         refuse_against
+        sh "$check" . check licenses >&2
         sh "$check" . verify "$record"
         ;;
     *)

@@ -1,3 +1,4 @@
 mod AgainLemmas
+mod LineLemmas
 mod ListLemmas
 mod TableLemmas

@@ -7,6 +7,7 @@ use Rattle.diag_core.specs.declared.position.FilesErr.{FilesErr}
 use Rattle.diag_core.specs.declared.position.Location.{Location}
 use Rattle.diag_core.specs.declared.severity.Severity.{Severity}
 use Rattle.diag_core.specs.Position.{location_of}
+use Rattle.diag_print.specs.Human.{flat_text}
 use Rattle.graph_metadata.specs.declared.fault.MetaFault.{MetaFault}
 use Rattle.graph_metadata.specs.declared.fault.MetaReason.{MetaReason}
 use Rattle.graph_metadata.specs.declared.fault.MetaReason.TheVariants as reason
@@ -22,16 +23,17 @@ use Rattle.run_request.specs.declared.request.Subcommand.TheVariants.{Verify}
 use Rattle.spdx_own_names.specs.declared.error.StoreFault.{StoreFault}
 use Rattle.spdx_own_names.specs.declared.error.StoreFault.TheVariants as store
 use Rattle.toml_subset.specs.declared.error.SyntaxError.{SyntaxError}
+use Rattle.tree_core.specs.declared.texts.fault.ReadFault.{ReadFault}
 use Rattle.refusal_help.specs.declared.again.Again.{Again}
 use Rattle.refusal_help.specs.Unknown.{names_unknown}
 use Rattle.refusal_help.specs.Words.{built_in_words, fault_words, level_option, line_words, manifest_words, own_words}
-use Rattle.refusal_help.specs.Words.{read_words, reason_words, store_words, what_words}
+use Rattle.refusal_help.specs.Words.{policy_words, read_words, reason_words, store_words, what_words}
 
 -- ---- lines
 
--- what is so of a file, or at a place in it
+-- what is so of a file, or at a place in it; a blank is in place of each LF of a path, a key or a name
 abbrev pub at_file : List ℕ → List ℕ → List ℕ
-at_file file words = codes "  --> " ++ file ++ codes ": " ++ words ++ codes "\n"
+at_file file words = codes "  --> " ++ flat_text file ++ codes ": " ++ flat_text words ++ codes "\n"
 
 -- nothing where the path is not known
 abbrev pub at_file_if : Option (List ℕ) → List ℕ → List ℕ
@@ -40,7 +42,7 @@ at_file_if None words = []
 
 -- what to do
 abbrev pub advice : List ℕ → List ℕ
-advice words = codes "  = " ++ words ++ codes "\n"
+advice words = codes "  = " ++ flat_text words ++ codes "\n"
 
 -- ---- places
 
@@ -66,6 +68,13 @@ abbrev pub syntax_help : Option (List ℕ) → Option (List ℕ) → SyntaxError
 syntax_help (Some file) text fault =
     fault_at file (place_in text fault.span.start) fault.span.start (reason_words fault.reason)
 syntax_help None text fault = []
+
+-- ---- the policy
+
+-- what is so of it; where its path is not known that is told without
+abbrev pub policy_help : Option (List ℕ) → ReadFault → List ℕ
+policy_help (Some file) fault = at_file file (policy_words fault)
+policy_help None fault = advice (codes "the policy " ++ policy_words fault)
 
 -- ---- the catalogue and the licence texts
 
@@ -124,10 +133,14 @@ record_of _ = None
 
 -- ---- counts and levels
 
+-- how many crates could be roots, and how many are left out
+abbrev pub roots_words : ℕ → ℕ → ℕ → List ℕ
+roots_words base excluded unpublished =
+    codes "root crates: " ++ decimal base ++ codes "; left out by name: " ++ decimal excluded
+    ++ codes "; published nowhere: " ++ decimal unpublished
+
 abbrev pub roots_help : ℕ → ℕ → ℕ → List ℕ
-roots_help base excluded unpublished =
-    advice (codes "root crates: " ++ decimal base ++ codes "; left out by name: " ++ decimal excluded
-    ++ codes "; published nowhere: " ++ decimal unpublished)
+roots_help base excluded unpublished = advice (roots_words base excluded unpublished)
 
 abbrev pub twice_help : List ℕ → Severity → Severity → List ℕ
 twice_help name first second =
@@ -147,7 +160,7 @@ help_of request again (ManifestRead before after) =
 help_of request again (CatalogRead fault) = at_file_if request.catalog (read_words fault)
 help_of request again (CatalogSyntax line) = line_help request.catalog line
 help_of request again (StoreRead fault) = store_help request.store fault
-help_of request again (ConfigRead fault) = at_file_if again.policy (read_words fault)
+help_of request again (ConfigRead fault) = policy_help again.policy fault
 help_of request again (ConfigSyntax fault) = syntax_help again.policy again.text fault
 help_of request again (ConfigShape faults) = unknown_help request.catalog (names_unknown (ConfigShape faults))
 help_of request again (ConfigInvalid found) = unknown_help request.catalog (names_unknown (ConfigInvalid found))

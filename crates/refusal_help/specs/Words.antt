@@ -39,9 +39,18 @@ read_words Absent = codes "there is no such file"
 read_words Folder = codes "is a folder"
 read_words (NotUtf8 at) = codes "is no UTF-8 at byte " ++ decimal at
 
--- why the texts of a folder were not read
+-- Why a policy was not read. Of a call that failed it is not known which one it was: a look for the policy or for an
+-- exceptions file, or the policy's read.
+abbrev pub policy_words : ReadFault → List ℕ
+policy_words (Failed before after) = codes "could not be read, or a look for it or for deny.exceptions.toml failed"
+policy_words Absent = read_words Absent
+policy_words Folder = read_words Folder
+policy_words (NotUtf8 at) = read_words (NotUtf8 at)
+
+-- Why the texts of a folder were not read. Of a call that failed it is not known which one it was: the folder's
+-- listing, or a text's read.
 unfoldable pub store_words : StoreFault → List ℕ
-store_words (store.Failed before after) = codes "could not be read"
+store_words (store.Failed before after) = codes "the folder or a text in it could not be read"
 store_words store.Absent = codes "there is no such folder, or a file of it is gone"
 store_words store.NotFolder = codes "is no folder"
 store_words (store.NotUtf8 name) = codes "is no UTF-8"

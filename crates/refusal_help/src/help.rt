@@ -1,20 +1,21 @@
 //! The lines behind the line of a refusal.
 //! Called by `write_help` of `tell`; a line may be put together in any way, each text is in a clause.
-ghost use Rattle.std.specs.Prelude.{◌≡◌, ◌+◌, ◌<◌, ◌^◌, ◌++◌, IfOk, OnOk};
+ghost use Rattle.std.specs.Prelude.{◌≡◌, ◌+◌, ◌<◌, ◌^◌, ◌++◌, IfOk, OnOk, codes};
 ghost use Rattle.std.specs.Option.{ForSome};
 ghost use Rattle.std.specs.String.{string_bytes};
 ghost use Rattle.refusal_help.specs.Help.{advice, at_file, at_file_if, fault_at, help_of, is_unresolved};
-ghost use Rattle.refusal_help.specs.Help.{line_and_column, place_text, resolve_help, roots_help, shape_help};
+ghost use Rattle.refusal_help.specs.Help.{line_and_column, place_text, resolve_help, roots_help, roots_words};
 ghost use Rattle.refusal_help.specs.Help.{catalog_words, line_help, store_help, store_place, syntax_help};
-ghost use Rattle.refusal_help.specs.Help.{record_of, twice_help, unknown_help};
+ghost use Rattle.refusal_help.specs.Help.{policy_help, record_of, shape_help, twice_help, unknown_help};
 ghost use Rattle.refusal_help.specs.Words.{read_words};
 
 use crate::again::Again;
+use crate::flat::push_flat;
 use crate::place::place_in;
 use crate::unknown::names_unknown;
 use crate::words::{
-    built_in_words, fault_words, level_option, line_words, manifest_words, read_words,
-    reason_words, store_words, what_words,
+    built_in_words, fault_words, level_option, line_words, manifest_words, policy_words,
+    read_words, reason_words, store_words, what_words,
 };
 use deny_text::path::join;
 use deny_text::{PathBuf, Text};
@@ -32,9 +33,9 @@ fn push_file(text: &mut String, file: &str, words: &str) -> Result<(), AllocErro
     ensures { OnOk result (string_bytes text.new ≡ string_bytes text.old ++ at_file file.now words.now) }
 {
     text.push_str("  --> ")?;
-    text.push_str(file)?;
+    push_flat(text, file)?;
     text.push_str(": ")?;
-    text.push_str(words)?;
+    push_flat(text, words)?;
     text.push_str("\n")
 }
 
@@ -52,7 +53,7 @@ fn push_advice(text: &mut String, words: &str) -> Result<(), AllocError>
     ensures { OnOk result (string_bytes text.new ≡ string_bytes text.old ++ advice words.now) }
 {
     text.push_str("  = ")?;
-    text.push_str(words)?;
+    push_flat(text, words)?;
     text.push_str("\n")
 }
 
@@ -130,6 +131,32 @@ fn push_read(
 {
     let words = read_words(alloc, fault)?;
     push_file_if(text, file, words.as_str())
+}
+
+/// What is so of a policy whose path is not known.
+fn push_unnamed(alloc: Global, text: &mut String, told: &str) -> Result<(), AllocError>
+    ensures { OnOk result (string_bytes text.new
+        ≡ string_bytes text.old ++ advice (codes "the policy " ++ told.now)) }
+{
+    let mut words = String::from_str(alloc, "the policy ")?;
+    words.push_str(told)?;
+    push_advice(text, words.as_str())
+}
+
+/// What is so of the policy.
+fn push_policy(
+    alloc: Global,
+    text: &mut String,
+    file: &Option<PathBuf>,
+    fault: ReadFault,
+) -> Result<(), AllocError>
+    ensures { OnOk result (string_bytes text.new ≡ string_bytes text.old ++ policy_help file.now fault) }
+{
+    let told = policy_words(alloc, fault)?;
+    match file {
+        Some(file) => push_file(text, file.as_path(), told.as_str()),
+        None => push_unnamed(alloc, text, told.as_str()),
+    }
 }
 
 /// What is so of the file whose verdicts are verified.
@@ -270,6 +297,24 @@ fn push_shape(
     push_resolve(text, is_unresolved(fault))
 }
 
+/// How many crates could be roots, and how many are left out.
+fn roots_words(
+    alloc: Global,
+    base: usize,
+    excluded: usize,
+    unpublished: usize,
+) -> Result<String, AllocError>
+    ensures { IfOk result (λ words. string_bytes words ≡ roots_words base excluded unpublished) }
+{
+    let mut words = String::from_str(alloc, "root crates: ")?;
+    write!(words, "{base}")?;
+    words.push_str("; left out by name: ")?;
+    write!(words, "{excluded}")?;
+    words.push_str("; published nowhere: ")?;
+    write!(words, "{unpublished}")?;
+    Ok(words)
+}
+
 fn push_roots(
     alloc: Global,
     text: &mut String,
@@ -280,12 +325,7 @@ fn push_roots(
     ensures { OnOk result (string_bytes text.new
         ≡ string_bytes text.old ++ roots_help base excluded unpublished) }
 {
-    let mut words = String::from_str(alloc, "root crates: ")?;
-    write!(words, "{base}")?;
-    words.push_str("; left out by name: ")?;
-    write!(words, "{excluded}")?;
-    words.push_str("; published nowhere: ")?;
-    write!(words, "{unpublished}")?;
+    let words = roots_words(alloc, base, excluded, unpublished)?;
     push_advice(text, words.as_str())
 }
 
@@ -334,7 +374,7 @@ fn push_help(
         Error::CatalogRead(fault) => push_read(alloc, text, &request.catalog, *fault),
         Error::CatalogSyntax { line } => push_line(alloc, text, &request.catalog, *line),
         Error::StoreRead(fault) => push_store(alloc, text, &request.store, fault),
-        Error::ConfigRead(fault) => push_read(alloc, text, &again.policy, *fault),
+        Error::ConfigRead(fault) => push_policy(alloc, text, &again.policy, *fault),
         Error::ConfigSyntax(fault) => push_syntax(alloc, text, again, *fault),
         Error::ConfigShape(_) | Error::ConfigInvalid(_) => {
             push_unknown(alloc, text, &request.catalog, names_unknown(error))

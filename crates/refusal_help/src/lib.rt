@@ -3,7 +3,9 @@
 #![tactic(auto)]
 
 pub mod again;
+mod flat;
 mod help;
+pub mod laws;
 mod place;
 pub mod tell;
 mod unknown;

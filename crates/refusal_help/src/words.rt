@@ -3,7 +3,7 @@
 ghost use Rattle.std.specs.Prelude.{◌≡◌, IfOk};
 ghost use Rattle.std.specs.String.{string_bytes};
 ghost use Rattle.refusal_help.specs.Words.{fault_words, level_option, manifest_words, read_words, reason_words};
-ghost use Rattle.refusal_help.specs.Words.{built_in_words, line_words, store_words, what_words};
+ghost use Rattle.refusal_help.specs.Words.{built_in_words, line_words, policy_words, store_words, what_words};
 
 use deny_text::path::file_name;
 use diag_core::Severity;
@@ -48,13 +48,30 @@ pub(crate) fn read_words(alloc: Global, fault: ReadFault) -> Result<String, Allo
     }
 }
 
-/// Why the texts of a folder were not read.
+/// Why a policy was not read. Of a call that failed it is not known whether it was a look for the policy or
+/// for an exceptions file, or the policy's read.
+pub(crate) fn policy_words(alloc: Global, fault: ReadFault) -> Result<String, AllocError>
+    ensures { IfOk result (λ words. string_bytes words ≡ policy_words fault) }
+{
+    match fault {
+        ReadFault::Failed { .. } => String::from_str(
+            alloc,
+            "could not be read, or a look for it or for deny.exceptions.toml failed",
+        ),
+        ReadFault::Absent | ReadFault::Folder | ReadFault::NotUtf8 { .. } => {
+            read_words(alloc, fault)
+        }
+    }
+}
+
+/// Why the texts of a folder were not read. Of a call that failed it is not known whether it was the folder's
+/// listing or a text's read.
 #[tactic(auto, unfolding(crate::specs::Words::store_words))]
 pub(crate) fn store_words(fault: &StoreFault) -> &'static str
     ensures { result.now ≡ store_words fault.now }
 {
     match fault {
-        StoreFault::Failed { .. } => "could not be read",
+        StoreFault::Failed { .. } => "the folder or a text in it could not be read",
         StoreFault::Absent => "there is no such folder, or a file of it is gone",
         StoreFault::NotFolder => "is no folder",
         StoreFault::NotUtf8 { .. } => "is no UTF-8",
