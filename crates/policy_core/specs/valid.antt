@@ -1,3 +1,4 @@
+pub mod Code
 pub mod Indexes
 pub mod Laws
 pub mod Policy

@@ -52,8 +52,11 @@ pub struct ExceptionPlace<'p> {
 
 impl<'p, L: Ledger> Model for CountedPolicy<'p, L> {
     ghost use Rattle.policy_core.specs.declared.valid.policy.ValidConfig.{ValidConfig};
+    ghost use Rattle.policy_core.specs.valid.Code.{config_code};
 
     ghost Value = { ValidConfig };
+
+    ghost coded = { config_code };
 
     ghost view = { λ counted. counted.config.now };
 }
@@ -159,7 +162,8 @@ impl<'p> ExceptionPlace<'p> {
     pub fn span(&self) -> Span
         ensures { result ≡ self.now.spec.span }
     {
-        self.exception.spec.name.span
+        let exception = self.exception;
+        exception.spec.name.span
     }
 }
 
