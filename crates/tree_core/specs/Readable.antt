@@ -1,5 +1,7 @@
 -- What of the system's files is read.
-use Rattle.std.specs.Prelude.{◌≡◌, ℕ, ◌≤◌, ◌⊎◌, Bool, true}
+use Rattle.std.specs.Prelude.{◌≡◌, ℕ, ◌≤◌, ◌⊎◌, Bool, true, List}
+use Rattle.std.specs.List.{list_any}
+use Rattle.std.specs.Str.{bytes_eq}
 use Rattle.std.specs.Fs.{IsFile, file_type, metadata_len}
 use Rattle.std.specs.declared.fs.attrs.Metadata.{Metadata}
 
@@ -13,3 +15,7 @@ abbrev pub IsReadable : Metadata → Bool → Type 0
 IsReadable there is_named =
     (IsFile (file_type there) × (metadata_len there ≤ byte_limit))
     ⊎ ((¬ (IsFile (file_type there))) × (is_named ≡ true))
+
+-- a path is one of these, byte for byte
+abbrev pub is_among : List (List ℕ) → List ℕ → Bool
+is_among named path = list_any (λ one. bytes_eq one path) named

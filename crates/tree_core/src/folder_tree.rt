@@ -1,31 +1,31 @@
 //! The real files.
 ghost use Rattle.std.specs.Prelude.{◌≡◌, ◌≢◌, ℕ, ◌↔◌, ◌<◌, ◌≤◌, ◌⊎◌, ◌++◌, [], ◌∷◌, Ok, Err, None, Some};
-ghost use Rattle.std.specs.Prelude.{IfOk, IfErr, OnOk, IsSorted, true, false, vec_len};
+ghost use Rattle.std.specs.Prelude.{IfOk, IfErr, IsOkAnd, IsTrue, OnOk, IsSorted, true, false, vec_len};
 ghost use Rattle.std.specs.Option.{ForSome};
 ghost use Rattle.std.specs.List.{filter};
 ghost use Rattle.std.specs.declared.io.ErrorKind.{ErrorKind};
 ghost use Rattle.std.specs.Io.{ReadsAtMost};
 ghost use Rattle.std.specs.Io.KnownBytes.{Consumes, IsAtEnd, ReadConsumes};
-ghost use Rattle.std.specs.Fs.{IsDir, IsSymlink, file_type};
+ghost use Rattle.std.specs.Fs.{IsDir, IsFile, IsSymlink, file_type};
 ghost use Rattle.std.specs.IoError.{error_kind};
 ghost use Rattle.std.specs.Ordering.{nat_cmp};
 ghost use Rattle.std.specs.Cmp.Lexicographic.{slice_cmp};
 ghost use Rattle.tree_core.specs.Answer.{FailsOrLacksMemory, IsInNameOrder};
 ghost use Rattle.tree_core.specs.Faults.{count_after};
 ghost use Rattle.tree_core.specs.Trace.{read_call, list_call, file_call, exists_call};
-ghost use Rattle.tree_core.specs.Readable.{IsReadable};
+ghost use Rattle.tree_core.specs.Readable.{IsReadable, is_among};
 ghost use Rattle.tree_core.specs.SystemNames.{TellsNames, names_entry, system_names, names_in_listing};
 
+use crate::system::System;
 use crate::trace::Trace;
-use crate::tree::{Entry, FolderEntries, Tree, TreeError};
+use crate::tree::{Entry, FolderEntries, NamesPaths, Tree, TreeError};
 use deny_text::path::join;
 use deny_text::{Bytes, PathBuf, Text};
 use std::alloc::{AllocError, Global};
-use std::fs::{File, Metadata};
+use std::fs::Metadata;
 use std::io;
 use std::io::{ErrorKind, Read};
 use std::marker::Model;
-use std::rt::Files;
 
 /// The most bytes that a file may have.
 const LIMIT: usize = 67_108_864;
@@ -39,18 +39,18 @@ const END: usize = 32;
 /// How many bytes the first reads of a folder ask for: room for one name at least.
 const NAMES: usize = 2_048;
 
-/// The real files, reached through the runtime that it keeps and seen as the count of faults and the calls.
+/// The real files, reached through the system that it keeps and seen as the count of faults and the calls.
 /// Links are followed. What is neither a file nor a folder, as a pipe, is read only where its path is among
-/// those that were named at the making.
+/// those that were named last.
 #[derive(Drop)]
-pub struct FolderTree<R> {
-    rt: R,
+pub struct FolderTree<S> {
+    system: S,
     named: Vec<PathBuf>,
     failed: u64,
     trace: Trace,
 }
 
-impl<R> Model for FolderTree<R> {
+impl<S> Model for FolderTree<S> {
     ghost use Rattle.tree_core.specs.TreeState.{FolderState, folder_code};
 
     ghost Value = { FolderState };
@@ -60,30 +60,18 @@ impl<R> Model for FolderTree<R> {
     ghost view = { λ t. record { faults = t.failed; calls = t.trace.calls } };
 }
 
-impl<R: Files + AllocGlobal + Drop> FolderTree<R> {
+impl<S: System + AllocGlobal + Drop> FolderTree<S> {
     /// No path is named.
-    pub fn new(rt: R) -> FolderTree<R>
+    pub fn new(system: S) -> FolderTree<S>
         ensures { result ≡ record { faults = 0; calls = [] } }
     {
-        let named = Vec::new(rt.alloc());
-        FolderTree::with_named(rt, named)
-    }
-
-    /// The paths at which a pipe or a device is read too.
-    pub fn with_named(rt: R, named: Vec<PathBuf>) -> FolderTree<R>
-        ensures { result ≡ record { faults = 0; calls = [] } }
-    {
+        let named = Vec::new(system.alloc());
         FolderTree {
-            rt,
+            system,
             named,
             failed: 0,
             trace: Trace::new(),
         }
-    }
-
-    /// Whether a path is one of those that were named.
-    fn is_named(&self, path: &str) -> bool {
-        self.named.iter().any(|named| named.as_path() == path)
     }
 
     /// Counts a failure.
@@ -96,7 +84,7 @@ impl<R: Files + AllocGlobal + Drop> FolderTree<R> {
     }
 }
 
-impl<R: Files + AllocGlobal + Drop> Tree for FolderTree<R> {
+impl<S: System + AllocGlobal + Drop> Tree for FolderTree<S> {
     ghost content = { λ _. None };
 
     ghost fault_count = { λ t. t.faults };
@@ -107,7 +95,8 @@ impl<R: Files + AllocGlobal + Drop> Tree for FolderTree<R> {
         ensures counts { self.new.faults ≡ count_after self.old.faults result }
         ensures traced { self.new.calls ≡ self.old.calls ++ read_call path.now result ∷ [] }
     {
-        let answer = read_file(&self.rt, alloc, path, self.is_named(path));
+        let is_named = is_among(&self.named, path);
+        let answer = read_file(&self.system, alloc, path, is_named);
         self.count(&answer);
         self.trace = self.trace.read(path.as_bytes(), &answer);
         answer
@@ -118,7 +107,7 @@ impl<R: Files + AllocGlobal + Drop> Tree for FolderTree<R> {
         ensures counts { self.new.faults ≡ count_after self.old.faults result }
         ensures traced { self.new.calls ≡ self.old.calls ++ list_call path.now result ∷ [] }
     {
-        let answer = list_folder(&self.rt, alloc, path);
+        let answer = list_folder(&self.system, alloc, path);
         self.count(&answer);
         self.trace = self.trace.list(path.as_bytes(), &answer);
         answer
@@ -129,7 +118,7 @@ impl<R: Files + AllocGlobal + Drop> Tree for FolderTree<R> {
         ensures counts { self.new.faults ≡ count_after self.old.faults result }
         ensures traced { self.new.calls ≡ self.old.calls ++ file_call path.now result ∷ [] }
     {
-        let answer = is_real_file(&self.rt, path);
+        let answer = is_real_file(self.system.look(path));
         self.count(&answer);
         self.trace = self.trace.is_file(path.as_bytes(), &answer);
         answer
@@ -140,7 +129,7 @@ impl<R: Files + AllocGlobal + Drop> Tree for FolderTree<R> {
         ensures counts { self.new.faults ≡ count_after self.old.faults result }
         ensures traced { self.new.calls ≡ self.old.calls ++ exists_call path.now result ∷ [] }
     {
-        let answer = is_there(&self.rt, path);
+        let answer = is_there(self.system.look(path));
         self.count(&answer);
         self.trace = self.trace.exists(path.as_bytes(), &answer);
         answer
@@ -149,6 +138,19 @@ impl<R: Files + AllocGlobal + Drop> Tree for FolderTree<R> {
     fn faults(&self) -> u64 {
         self.failed
     }
+}
+
+impl<S: System + AllocGlobal + Drop> NamesPaths for FolderTree<S> {
+    fn name_paths(&mut self, paths: Vec<PathBuf>) {
+        self.named = paths;
+    }
+}
+
+/// Whether a path is one of these, byte for byte.
+fn is_among(named: &[PathBuf], path: &str) -> bool
+    ensures { result ≡ is_among named.now path.now }
+{
+    named.iter().any(|one| one.as_path() == path)
 }
 
 /// What the system's error is to a reader.
@@ -180,7 +182,7 @@ fn failure(error: &io::Error) -> TreeError
     }
 }
 
-/// What is at a path, by what the system answered. Nothing does only where it said so.
+/// What is at a path, by what the system answered to a look at it. Nothing is only where it said so.
 fn looked(answer: io::Result<Metadata>) -> Result<Option<Metadata>, TreeError>
     ensures there { IfOk answer (λ found. result ≡ Ok (Some found)) }
     ensures absent { IfErr answer (λ error. (result ≡ Ok None) ↔ (error_kind error ≡ ErrorKind.NotFound)) }
@@ -200,31 +202,47 @@ fn looked(answer: io::Result<Metadata>) -> Result<Option<Metadata>, TreeError>
     }
 }
 
-/// What is at a path, if anything does.
-fn look<R: Files>(rt: &R, path: &str) -> Result<Option<Metadata>, TreeError>
-    ensures no_absent { IfErr result (λ error. error ≢ TreeError.Absent) }
-    ensures no_kind { IfErr result (λ error. error ≢ TreeError.WrongKind) }
+/// What a look says by the system's error: that nothing is there, or why it could not be made.
+fn not_there(error: &io::Error) -> Result<bool, TreeError>
+    ensures absent { (result ≡ Ok false) ↔ (error_kind error.now ≡ ErrorKind.NotFound) }
+    ensures memory { (result ≡ Err TreeError.Memory) ↔ (error_kind error.now ≡ ErrorKind.OutOfMemory) }
+    ensures nothing { result ≢ Ok true }
+    ensures refusal { FailsOrLacksMemory result }
 {
-    looked(rt.metadata(path))
+    if error.kind() == ErrorKind::NotFound {
+        return Ok(false);
+    }
+    Err(failure(error))
 }
 
-fn is_real_file<R: Files>(rt: &R, path: &str) -> Result<bool, TreeError>
-    ensures { FailsOrLacksMemory result }
+/// Whether a file is at a path, by what the system answered to a look at it.
+fn is_real_file(answer: io::Result<Metadata>) -> Result<bool, TreeError>
+    ensures there { IfOk answer
+        (λ found. IsOkAnd result (λ is_file. IsTrue is_file ↔ IsFile (file_type found))) }
+    ensures absent { IfErr answer (λ error. (result ≡ Ok false) ↔ (error_kind error ≡ ErrorKind.NotFound)) }
+    ensures memory { IfErr answer
+        (λ error. (result ≡ Err TreeError.Memory) ↔ (error_kind error ≡ ErrorKind.OutOfMemory)) }
+    ensures nothing { IfErr answer (λ error. result ≢ Ok true) }
+    ensures refusal { FailsOrLacksMemory result }
 {
-    match look(rt, path) {
-        Ok(Some(found)) => Ok(found.is_file()),
-        Ok(None) => Ok(false),
-        Err(error) => Err(error),
+    match answer {
+        Ok(found) => Ok(found.is_file()),
+        Err(error) => not_there(&error),
     }
 }
 
-fn is_there<R: Files>(rt: &R, path: &str) -> Result<bool, TreeError>
-    ensures { FailsOrLacksMemory result }
+/// Whether anything is at a path, by the same.
+fn is_there(answer: io::Result<Metadata>) -> Result<bool, TreeError>
+    ensures there { IfOk answer (λ found. result ≡ Ok true) }
+    ensures absent { IfErr answer (λ error. (result ≡ Ok false) ↔ (error_kind error ≡ ErrorKind.NotFound)) }
+    ensures memory { IfErr answer
+        (λ error. (result ≡ Err TreeError.Memory) ↔ (error_kind error ≡ ErrorKind.OutOfMemory)) }
+    ensures nothing { IfErr answer (λ error. result ≢ Ok true) }
+    ensures refusal { FailsOrLacksMemory result }
 {
-    match look(rt, path) {
-        Ok(Some(_)) => Ok(true),
-        Ok(None) => Ok(false),
-        Err(error) => Err(error),
+    match answer {
+        Ok(_) => Ok(true),
+        Err(error) => not_there(&error),
     }
 }
 
@@ -272,15 +290,15 @@ fn opened<F>(answer: io::Result<F>) -> Result<F, TreeError>
 }
 
 /// The bytes of what is at a path.
-fn read_file<R: Files>(
-    rt: &R,
+fn read_file<S: System>(
+    system: &S,
     alloc: Global,
     path: &str,
     is_named: bool,
 ) -> Result<Bytes, TreeError> {
-    let found = look(rt, path)?;
+    let found = looked(system.look(path))?;
     readable(&found, is_named)?;
-    let mut file = opened(File::open(rt, path))?;
+    let mut file = opened(system.open_file(path))?;
     let bytes = read_to_limit(&mut file, alloc, LIMIT, length_told(&found), END)?;
     Ok(Bytes::from(bytes))
 }
@@ -393,20 +411,20 @@ fn listable(found: &Option<Metadata>) -> Result<(), TreeError>
     }
 }
 
-fn list_folder<R: Files>(rt: &R, alloc: Global, path: &str) -> Result<FolderEntries, TreeError>
+fn list_folder<S: System>(system: &S, alloc: Global, path: &str) -> Result<FolderEntries, TreeError>
     ensures { IfOk result IsInNameOrder }
 {
-    let found = look(rt, path)?;
+    let found = looked(system.look(path))?;
     listable(&found)?;
     // With a slash behind it a path leads through a link at its end.
     let through = join(alloc, path, "")?;
-    let mut folder = opened(rt.open_dir(through.as_path()))?;
-    list_opened(rt, alloc, path, &mut folder)
+    let mut folder = opened(system.open_folder(through.as_path()))?;
+    list_opened(system, alloc, path, &mut folder)
 }
 
 /// The entries of a folder that was opened: one for each name that the system tells.
-fn list_opened<R: Files, D: Read>(
-    rt: &R,
+fn list_opened<S: System, D: Read>(
+    system: &S,
     alloc: Global,
     path: &str,
     folder: &mut D,
@@ -416,12 +434,12 @@ fn list_opened<R: Files, D: Read>(
     ensures ordered { IfOk result IsInNameOrder }
 {
     let names = names_in(alloc, folder)?;
-    entries_named(rt, alloc, path, names)
+    entries_named(system, alloc, path, names)
 }
 
 /// The entries with these names.
-fn entries_named<R: Files>(
-    rt: &R,
+fn entries_named<S: System>(
+    system: &S,
     alloc: Global,
     path: &str,
     names: Vec<Text>,
@@ -430,7 +448,7 @@ fn entries_named<R: Files>(
 {
     let mut entries = FolderEntries::new(alloc);
     'names: for name in names {
-        let is_file = is_file_entry(rt, alloc, path, name.as_str())?;
+        let is_file = is_file_entry(system, alloc, path, name.as_str())?;
         entries.push(Entry { name, is_file })?;
     }
     Ok(entries)
@@ -455,17 +473,17 @@ fn dangling(answer: io::Result<Metadata>) -> Result<bool, TreeError>
 }
 
 /// Whether an entry is a file. A link to nothing is none; every other entry has to be there.
-fn is_file_entry<R: Files>(
-    rt: &R,
+fn is_file_entry<S: System>(
+    system: &S,
     alloc: Global,
     folder: &str,
     name: &str,
 ) -> Result<bool, TreeError> {
     let place = join(alloc, folder, name)?;
-    if let Some(found) = look(rt, place.as_path())? {
+    if let Some(found) = looked(system.look(place.as_path()))? {
         return Ok(found.is_file());
     }
-    dangling(rt.symlink_metadata(place.as_path()))
+    dangling(system.look_at_link(place.as_path()))
 }
 
 /// The names that the system tells of a folder, in byte order.

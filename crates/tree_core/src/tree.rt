@@ -8,7 +8,7 @@ ghost use Rattle.tree_core.specs.Call.{Call};
 ghost use Rattle.tree_core.specs.Faults.{count_after};
 ghost use Rattle.tree_core.specs.Trace.{read_call, list_call, file_call, exists_call};
 
-use deny_text::{Bytes, ListOf, Text};
+use deny_text::{Bytes, ListOf, PathBuf, Text};
 use std::alloc::{AllocError, Global};
 use thiserror::Error;
 
@@ -93,4 +93,13 @@ pub trait Tree {
     /// How often a call has failed; it stops at the last number.
     fn faults(&self) -> u64
         ensures { result ≡ fault_count self.now };
+}
+
+/// A tree that reads a pipe or a device only at paths that it is given.
+pub trait NamesPaths: Tree {
+    /// Gives it these paths, in place of those that it had. Nothing else of it changes.
+    fn name_paths(&mut self, paths: Vec<PathBuf>)
+        ensures content { Self.content self.new ≡ Self.content self.old }
+        ensures counts { Self.fault_count self.new ≡ Self.fault_count self.old }
+        ensures traced { Self.trace self.new ≡ Self.trace self.old };
 }
