@@ -36,9 +36,10 @@ test:
 cases:
 	@sh tools/cases.sh $(NAME)
 
-# Compares what the built program prints of each example, and of odd words and files, and the outputs that the documents show,
+# Compares what the built programs print of each example, and of odd words and files, and the outputs that the documents show,
 # with examples/outputs.
 examples: build
+	@sh tools/build.sh licence_hash
 	@sh tools/examples.sh
 
 # Prints what each crate depends on and which crates use it, or of one crate: make map NAME=gather_license

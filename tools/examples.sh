@@ -1,12 +1,13 @@
 #!/bin/sh
-# Runs the built program over each folder of examples/ and over words and files that a system can give it, and compares both
-# streams and the status with the files of examples/outputs, and these with the blocks of the documents. What differs is printed,
-# and the status is then 1.
+# Runs the built program over each folder of examples/ and over words and files that a system can give it, and licence-hash over
+# odd words, and compares both streams and the status with the files of examples/outputs, and these with the blocks of the
+# documents. What differs is printed, and the status is then 1.
 # usage: tools/examples.sh [PROGRAM]
 set -eu
 cd "$(dirname "$0")/.."
 top=$(pwd)
 program=$(realpath "${1:-crates/cargo_deny/out/cargo_deny}")
+hasher=$(realpath crates/licence_hash/out/licence_hash)
 room=$(mktemp -d)
 trap 'rm -rf "$room"' EXIT
 failed=0
@@ -135,5 +136,13 @@ cp "$first/Cargo.toml" "$first/deny.toml" "$first/metadata.json" "$folder"
 ln -s deny.exceptions.toml "$folder/deny.exceptions.toml"
 metadata "$folder"
 compare hostile-exceptions "$folder" "'$program' --metadata-path '$room/metadata.json' check licenses"
+
+# licence-hash without words, for help, over one file, and where standard output refuses what is written.
+files="$top/crates/licence_hash/data"
+compare hash-nothing "$files" "'$hasher'"
+compare hash-help "$files" "'$hasher' --help"
+compare hash-one "$files" "'$hasher' TERMS"
+compare hash-refused "$files" "'$hasher' TERMS >/dev/full"
+compare hash-help-refused "$files" "'$hasher' -h >/dev/full"
 [ "$failed" = 0 ] && echo "the examples come to what examples/outputs has"
 exit "$failed"

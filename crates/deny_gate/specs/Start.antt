@@ -5,7 +5,7 @@ use Rattle.tree_core.specs.Content.{Content}
 use Rattle.spdx_terms.specs.catalog.BuiltIn.{built_in}
 use Rattle.spdx_terms.specs.catalog.Store.{match_of}
 use Rattle.spdx_terms.specs.catalog.Table.{table_lists}
-use Rattle.run_found.specs.Hearing.{HasMade}
+use Rattle.run_found.specs.Hearing.{HasMade, TreeSeen}
 use Rattle.run_found.specs.Written.{IsSilent}
 use Rattle.run_command.specs.Prelude.{from_there, up_to}
 use Rattle.deny_run.specs.declared.outcome.Outcome.{Outcome}
@@ -22,6 +22,11 @@ abbrev pub start_line : StartError → List ℕ
 start_line Memory = codes "error: out of memory\n"
 start_line Words = codes "error: the words could not be read\n"
 start_line Folder = codes "error: the working folder could not be read\n"
+
+-- nothing came of a tree: what it tells of its content, its count of faults and its calls are as before
+abbrev pub IsKept : TreeSeen → Type 0
+IsKept tree =
+    (tree.tells ≡ tree.told) × (tree.count_after ≡ tree.count_before) × (tree.calls_after ≡ tree.calls_before)
 
 -- the outcome is that of a run over these words and this folder, with the catalogue and the licence texts that are
 -- built in

@@ -1,4 +1,4 @@
-//! The gate over the words, the files and the streams that a process is given.
+//! The gate over the words that an environment tells, a tree and two sinks.
 //! Called by `cargo_deny` and `tests_start`; words, folder and store may be asked for in any order.
 #![tactic(auto)]
 
@@ -9,7 +9,7 @@ ghost use Rattle.spdx_terms.specs.catalog.BuiltIn.{built_in};
 ghost use Rattle.tree_core.specs.Script.{LineWritten};
 ghost use Rattle.run_request.specs.Given.{texts};
 ghost use Rattle.deny_run.specs.Run as run;
-ghost use Rattle.deny_gate.specs.Start.{IsGate, IsGateRun, RunsAndTells, ending_of, start_line};
+ghost use Rattle.deny_gate.specs.Start.{IsGate, IsGateRun, IsKept, RunsAndTells, ending_of, start_line};
 ghost use Rattle.run_found.specs.Hearing.{seen_between, HasMade};
 ghost use Rattle.run_found.specs.Written.{sink_between};
 ghost use Rattle.deny_run.specs.Seen.{run_seen};
@@ -27,7 +27,7 @@ use std::env::Env;
 use std::io::ErrorKind;
 use std::process::ExitCode;
 use std::{env, io, path};
-use tree_core::{FolderTree, Sink, StdSink, Tree, write_all};
+use tree_core::{NamesPaths, Sink, Tree, write_all};
 
 /// Why the gate could not begin.
 #[derive(Clone, Copy, Debug, PartialEq, Eq)]
@@ -95,13 +95,17 @@ fn folder_of<V: Env + AllocGlobal>(env: &V) -> Result<path::PathBuf, StartError>
     }
 }
 
-/// The words, the folder, and the store of the built-in licence texts.
-fn start_of<V: Env + AllocGlobal>(env: &V) -> Result<Start, StartError>
-    ensures { IfOk result (λ start. start.store ≡ built_in) }
+/// The words, the folder, and the store of the built-in licence texts. The tree gets the paths that the words
+/// name, and nothing else of it changes.
+fn start_of<V: Env + AllocGlobal, T: NamesPaths>(env: &V, tree: &mut T) -> Result<Start, StartError>
+    ensures store { IfOk result (λ start. start.store ≡ built_in) }
+    ensures kept { IsKept (seen_between T.content T.fault_count T.trace tree.old tree.new) }
 {
     let words = words_of(env)?;
     let folder = folder_of(env)?;
     let store = LicenseStore::from_cache(env.alloc())?;
+    let named = named_paths(env.alloc(), &words, folder.as_str())?;
+    tree.name_paths(named);
     Ok(Start {
         words,
         folder,
@@ -168,14 +172,19 @@ fn run_told<T: Tree, O: Sink, E: Sink>(
 }
 
 /// The start of a process. Where the environment does not tell it, one line on `err` says so.
-fn started<V: Env + AllocGlobal, E: Sink>(env: &V, err: &mut E) -> Result<Start, StartError>
+fn started<V: Env + AllocGlobal, T: NamesPaths, E: Sink>(
+    env: &V,
+    tree: &mut T,
+    err: &mut E,
+) -> Result<Start, StartError>
+    ensures kept { IsKept (seen_between T.content T.fault_count T.trace tree.old tree.new) }
     ensures store { IfOk result (λ start. start.store ≡ built_in) }
     ensures line { IfErr result (λ error. LineWritten (E.written err.old) (E.written err.new)
         (E.fault_count err.old) (E.fault_count err.new) (start_line error)) }
     ensures silent { OnOk result ((E.written err.new ≡ E.written err.old)
         × (E.fault_count err.new ≡ E.fault_count err.old)) }
 {
-    match start_of(env) {
+    match start_of(env, tree) {
         Ok(start) => Ok(start),
         Err(error) => {
             write_line(err, &error);
@@ -185,8 +194,9 @@ fn started<V: Env + AllocGlobal, E: Sink>(env: &V, err: &mut E) -> Result<Start,
 }
 
 /// Runs the gate over the words of an environment, in its working folder, with the built-in catalogue and
-/// licence texts. Where the environment does not tell them, one line on `err` says so.
-pub fn gate_over<V: Env + AllocGlobal, T: Tree, O: Sink, E: Sink>(
+/// licence texts; the tree gets the paths that the words name. Where the environment does not tell words or
+/// folder, one line on `err` says so.
+pub fn gate_over<V: Env + AllocGlobal, T: NamesPaths, O: Sink, E: Sink>(
     env: &V,
     tree: &mut T,
     out: &mut O,
@@ -196,35 +206,8 @@ pub fn gate_over<V: Env + AllocGlobal, T: Tree, O: Sink, E: Sink>(
         (sink_between O.written O.fault_count out.old out.new)
         (sink_between E.written E.fault_count err.old err.new)) result }
 {
-    let start = started(env, err)?;
+    let start = started(env, tree, err)?;
     Ok(run_told(env.alloc(), &start, tree, out, err))
-}
-
-/// The real files, of which those that the words name may be pipes or devices. Where memory is wanting, one
-/// line on `err` says so.
-fn files_of<'r, E: Sink>(
-    rt: &'r HostRuntime,
-    start: &Start,
-    err: &mut E,
-) -> Result<FolderTree<&'r HostRuntime>, StartError> {
-    match named_paths(rt.alloc(), &start.words, start.folder.as_str()) {
-        Ok(named) => Ok(FolderTree::with_named(rt, named)),
-        Err(_) => {
-            write_line(err, &StartError::Memory);
-            Err(StartError::Memory)
-        }
-    }
-}
-
-/// Runs the gate over the words, the files and the streams of the process.
-pub fn gate(rt: HostRuntime) -> Result<Outcome, StartError>
-    ensures status { IfOk result (λ outcome. outcome.status ≡ run.exit_status outcome.ended) }
-{
-    let mut out = StdSink::new(rt.stdout());
-    let mut err = StdSink::new(rt.stderr());
-    let start = started(&rt, &mut err)?;
-    let mut tree = files_of(&rt, &start, &mut err)?;
-    Ok(run_told(rt.alloc(), &start, &mut tree, &mut out, &mut err))
 }
 
 /// What the process ends with: the status of the run, or 1 where the gate could not begin.

@@ -1,5 +1,5 @@
 //! The paths that words name.
-//! Called by `files_of` of `lib`; room may be taken first, the order of the words is in a clause.
+//! Called by `start_of` of `lib`; room may be taken first, the order of the words is in a clause.
 ghost use Rattle.std.specs.Prelude.{◌≡◌, ◌++◌, IfOk, OnOk, option_copied};
 ghost use Rattle.run_request.specs.Given.{texts};
 ghost use Rattle.deny_gate.specs.Named.{paths_in, paths_named, value_in};

@@ -15,6 +15,8 @@ pub enum TellError {
     Memory,
     /// A sink refused a write.
     Write,
+    /// The words were not reported, or one is no UTF-8.
+    Words,
 }
 
 impl From<AllocError> for TellError {
@@ -98,7 +100,7 @@ pub fn tell<T: Tree, O: Sink, E: Sink>(
     Ok(is_told)
 }
 
-fn both(first: bool, second: bool) -> bool
+pub fn both(first: bool, second: bool) -> bool
     ensures { result ≡ (first && second) }
 {
     first && second

@@ -1,6 +1,7 @@
 //! Rows and cases of the start of a process: how it ends, what it writes, and the paths that its words name.
 #![tactic(auto)]
 
+mod named_tree;
 mod process;
 mod start;
 

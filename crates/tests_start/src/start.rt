@@ -1,4 +1,5 @@
 //! How a process ends, what it writes, and the paths that its words name.
+use crate::named_tree::NamedTree;
 use crate::process::Process;
 use deny_gate::{StartError, exit_code, gate_over, named_paths};
 use deny_run::{CrateReport, Outcome, RunEnd, Verdict};
@@ -66,19 +67,20 @@ fn put_status(out: &mut AnswerText, ended_at: &Result<Outcome, StartError>) {
 fn run_over(
     alloc: Global,
     process: Process<'_>,
-    tree: &mut MemTree,
+    tree: &mut NamedTree,
     out: &mut MemSink,
     err: &mut MemSink,
 ) -> Result<Outcome, StartError> {
     gate_over(&(process, alloc), tree, out, err)
 }
 
-/// What a process came to: how it ended, and what it wrote.
+/// What a process came to: how it ended, what it wrote, and the paths that its tree was given.
 #[derive(Drop)]
 struct ProcessEnd {
     /// Whether the call of the tree could be let fail that the case names.
     is_set: bool,
     ended_at: Result<Outcome, StartError>,
+    named: Vec<PathBuf>,
     out: MemSink,
     err: MemSink,
 }
@@ -100,10 +102,14 @@ fn end_with(
     mut err: MemSink,
 ) -> ProcessEnd {
     let is_set = let_fail(&mut tree, case.word("fail"));
+    let named = Vec::new(alloc);
+    let mut tree = NamedTree { tree, named };
     let ended_at = run_over(alloc, process_of(case), &mut tree, &mut out, &mut err);
+    let NamedTree { tree: _, named } = tree;
     ProcessEnd {
         is_set,
         ended_at,
+        named,
         out,
         err,
     }
@@ -181,6 +187,13 @@ fn first_line(sink: &MemSink) -> &str {
     written(sink).lines().next().unwrap_or("")
 }
 
+/// Puts paths, each in brackets.
+fn put_paths(out: &mut AnswerText, paths: &[PathBuf]) {
+    for path in paths {
+        write!(out, "[{}]", path.as_path());
+    }
+}
+
 /// Puts what a key names of the end of the process of a case.
 fn put_end(
     alloc: Global,
@@ -192,6 +205,7 @@ fn put_end(
     match key {
         "ended" => put_ended(out, &end.ended_at),
         "status" => put_status(out, &end.ended_at),
+        "named" => put_paths(out, &end.named),
         "out" => out.put(written(&end.out)),
         "err" => out.put(written(&end.err)),
         "err-line" => out.put(first_line(&end.err)),
@@ -251,11 +265,7 @@ pub struct NamedRows;
 impl Rows for NamedRows {
     fn answer(&self, alloc: Global, group: &str, text: &str, out: &mut AnswerText) -> bool {
         match &named(alloc, text) {
-            Ok(paths) => {
-                for path in paths {
-                    write!(out, "[{}]", path.as_path());
-                }
-            }
+            Ok(paths) => put_paths(out, paths),
             Err(_) => out.want_memory(),
         }
         group == "paths that words name"

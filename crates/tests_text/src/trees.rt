@@ -61,7 +61,7 @@ fn put_bytes(out: &mut AnswerText, alloc: Global, bytes: &[u8]) {
 }
 
 /// Puts what a read answers: the bytes, or how many there are.
-pub fn put_read(
+fn put_read(
     out: &mut AnswerText,
     alloc: Global,
     answer: Result<Bytes, TreeError>,
@@ -91,7 +91,7 @@ fn put_entries(out: &mut AnswerText, entries: &[Entry]) {
 }
 
 /// Puts what a listing answers.
-pub fn put_list(out: &mut AnswerText, answer: Result<FolderEntries, TreeError>) {
+fn put_list(out: &mut AnswerText, answer: Result<FolderEntries, TreeError>) {
     match &answer {
         Ok(entries) => put_entries(out, entries.items()),
         Err(error) => write!(out, "{error:?}"),
@@ -99,7 +99,7 @@ pub fn put_list(out: &mut AnswerText, answer: Result<FolderEntries, TreeError>) 
 }
 
 /// Puts what a look answers.
-pub fn put_whether(out: &mut AnswerText, whether: Result<bool, TreeError>) {
+fn put_whether(out: &mut AnswerText, whether: Result<bool, TreeError>) {
     match whether {
         Ok(is_so) => write!(out, "{is_so}"),
         Err(error) => write!(out, "{error:?}"),
@@ -146,7 +146,7 @@ fn write_file(rt: &HostRuntime, path: &str, bytes: &[u8]) -> io::Result<()> {
 #[derive(Drop)]
 enum Store<'r> {
     Memory(MemTree),
-    Folder(&'r HostRuntime, FolderTree<&'r HostRuntime>),
+    Folder(&'r HostRuntime, FolderTree<HostRuntime>),
 }
 
 impl<'r> Store<'r> {
@@ -257,7 +257,7 @@ impl<'r> Cases for Trees<'r> {
         match key {
             "memory" => put_answered(out, alloc, lines, &mut Store::Memory(MemTree::new(alloc))),
             "folder" => {
-                let tree = FolderTree::new(self.rt);
+                let tree = FolderTree::new(*self.rt);
                 put_answered(out, alloc, lines, &mut Store::Folder(self.rt, tree));
             }
             "writes" => match sink_of(alloc, case) {
