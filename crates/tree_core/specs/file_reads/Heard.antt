@@ -1,9 +1,10 @@
 -- What is read of a crate's files, and what a content has of them.
-use Rattle.std.specs.Prelude.{ℕ, Bool, true, false, ◌&&◌, List, [], Option, Some, None}
+use Rattle.std.specs.Prelude.{ℕ, Bool, true, false, ◌&&◌, List, [], Option, Some, None, if◌then◌else◌}
 use Rattle.std.specs.FinMap as map
 use Rattle.std.specs.List.{fold}
 use Rattle.std.specs.Ordering.{eq_by_cmp}
 use Rattle.std.specs.Cmp.Lexicographic.{slice_cmp}
+use Rattle.std.specs.Str.{is_utf8}
 use Rattle.deny_text.specs.Path.{components_of, part_cmp}
 use Rattle.tree_core.specs.Content.{Content, TreeNode, file, folder, Place, step, entries_in, ListedEntry}
 use Rattle.tree_core.specs.declared.reads.ReadAnswer.{ReadAnswer}
@@ -24,6 +25,10 @@ pub data ReadResult : Type 0 where
   entries : List ListedEntry → ReadResult
 
 -- ---- what is in a tree
+
+-- bytes as a text
+abbrev pub text_heard : List ℕ → ReadResult
+text_heard bytes = if is_utf8 bytes then text bytes else not_utf8
 
 -- of what is there, read as a text
 unfoldable pub file_heard : Option TreeNode → ReadResult
