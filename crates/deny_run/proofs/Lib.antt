@@ -8,3 +8,4 @@ pub mod RunLemmas
 pub mod SummaryLemmas
 pub mod VerifyLemmas
 pub mod WordLemmas
+pub mod YesLemmas

@@ -19,6 +19,7 @@ use Rattle.deny_run.proofs.EndLemmas.{labels_end}
 use Rattle.deny_run.proofs.HeadlineLemmas.{headline}
 use Rattle.deny_run.proofs.LawfulLemmas.{complete}
 use Rattle.deny_run.proofs.RunLemmas.{answer_ends, answer_made, answer_never, answer_unsupported}
+use Rattle.deny_run.proofs.YesLemmas.{verified_yes}
 
 module _ (given : RunArguments) (seen : RunSeen) (answered : Answered) (written : Option (List ℕ)) (count : ℕ) (early : seen.err.before ≤ count) (late : count ≤ seen.err.after) (out_later : seen.out.before ≤ seen.out.after)
     (is : IsAnswered given (record seen { err = sink_to seen.err written count }) answered) (line : EndsLine answered.answer (sink_from seen.err written count)) where
@@ -54,5 +55,6 @@ module _ (given : RunArguments) (seen : RunSeen) (answered : Answered) (written 
     labels = labels_end answered.answer is.labels;
     status = refl;
     headline = headline given seen outcome is_outcome refl;
+    verified = verified_yes given seen outcome is_outcome;
     complete = complete given seen outcome is_outcome;
   }

@@ -7,4 +7,5 @@ pub mod Laws
 pub mod Run
 pub mod Sample
 pub mod Seen
+pub mod VerifiedYes
 pub mod Words

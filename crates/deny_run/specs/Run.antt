@@ -21,6 +21,7 @@ use Rattle.deny_run.specs.Ends.{HasLabels, IsOutcome}
 use Rattle.deny_run.specs.Given.{RunArguments}
 use Rattle.deny_run.specs.Headline.{Headline}
 use Rattle.deny_run.specs.Seen.{IsLater, RunSeen}
+use Rattle.deny_run.specs.VerifiedYes.{VerifiedYes}
 use Rattle.deny_run.specs.Words.{AnswersWords}
 
 -- ---- the status
@@ -80,5 +81,8 @@ pub record IsRun (given : RunArguments) (seen : RunSeen) (result : Outcome) : Ty
   -- The headline, in the words of policies, records and verdicts: by what was read, and by the content where the tree
   -- tells it.
   pub headline : Headline given seen result
+  -- Where `verify` ends with a yes, the verdict file that was read names just the crates that are selected, and each of
+  -- its verdicts is the one that the policy gives: by what was read, and by the content where the tree tells it.
+  pub verified : VerifiedYes given seen result
   -- Lawful input without a fault ends as its command ends, but for want of memory.
   pub complete : IsComplete given seen result

@@ -1,3 +1,4 @@
 pub mod EndLemmas
 pub mod RecordLemmas
 pub mod VerifyLemmas
+pub mod YesLemmas

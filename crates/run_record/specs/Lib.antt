@@ -2,3 +2,4 @@ pub mod Judged
 pub mod Recorded
 pub mod Steps
 pub mod Verified
+pub mod Yes
