@@ -1,6 +1,6 @@
 -- What a run of the program comes to.
-use Rattle.std.specs.Prelude.{◌≡◌, ℕ, Bool, true, false, ◌&&◌, ◌||◌, List, [], ◌∷◌, ◌++◌, map, codes, Option, Result, Ok}
-use Rattle.std.specs.Prelude.{Err, string_bytes}
+use Rattle.std.specs.Prelude.{◌≡◌, ℕ, Bool, true, false, ◌&&◌, ◌||◌, List, [], ◌∷◌, ◌++◌, map, codes, Option, Result}
+use Rattle.std.specs.Prelude.{Ok, Err, string_bytes}
 use Rattle.std.specs.Str.{bytes_eq}
 use Rattle.std.specs.declared.string.String.{String}
 use Rattle.tree_core.specs.Call.{Call}
@@ -17,7 +17,8 @@ texts words = map string_bytes words
 unfoldable pub usage : List ℕ
 usage =
     codes "usage: licence-hash FILE..\n"
-    ++ codes "Writes for each file the entry that `license-files` of a clarification takes. Run it in the crate's folder,\n"
+    ++ codes "Writes for each file the entry that `license-files` of a clarification takes. "
+    ++ codes "Run it in the crate's folder,\n"
     ++ codes "since a clarification names a file from there on. Status 1: a file is not there, or is no text.\n"
 
 -- what is asked for: all words but the first, which is the program's name
