@@ -72,9 +72,8 @@ fn granted_hit<L: Ledger>(
         ≤ steps.old + granted_entries (map grant_of policy.now.exceptions) exceptions.now term.now }
 {
     'exceptions: for exception in exceptions {
-        let hit = exception_hit(policy, index, *exception, term, steps);
-        if hit.is_some() {
-            return hit;
+        if let Some(hit) = exception_hit(policy, index, *exception, term, steps) {
+            return Some(hit);
         }
     }
     None
