@@ -23,6 +23,7 @@ use Rattle.policy_core.specs.declared.valid.policy.ValidConfig.{ValidConfig}
 use Rattle.gather_core.specs.Calls.{AreTurnsBy, ReadsOfCrate, CrateTurn, HasOwnReads, calls_of_all, files_behind_all}
 use Rattle.gather_core.specs.Calls.{reads_of_all, turn_by, turns_of}
 use Rattle.gather_core.specs.Entries.{clarifications_of, entries_of}
+use Rattle.gather_core.specs.Exceptions.{counted_of, exception_rules}
 use Rattle.gather_core.specs.Gathered.{include_of, krate_of, threshold_of}
 use Rattle.gather_core.specs.Turns.{asks_manifest, in_order, records_in}
 use Rattle.gather_core.specs.declared.summary.KrateLicense.{KrateLicense}
@@ -41,6 +42,11 @@ abbrev pub priority_heard : Scanner → ValidConfig → ReadsOfCrate → Option 
 priority_heard scanner policy one =
     priority_of scanner (clarifications_of one.krate (entries_of policy)) one.krate (known_reads_by one.reads)
 
+-- The exceptions of the policy that count for a crate, as their places in its list, by what the answers to its own reads
+-- say.
+abbrev pub counted_heard : ValidConfig → ReadsOfCrate → List ℕ
+counted_heard policy one = counted_of (exception_rules policy) one.krate (known_reads_by one.reads)
+
 -- its expression
 abbrev pub expression_in : Option LicenseAnswer → Option ExpressionView
 expression_in answer = option_map (λ own. own.expression) answer
@@ -52,21 +58,23 @@ pub record IsManifestRead (clarifications : List ClarificationView) (krate : Cra
   pub kind : read.kind ≡ Manifest
   pub path : read.path ≡ krate.manifest_path
 
--- The records of a crate's reads are those that its licence asks for by what their answers say, each file once, and
--- perhaps the one of its manifest.
+-- The records of a crate's reads are those that its licence asks for by what their answers say, perhaps the one of its
+-- manifest, and behind these the files that exceptions look up and that were not read yet; each file once.
 pub record ReadsItsFiles (scanner : Scanner) (policy : ValidConfig) (one : ReadsOfCrate) : Type 0 where
   pub manifest : Option ReadRecord
   pub of_manifest : IfSome manifest
       (IsManifestRead (clarifications_of one.krate (entries_of policy)) one.krate (known_reads_by one.reads))
   pub are : records_of_reads one.reads
-      ≡ in_order (is_nothing (clarifications_of one.krate (entries_of policy))) manifest
-      (records_of scanner (clarifications_of one.krate (entries_of policy)) one.krate (known_reads_by one.reads))
+      ≡ with_looked (exception_rules policy) one.krate (known_reads_by one.reads)
+      (in_order (is_nothing (clarifications_of one.krate (entries_of policy))) manifest
+      (records_of scanner (clarifications_of one.krate (entries_of policy)) one.krate (known_reads_by one.reads)))
 
 -- ---- turn after turn
 
 -- the turns of the crates, one after another, each by its own reads, from a file table on
 abbrev pub turns_heard : Scanner → ValidConfig → List File → List ReadsOfCrate → List CrateTurn
-turns_heard scanner policy files crates = turns_of scanner policy.file_id (entries_of policy) files crates
+turns_heard scanner policy files crates =
+    turns_of scanner policy.file_id (entries_of policy) (exception_rules policy) files crates
 
 -- ---- over a tree
 
@@ -89,7 +97,7 @@ pub record IsTurnBegun (scanner : Scanner) (policy : ValidConfig) (files : List 
   pub crates_are : crates ≡ earlier ++ one ∷ []
   pub lost_is : lost ≡ call_lost (folder_of one.krate) next
   pub front : IsFront (records_of_reads one.reads ++ option_to_list next)
-      (records_in (turn_by scanner policy.file_id (entries_of policy)
+      (records_in (turn_by scanner policy.file_id (entries_of policy) (exception_rules policy)
       (files_behind_all files (turns_heard scanner policy files earlier)) one).turn)
 
 -- The first ones of these crates had their turns, from a file table on, each by its own reads, and perhaps one more was
