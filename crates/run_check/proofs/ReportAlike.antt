@@ -151,21 +151,22 @@ module _ (policy : Policy) where
   skips_as (Accepted choice hits) = refl
   skips_as (Rejected least blocks) = refl
 
-  skips_by : (private : Bool) (krate : CrateRecord) (counted : List ℕ) (expression : Option ExpressionView) → skips (verdict_of private policy counted expression) ≡ private
+  skips_by : (private : Bool) (counted : List ℕ) (expression : Option ExpressionView) → skips (verdict_of private policy counted expression) ≡ private
   skips_by true counted expression = refl
   skips_by false counted None = refl
-  skips_by false krate (Some expression) = either (is_allowed policy krate expression.terms expression.tree)
+  skips_by false counted (Some expression) = either (is_allowed policy counted expression.terms expression.tree)
     where
       either : (b : Bool) → skips (cond b accepted rejected) ≡ false
       either true = refl
       either false = refl
 
-  skipped_by : (krate : CrateRecord) (expression : Option ExpressionView) (verdict : Verdict) (is : IsVerdict policy krate expression verdict) → is_skipped verdict ≡ is.judged.private
-  skipped_by krate expression verdict is = sym (skips_as verdict) ∙ ap skips is.judged.is ∙ skips_by is.judged.private krate expression
+  skipped_by : (krate : CrateRecord) (counted : List ℕ) (expression : Option ExpressionView) (verdict : Verdict) (is : IsVerdict policy krate counted expression verdict) → is_skipped verdict ≡ is.judged.private
+  skipped_by krate counted expression verdict is = sym (skips_as verdict) ∙ ap skips is.judged.is ∙ skips_by is.judged.private counted expression
 
-  skipped_alike : (krate : CrateRecord) (expression : Option ExpressionView) (one other : Verdict) → IsVerdict policy krate expression one → IsVerdict policy krate expression other → is_skipped one ≡ is_skipped other
-  skipped_alike krate expression one other first second =
-      skipped_by krate expression one first ∙ same_test first.judged.private second.judged.private (λ (own : IsPrivate policy krate). own) (λ (own : IsPrivate policy krate). own) first.judged.tells second.judged.tells ∙ sym (skipped_by krate expression other second)
+  skipped_alike : (krate : CrateRecord) (counted : List ℕ) (expression : Option ExpressionView) (one other : Verdict) → IsVerdict policy krate counted expression one → IsVerdict policy krate counted expression other
+      → is_skipped one ≡ is_skipped other
+  skipped_alike krate counted expression one other first second =
+      skipped_by krate counted expression one first ∙ same_test first.judged.private second.judged.private (λ (own : IsPrivate policy krate). own) (λ (own : IsPrivate policy krate). own) first.judged.tells second.judged.tells ∙ sym (skipped_by krate counted expression other second)
 
   packs_alike : (asked : List GatheredCrate) (one other : List Verdict) → AreVerdicts policy asked one → AreVerdicts policy asked other → packs_of policy asked one ≡ packs_of policy asked other
   packs_alike [] [] [] first second = refl
@@ -174,7 +175,7 @@ module _ (policy : Policy) where
   packs_alike (asked ∷ more) [] other first second = absurd first
   packs_alike (asked ∷ more) (v ∷ vs) [] first second = absurd second
   packs_alike (asked ∷ more) (v ∷ vs) (w ∷ ws) first second =
-      ap₂ (λ private rest. pack_by private policy asked ∷ rest) (skipped_alike asked.krate (expression_of asked.info) v w first.0 second.0) (packs_alike more vs ws first.1 second.1)
+      ap₂ (λ private rest. pack_by private policy asked ∷ rest) (skipped_alike asked.krate asked.exceptions (expression_of asked.info) v w first.0 second.0) (packs_alike more vs ws first.1 second.1)
 
   hits_alike : (asked : List GatheredCrate) (one other : List Verdict) → AreVerdicts policy asked one → AreVerdicts policy asked other → all_hits policy asked one ≡ all_hits policy asked other
   hits_alike [] [] [] first second = refl
@@ -183,7 +184,7 @@ module _ (policy : Policy) where
   hits_alike (asked ∷ more) [] other first second = absurd first
   hits_alike (asked ∷ more) (v ∷ vs) [] first second = absurd second
   hits_alike (asked ∷ more) (v ∷ vs) (w ∷ ws) first second =
-      ap₂ (λ private rest. hits_by private policy asked ++ rest) (skipped_alike asked.krate (expression_of asked.info) v w first.0 second.0) (hits_alike more vs ws first.1 second.1)
+      ap₂ (λ private rest. hits_by private policy asked ++ rest) (skipped_alike asked.krate asked.exceptions (expression_of asked.info) v w first.0 second.0) (hits_alike more vs ws first.1 second.1)
 
 findings_alike : (policy : ValidConfig) (asked : List GatheredCrate) (one other : List Verdict) → AreVerdicts (policy_of policy) asked one → AreVerdicts (policy_of policy) asked other → findings_of policy asked one ≡ findings_of policy asked other
 findings_alike policy asked one other first second =
