@@ -1,7 +1,7 @@
 -- The reads of a crate over a content where no call fails and no memory is wanting: what its turn asks for is what the content says.
 use Rattle.std.proofs.Common.{◌≡◌, ◌∙◌, refl, sym, ap, ap₂, subst, ℕ, Bool, true, false, ◌&&◌, ◌||◌, not, cond, List, [], ◌∷◌, ◌++◌, map, Option, Some, None}
 use Rattle.std.specs.FinMap as finite
-use Rattle.std.specs.List.{AllByRecursion, flat_map, list_any}
+use Rattle.std.specs.List.{AllByRecursion, cons_option, filter, flat_map, list_any}
 use Rattle.std.specs.Option.{option_to_list}
 use Rattle.std.specs.Prelude.{is_none, is_some, unwrap_or}
 use Rattle.deny_text.specs.Path.{components_of, join_of}
@@ -21,6 +21,7 @@ use Rattle.gather_license.specs.files.KnownReads.{FolderReads, known_reads_by, h
 use Rattle.gather_license.specs.files.NamedFile.{NamedFileView}
 use Rattle.gather_license.specs.files.Pack.{first_spellings, license_files_in, reads_of, same_path, wanted_of, without_path}
 use Rattle.gather_license.specs.files.Steps.{file_record}
+use Rattle.gather_license.specs.files.View.{paths_read}
 use Rattle.gather_license.proofs.files.PackLemmas.{by_test}
 use Rattle.gather_license.proofs.files.PathLemmas.{parts_of_same, same_itself}
 use Rattle.gather_license.specs.location.Calls.{manifest_by}
@@ -28,6 +29,7 @@ use Rattle.gather_license.specs.location.Location.{located_by, manifest_record}
 use Rattle.gather_license.specs.expression.Scanned.{Scanner}
 use Rattle.gather_license.specs.Clarification.{ClarificationView, named_files, named_in}
 use Rattle.gather_license.specs.Priority.{folder_of, holding_clarification, is_nothing, looks_at_files, records_of, records_with}
+use Rattle.gather_core.specs.Exceptions.{ExceptionEntry, ExceptionRules, further_paths, is_for, looked_for}
 use Rattle.gather_core.specs.Taken.{turn_with}
 use Rattle.gather_core.specs.Turns.{asks_manifest, field_text, in_order, not_asked, records_in}
 use Rattle.run_found.specs.Hearing.{TellsContent}
@@ -255,7 +257,7 @@ module _ (one other : FolderReads) where
   looked_where false entries agree = refl
 
   looked_for_alike : (rules : ExceptionRules) (krate : CrateRecord) → AllAgree (looked_for rules krate one) → looked_for rules krate one ≡ looked_for rules krate other
-  looked_for_alike rules krate agree = looked_where rules.each_counts (matching_in rules krate) agree
+  looked_for_alike rules krate agree = looked_where rules.each_counts (filter (is_for krate) rules.entries) agree
 
   agree_kept : (test : List ℕ → Bool) (paths : List (List ℕ)) → AllAgree paths → AllAgree (filter test paths)
   agree_kept test [] all = tt
@@ -287,32 +289,44 @@ any_records : (known_reads : FolderReads) (path : List ℕ) (paths : List (List 
 any_records known_reads path [] = refl
 any_records known_reads path (next ∷ paths) = ap (λ b. same_path path next || b) (any_records known_reads path paths)
 
--- a path that no record has is kept, where it is among those that are looked up
-any_unread : (path : List ℕ) (records : List ReadRecord) (paths : List (List ℕ)) → list_any (is_read LicenseFile (components_of path)) records ≡ false → list_any (same_path path) paths ≡ true
-    → list_any (same_path path) (unread_in records paths) ≡ true
-any_unread path records [] none any = cc
-any_unread path records (next ∷ paths) none any =
-    let kept : Bool → List (List ℕ) = λ b. cond (not b) (next ∷ unread_in records paths) (unread_in records paths) in
-    let there = list_any (is_read LicenseFile (components_of next)) records in
+-- a path that was not read before is kept, where it is among those that are looked at
+any_further : (path : List ℕ) (read paths : List (List ℕ)) → list_any (same_path path) read ≡ false → list_any (same_path path) paths ≡ true → list_any (same_path path) (further_paths read paths) ≡ true
+any_further path read [] none any = cc
+any_further path read (next ∷ paths) none any =
+    let rest = further_paths read paths in
+    let kept : Bool → List (List ℕ) = λ b. cond (not b) (next ∷ rest) rest in
+    let there = list_any (same_path next) read in
     by_test (same_path path next)
     (λ same.
-    let lacks : there ≡ false = ap (λ parts. list_any (is_read LicenseFile parts) records) (sym (parts_of_same path next same)) ∙ none in
-    ap (λ b. list_any (same_path path) (kept b)) lacks ∙ or_left (same_path path next) (list_any (same_path path) (unread_in records paths)) same)
+    let lacks : there ≡ false = ap (λ (parts : List (List ℕ)). list_any (λ other. same_parts parts (components_of other)) read) (sym (parts_of_same path next same)) ∙ none in
+    ap (λ b. list_any (same_path path) (kept b)) lacks ∙ or_left (same_path path next) (list_any (same_path path) rest) same)
     (λ differs.
-    let rest : list_any (same_path path) (unread_in records paths) ≡ true = any_unread path records paths none (sym (ap (λ b. b || list_any (same_path path) paths) differs) ∙ any) in
+    let behind : list_any (same_path path) rest ≡ true = any_further path read paths none (sym (ap (λ b. b || list_any (same_path path) paths) differs) ∙ any) in
     by_test there
-    (λ has. ap (λ b. list_any (same_path path) (kept b)) has ∙ rest)
-    (λ lacks. ap (λ b. list_any (same_path path) (kept b)) lacks ∙ or_right (same_path path next) (list_any (same_path path) (unread_in records paths)) rest))
+    (λ has. ap (λ b. list_any (same_path path) (kept b)) has ∙ behind)
+    (λ lacks. ap (λ b. list_any (same_path path) (kept b)) lacks ∙ or_right (same_path path next) (list_any (same_path path) rest) behind))
 
--- a path that is looked up is among the records before, or behind them
+-- records have a read of a path where it is among the paths that they read
+one_tested : (path at : List ℕ) (own rest : Bool) (paths : List (List ℕ)) → rest ≡ list_any (same_path path) paths
+    → ((own && same_path path at) || rest) ≡ list_any (same_path path) (cons_option (cond own (Some at) None) paths)
+one_tested path at true rest paths e = ap (λ b. same_path path at || b) e
+one_tested path at false rest paths e = e
+
+paths_tested : (path : List ℕ) (records : List ReadRecord) → list_any (is_read LicenseFile (components_of path)) records ≡ list_any (same_path path) (paths_read records)
+paths_tested path [] = refl
+paths_tested path (read ∷ records) =
+    one_tested path read.path (is_kind LicenseFile read.kind) (list_any (is_read LicenseFile (components_of path)) records) (paths_read records) (paths_tested path records)
+
+-- a path that is looked at was read before, or is read behind
 looked_read : (known_reads : FolderReads) (path : List ℕ) (records : List ReadRecord) (paths : List (List ℕ)) → list_any (same_path path) paths ≡ true
-    → list_any (is_read LicenseFile (components_of path)) (records ++ map (file_record known_reads) (unread_in records paths)) ≡ true
+    → list_any (is_read LicenseFile (components_of path)) (records ++ map (file_record known_reads) (further_paths (paths_read records) paths)) ≡ true
 looked_read known_reads path records paths any =
     let test = is_read LicenseFile (components_of path) in
-    let more = unread_in records paths in
-    by_test (list_any test records)
-    (λ has. any_front test records (map (file_record known_reads) more) has)
-    (λ lacks. any_back test records (map (file_record known_reads) more) (any_records known_reads path more ∙ any_unread path records paths lacks any))
+    let read = paths_read records in
+    let more = further_paths read paths in
+    by_test (list_any (same_path path) read)
+    (λ has. any_front test records (map (file_record known_reads) more) (paths_tested path records ∙ has))
+    (λ lacks. any_back test records (map (file_record known_reads) more) (any_records known_reads path more ∙ any_further path read paths lacks any))
 
 module _ (content : Content) (scanner : Scanner) (all : List ClarificationView) (rules : ExceptionRules) (krate : CrateRecord) (files : List File) where
   abbrev base : List ℕ
@@ -331,12 +345,18 @@ module _ (content : Content) (scanner : Scanner) (all : List ClarificationView) 
   abbrev first_records : FolderReads → ReadResult → List ReadRecord
   first_records known_reads manifest = in_order (is_nothing all) (manifest_asked (asks_manifest all krate known_reads) id krate.manifest_path manifest) (records_of scanner all krate known_reads)
 
+  abbrev behind_of : FolderReads → List ReadRecord → List (List ℕ)
+  behind_of known_reads before = further_paths (paths_read before) (looked_for rules krate known_reads)
+
+  abbrev with_behind : FolderReads → List ReadRecord → List ReadRecord
+  with_behind known_reads before = before ++ map (file_record known_reads) (behind_of known_reads before)
+
   abbrev pub records_heard : FolderReads → ReadResult → List ReadRecord
-  records_heard known_reads manifest = with_looked rules krate known_reads (first_records known_reads manifest)
+  records_heard known_reads manifest = with_behind known_reads (first_records known_reads manifest)
 
   records_are : (policy : ℕ) (known_reads : FolderReads) (manifest : ReadResult) → records_in (turn_with scanner policy all rules krate known_reads manifest files) ≡ records_heard known_reads manifest
   records_are policy known_reads manifest =
-      ap (λ read. with_looked rules krate known_reads (in_order (is_nothing all) read (records_of scanner all krate known_reads)))
+      ap (λ read. with_behind known_reads (in_order (is_nothing all) read (records_of scanner all krate known_reads)))
       (manifest_located (asks_manifest all krate known_reads) id krate.manifest_path (field_text krate) files manifest)
 
   -- the records of two known reads are the same, and whether a clarification holds by them
@@ -451,7 +471,7 @@ module _ (content : Content) (scanner : Scanner) (all : List ClarificationView) 
     manifest_alike false (Some at) more own = refl
 
     -- each file that exceptions look up was read
-    looked_agree : (front : List ReadRecord) → records_of_reads reads ≡ with_looked rules krate known_reads front → AllAgree known_reads there_known_reads (looked_for rules krate known_reads)
+    looked_agree : (front : List ReadRecord) → records_of_reads reads ≡ with_behind known_reads front → AllAgree known_reads there_known_reads (looked_for rules krate known_reads)
     looked_agree front own =
         let looked = looked_for rules krate known_reads in
         agree_each known_reads there_known_reads looked
@@ -465,7 +485,7 @@ module _ (content : Content) (scanner : Scanner) (all : List ClarificationView) 
         let asks = asks_manifest all krate known_reads in
         let front = first_records known_reads (manifest_by reads) in
         let looked = looked_for rules krate known_reads in
-        let more = unread_in front looked in
+        let more = behind_of known_reads front in
         let own : records_of_reads reads ≡ records_heard known_reads (manifest_by reads) = has ∙ records_are policy known_reads (manifest_by reads) in
         let alike : AsksAlike known_reads there_known_reads =
         by_test (looks_at_files scanner all krate)
@@ -476,5 +496,5 @@ module _ (content : Content) (scanner : Scanner) (all : List ClarificationView) 
         ∙ ap₂ (λ none records. in_order (is_nothing all) (manifest_asked (none && is_some krate.license) id krate.manifest_path there_manifest) records) alike.holds alike.records in
         let agree = looked_agree front own in
         own
-        ∙ ap (λ rest. front ++ rest) (records_alike known_reads there_known_reads more (agree_unread known_reads there_known_reads front looked agree))
-        ∙ ap₂ (λ records paths. records ++ map (file_record there_known_reads) (unread_in records paths)) front_same (looked_for_alike known_reads there_known_reads rules krate agree)
+        ∙ ap (λ rest. front ++ rest) (records_alike known_reads there_known_reads more (agree_kept known_reads there_known_reads (λ path. not (list_any (same_path path) (paths_read front))) looked agree))
+        ∙ ap₂ (λ records paths. records ++ map (file_record there_known_reads) (further_paths (paths_read records) paths)) front_same (looked_for_alike known_reads there_known_reads rules krate agree)
