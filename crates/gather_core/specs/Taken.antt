@@ -25,12 +25,13 @@ pub record IsLocatedWhere (asks : Bool) (krate : CrateRecord) (old : List File) 
   pub located_is : located ≡ located_where asks krate old manifest
   pub files_are : new ≡ files_where asks krate old manifest
 
-abbrev pub turn_with : Scanner → ℕ → List ClarificationView → CrateRecord → FolderReads → ReadResult → List File
-    → TurnInput
-turn_with scanner policy clarifications krate known_reads manifest files = record {
+abbrev pub turn_with : Scanner → ℕ → List ClarificationView → ExceptionRules → CrateRecord → FolderReads → ReadResult
+    → List File → TurnInput
+turn_with scanner policy clarifications exceptions krate known_reads manifest files = record {
   scanner = scanner;
   policy = policy;
   clarifications = clarifications;
+  exceptions = exceptions;
   krate = krate;
   known_reads = known_reads;
   manifest = manifest;

@@ -37,4 +37,4 @@ pub record IsOrderedBy (scanner : Scanner) (clarifications : List ClarificationV
     (known_reads : FolderReads) (settled : SettledLicense) : Type 0 where
   pub by : settled.by ≡ basis_of scanner clarifications krate known_reads
   pub missing : settled.missing ≡ missing_of known_reads clarifications
-  pub reads : settled.reads ≡ records_with clarifications krate known_reads
+  pub reads : settled.pack.reads ≡ records_with clarifications krate known_reads
