@@ -1,5 +1,5 @@
 -- More entries never reject a crate.
-use Rattle.std.specs.Prelude.{◌≡◌, ◌⊎◌, ℕ, Option}
+use Rattle.std.specs.Prelude.{◌≡◌, ◌⊎◌, ℕ, List, ◌++◌, Option}
 use Rattle.spdx_terms.specs.declared.term.LicenseReq.{LicenseReq}
 use Rattle.spdx_core.specs.Reading.{ExpressionView}
 use Rattle.graph_core.specs.Krate.{CrateRecord}
@@ -17,15 +17,15 @@ IsAsGood rejected after = (after ≡ rejected) ⊎ (after ≡ accepted)
 -- one more allowed licensee, at any place of the sorted list
 abbrev pub MoreAllowedIsAsGood : Type 0
 MoreAllowedIsAsGood =
-    (policy : Policy) (krate : CrateRecord) (expression : Option ExpressionView) (place : ℕ) (licensee : LicenseReq)
-    (before after : Judgement)
-    → IsJudged policy krate expression before → IsJudged (with_allowed policy place licensee) krate expression after
-    → IsAsGood before after
+    (policy : Policy) (krate : CrateRecord) (counted : List ℕ) (expression : Option ExpressionView) (place : ℕ)
+    (licensee : LicenseReq) (before after : Judgement)
+    → IsJudged policy krate counted expression before
+    → IsJudged (with_allowed policy place licensee) krate counted expression after → IsAsGood before after
 
--- one more exception behind all others
+-- one more exception behind all others, and perhaps more that count behind those that counted
 abbrev pub MoreExceptionsAreAsGood : Type 0
 MoreExceptionsAreAsGood =
-    (policy : Policy) (krate : CrateRecord) (expression : Option ExpressionView) (grant : Grant)
+    (policy : Policy) (krate : CrateRecord) (counted more : List ℕ) (expression : Option ExpressionView) (grant : Grant)
     (before after : Judgement)
-    → IsJudged policy krate expression before → IsJudged (with_exception policy grant) krate expression after
-    → IsAsGood before after
+    → IsJudged policy krate counted expression before
+    → IsJudged (with_exception policy grant) krate (counted ++ more) expression after → IsAsGood before after
