@@ -1,5 +1,7 @@
 pub mod CallLemmas
+pub mod CountedLemmas
 pub mod CrateTurns
+pub mod ExceptionLemmas
 pub mod GatheredLemmas
 pub mod PickLemmas
 pub mod PlacedLemmas
