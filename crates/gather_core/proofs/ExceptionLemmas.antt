@@ -153,13 +153,25 @@ module _ {told mid tells : Option Content} {before middle after : ℕ} {old betw
       → Starves told tells before after old new pack wanted_at
   starves_holding goes starves = starves_then pack so_far (λ known_reads. fold with_path (paths_read so_far.reads) (looked_of known_reads files)) wanted_at goes starves front_next
 
+-- ---- whether each counts
+
+module _ (all : ExceptionRules) (krate : CrateRecord) (known_reads : FolderReads) where
+  pub counted_each : all.each_counts ≡ true → counted_of all krate known_reads ≡ places_from 0 (holds_for krate known_reads) all.entries
+  counted_each on = ap (λ b. cond b (places_from 0 (holds_for krate known_reads) all.entries) (option_to_list (first_of (places_from 0 (is_for krate) all.entries)))) on
+
+  pub counted_first : all.each_counts ≡ false → counted_of all krate known_reads ≡ option_to_list (first_of (places_from 0 (is_for krate) all.entries))
+  counted_first off = ap (λ b. cond b (places_from 0 (holds_for krate known_reads) all.entries) (option_to_list (first_of (places_from 0 (is_for krate) all.entries)))) off
+
+  pub named_each : all.each_counts ≡ true → named_for all krate known_reads ≡ named_by_each all.entries krate known_reads
+  named_each on = ap (λ b. cond b (named_by_each all.entries krate known_reads) []) on
+
+  pub named_none : all.each_counts ≡ false → named_for all krate known_reads ≡ []
+  named_none off = ap (λ b. cond b (named_by_each all.entries krate known_reads) []) off
+
 -- ---- laws
 
 pub one_exception_counts : OneExceptionCounts
-one_exception_counts rules krate known_reads off = (
-  ap (λ b. cond b (places_from 0 (holds_for krate known_reads) rules.entries) (option_to_list (first_of (places_from 0 (is_for krate) rules.entries)))) off,
-  ap (λ b. first_spellings (cond b (named_by_each rules.entries krate known_reads) [])) off,
-)
+one_exception_counts rules krate known_reads off = (counted_first rules krate known_reads off, ap first_spellings (named_none rules krate known_reads off))
 
 places_front : (n : ℕ) (test : ExceptionEntry → Bool) (entries more : List ExceptionEntry) → IsFront (places_from n test entries) (places_from n test (entries ++ more))
 places_front n test [] more = (places_from n test more, refl)
