@@ -1,5 +1,5 @@
 -- Which exceptions count, and which files are looked at for that, worked out by hand from the rules.
-use Rattle.std.proofs.Common.{◌≡◌, ℕ, Bool, true, false, cond, List, [], ◌∷◌, Some, None, codes, refl}
+use Rattle.std.proofs.Common.{◌≡◌, ℕ, true, false, cond, List, [], ◌∷◌, None, codes, refl}
 use Rattle.std.specs.Path.{path_components, path_names}
 use Rattle.std.specs.Str.{bytes_eq}
 use Rattle.std.specs.Cmp.Lexicographic.{pointwise}
@@ -7,7 +7,6 @@ use Rattle.deny_text.specs.Hash.{xxh32_of, mixed_hash, of_groups, with_word, wit
 use Rattle.deny_text.specs.Normal.{normal_of}
 use Rattle.deny_text.specs.Path.{components_of}
 use Rattle.graph_core.specs.Krate.{CrateRecord}
-use Rattle.policy_parts.specs.spec.Spec.{Spec}
 use Rattle.tree_core.specs.file_reads.Heard.{ReadResult, failed, absent, wrong_kind, not_utf8, text}
 use Rattle.gather_license.specs.files.KnownReads.{FolderReads}
 use Rattle.gather_license.specs.files.NamedFile.{NamedFileView}

@@ -1,5 +1,5 @@
 -- Exceptions that are found by their places, and which of them count.
-use Rattle.std.proofs.Common.{◌≡◌, ◌∙◌, ℕ, suc, ◌+◌, ◌<◌, length, take, drop, take-append-drop, get_or, Bool, true, false, ◌&&◌, cond, List, [], ◌∷◌, ◌++◌, map, filter, Option, None, Some, refl, sym, ap, ap₂, subst, append-nil, append_assoc, length-append, arith, slice_get}
+use Rattle.std.proofs.Common.{◌≡◌, ◌∙◌, ℕ, suc, ◌+◌, ◌<◌, length, take, drop, take-append-drop, get_or, Bool, true, false, ◌&&◌, cond, List, [], ◌∷◌, ◌++◌, map, filter, Option, Some, refl, sym, ap, ap₂, subst, append-nil, append_assoc, length-append, arith, slice_get}
 use Rattle.std.proofs.Math.Seq.{get_or-append_seam}
 use Rattle.std.proofs.lemmas.Option.{slice_get-get_or}
 use Rattle.std.proofs.lemmas.List.{take_more}
@@ -21,9 +21,9 @@ use Rattle.gather_license.specs.files.NamedFile.{NamedFileView}
 use Rattle.gather_license.specs.files.Pack.{first_spellings}
 use Rattle.gather_license.specs.files.Steps.{Agrees, with_path}
 use Rattle.gather_license.specs.files.View.{PackView, paths_read}
-use Rattle.gather_license.proofs.files.CallLemmas.{front_itself, front_looks, goes_then, starves_behind, starves_then}
+use Rattle.gather_license.proofs.files.CallLemmas.{front_looks, starves_then}
 use Rattle.gather_core.specs.Entries.{placed_of}
-use Rattle.gather_core.specs.Exceptions.{ExceptionEntry, ExceptionRules, counted_of, exception_specs, files_at, holding_at, holds_for, is_for, looked_at, looked_for, named_by_each, named_for, named_in, named_of, with_exception}
+use Rattle.gather_core.specs.Exceptions.{ExceptionEntry, ExceptionRules, counted_of, exception_specs, files_at, holding_at, holds_for, is_for, looked_at, named_by_each, named_for, named_in, named_of}
 use Rattle.gather_core.specs.Laws.{FurtherExceptionsCountLast, OneExceptionCounts}
 
 -- ---- the files that an exception names

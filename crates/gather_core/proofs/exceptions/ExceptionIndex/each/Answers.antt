@@ -1,9 +1,8 @@
-use Rattle.std.proofs.Common.{◌≡◌, ◌∙◌, List, ℕ, sym, ap, subst}
+use Rattle.std.proofs.Common.{◌≡◌, ◌∙◌, List, ap, subst}
 use Rattle.std.proofs.lemmas.Result.{IfOk-weaker, on_err_weaker}
 use Rattle.std.specs.List.{fold}
 use Rattle.graph_core.specs.Krate.{record_of}
 use Rattle.policy_parts.specs.spec.Index.{matching_places}
-use Rattle.gather_license.specs.files.KnownReads.{FolderReads}
 use Rattle.gather_license.specs.files.Calls.{IsFront}
 use Rattle.gather_license.specs.files.Steps.{with_path}
 use Rattle.gather_license.specs.files.View.{paths_read}
