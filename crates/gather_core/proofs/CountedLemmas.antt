@@ -1,5 +1,5 @@
 -- A crate's turn with the exceptions that count for it, whose files are looked at behind all else.
-use Rattle.std.proofs.Common.{◌≡◌, ◌∙◌, ℕ, suc, length, take, drop, Bool, true, false, cond, List, [], ◌∷◌, ◌++◌, map, Option, None, Some, option_map, Result, Ok, Err, OnErr, refl, sym, ap, ap₂, subst, append-nil, append_assoc}
+use Rattle.std.proofs.Common.{◌≡◌, ◌∙◌, ℕ, length, take, drop, Bool, true, false, cond, List, [], ◌∷◌, ◌++◌, map, Option, None, Some, option_map, Result, Ok, Err, OnErr, refl, sym, ap, ap₂, subst, append-nil, append_assoc}
 use Rattle.std.specs.List.{fold}
 use Rattle.std.specs.Option.{option_to_list}
 use Rattle.std.specs.Prelude.{IfOk, IfSome}
@@ -17,7 +17,6 @@ use Rattle.tree_core.specs.file_reads.Read.{LackedMemory, MadeReads, AnsweredRea
 use Rattle.tree_core.proofs.file_reads.ReadLemmas.{reads_joined, reads_lacking, records_in-append}
 use Rattle.gather_license.specs.files.Calls.{IsFront, Starves, TakesIn, unread_file}
 use Rattle.gather_license.specs.files.KnownReads.{FolderReads, known_reads_by}
-use Rattle.gather_license.specs.files.Pack.{first_spellings}
 use Rattle.gather_license.specs.files.Steps.{Agrees, file_record, with_path}
 use Rattle.gather_license.specs.files.View.{PackView, paths_read}
 use Rattle.gather_license.proofs.files.CallLemmas.{agrees_before, map_option, paths_read-append, same_lost}
@@ -32,7 +31,7 @@ use Rattle.gather_core.specs.declared.turn.TakenLicense.{TakenLicense}
 use Rattle.gather_core.specs.Calls.{IsByOwnReads, StarvesTaking}
 use Rattle.gather_core.specs.Exceptions.{ExceptionRules, further_paths, looked_for, named_for}
 use Rattle.gather_core.specs.Taken.{CountsBy, IsBegun, IsBegunFrom, IsTaken, Keeps, turn_with}
-use Rattle.gather_core.specs.Turns.{TurnInput, asks_manifest, field_text, in_order, located_in, located_where, not_asked, paths_behind, records_before, records_in}
+use Rattle.gather_core.specs.Turns.{TurnInput, asks_manifest, field_text, in_order, located_where, not_asked, paths_behind, records_before, records_in}
 use Rattle.gather_core.proofs.CallLemmas.{HasNoManifest, manifest_before, no_file, starves_wider}
 use Rattle.gather_core.proofs.TakenLemmas.{begun_reads}
 

@@ -1,5 +1,5 @@
 -- Exceptions that are found by their places, and which of them count.
-use Rattle.std.proofs.Common.{◌≡◌, ◌∙◌, ℕ, suc, ◌+◌, ◌<◌, length, take, drop, take-append-drop, get_or, Bool, true, false, ◌&&◌, cond, List, [], ◌∷◌, ◌++◌, map, filter, Option, None, Some, refl, sym, ap, ap₂, subst, append-nil, append_assoc, length-append, arith, slice_get}
+use Rattle.std.proofs.Common.{◌≡◌, ◌∙◌, ℕ, suc, ◌+◌, ◌<◌, length, take, drop, take-append-drop, get_or, Bool, true, false, ◌&&◌, cond, List, [], ◌∷◌, ◌++◌, map, filter, Option, Some, refl, sym, ap, ap₂, subst, append-nil, append_assoc, length-append, arith, slice_get}
 use Rattle.std.proofs.Math.Seq.{get_or-append_seam}
 use Rattle.std.proofs.lemmas.Option.{slice_get-get_or}
 use Rattle.std.proofs.lemmas.List.{take_more}
@@ -21,9 +21,9 @@ use Rattle.gather_license.specs.files.NamedFile.{NamedFileView}
 use Rattle.gather_license.specs.files.Pack.{first_spellings}
 use Rattle.gather_license.specs.files.Steps.{Agrees, with_path}
 use Rattle.gather_license.specs.files.View.{PackView, paths_read}
-use Rattle.gather_license.proofs.files.CallLemmas.{front_itself, front_looks, goes_then, starves_behind, starves_then}
+use Rattle.gather_license.proofs.files.CallLemmas.{front_looks, starves_then}
 use Rattle.gather_core.specs.Entries.{placed_of}
-use Rattle.gather_core.specs.Exceptions.{ExceptionEntry, ExceptionRules, counted_of, exception_specs, files_at, holding_at, holds_for, is_for, looked_at, looked_for, named_by_each, named_for, named_in, named_of, with_exception}
+use Rattle.gather_core.specs.Exceptions.{ExceptionEntry, ExceptionRules, counted_of, exception_specs, files_at, holding_at, holds_for, is_for, looked_at, named_by_each, named_for, named_in, named_of}
 use Rattle.gather_core.specs.Laws.{FurtherExceptionsCountLast, OneExceptionCounts}
 
 -- ---- the files that an exception names
@@ -153,13 +153,25 @@ module _ {told mid tells : Option Content} {before middle after : ℕ} {old betw
       → Starves told tells before after old new pack wanted_at
   starves_holding goes starves = starves_then pack so_far (λ known_reads. fold with_path (paths_read so_far.reads) (looked_of known_reads files)) wanted_at goes starves front_next
 
+-- ---- whether each counts
+
+module _ (all : ExceptionRules) (krate : CrateRecord) (known_reads : FolderReads) where
+  pub counted_each : all.each_counts ≡ true → counted_of all krate known_reads ≡ places_from 0 (holds_for krate known_reads) all.entries
+  counted_each on = ap (λ b. cond b (places_from 0 (holds_for krate known_reads) all.entries) (option_to_list (first_of (places_from 0 (is_for krate) all.entries)))) on
+
+  pub counted_first : all.each_counts ≡ false → counted_of all krate known_reads ≡ option_to_list (first_of (places_from 0 (is_for krate) all.entries))
+  counted_first off = ap (λ b. cond b (places_from 0 (holds_for krate known_reads) all.entries) (option_to_list (first_of (places_from 0 (is_for krate) all.entries)))) off
+
+  pub named_each : all.each_counts ≡ true → named_for all krate known_reads ≡ named_by_each all.entries krate known_reads
+  named_each on = ap (λ b. cond b (named_by_each all.entries krate known_reads) []) on
+
+  pub named_none : all.each_counts ≡ false → named_for all krate known_reads ≡ []
+  named_none off = ap (λ b. cond b (named_by_each all.entries krate known_reads) []) off
+
 -- ---- laws
 
 pub one_exception_counts : OneExceptionCounts
-one_exception_counts rules krate known_reads off = (
-  ap (λ b. cond b (places_from 0 (holds_for krate known_reads) rules.entries) (option_to_list (first_of (places_from 0 (is_for krate) rules.entries)))) off,
-  ap (λ b. first_spellings (cond b (named_by_each rules.entries krate known_reads) [])) off,
-)
+one_exception_counts rules krate known_reads off = (counted_first rules krate known_reads off, ap first_spellings (named_none rules krate known_reads off))
 
 places_front : (n : ℕ) (test : ExceptionEntry → Bool) (entries more : List ExceptionEntry) → IsFront (places_from n test entries) (places_from n test (entries ++ more))
 places_front n test [] more = (places_from n test more, refl)

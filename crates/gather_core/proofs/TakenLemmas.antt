@@ -1,6 +1,5 @@
 -- What a crate's turn begins with, by whatever is read.
-use Rattle.std.proofs.Common.{◌≡◌, ◌∙◌, ℕ, true, false, not, ◌&&◌, cond, List, [], ◌∷◌, ◌++◌, Option, None, Some, is_some, is_none, refl, sym, ap}
-use Rattle.std.specs.Option.{option_to_list}
+use Rattle.std.proofs.Common.{◌≡◌, ◌∙◌, ℕ, true, not, ◌&&◌, cond, List, [], ◌∷◌, ◌++◌, Option, None, Some, is_some, is_none, refl, sym, ap}
 use Rattle.std.specs.Prelude.{option_map, unwrap_or}
 use Rattle.spdx_terms.specs.catalog.Catalog.{CatalogLists}
 use Rattle.tree_core.specs.declared.reads.ReadRecord.{ReadRecord}
@@ -16,7 +15,7 @@ use Rattle.gather_license.specs.declared.settle.SettledLicense.{SettledLicense}
 use Rattle.gather_license.specs.declared.settling.FilesSeen.{FilesSeen}
 use Rattle.gather_license.specs.declared.settling.LicenseBasis.{LicenseBasis}
 use Rattle.gather_license.specs.Clarification.{ClarificationView, held_in}
-use Rattle.gather_license.specs.Priority.{by_seen, field_of, files_scanned, holding_clarification, is_nothing, records_of, seen_by, settling_by, basis_of}
+use Rattle.gather_license.specs.Priority.{by_seen, field_of, files_scanned, holding_clarification, is_nothing, seen_by, settling_by, basis_of}
 use Rattle.gather_license.specs.Settled.{IsSettledBy}
 use Rattle.gather_core.specs.declared.turn.LocatedLicense.{LocatedLicense}
 use Rattle.gather_core.specs.Exceptions.{ExceptionRules}

@@ -1,12 +1,11 @@
-use Rattle.std.proofs.Common.{◌≡◌, ◌∙◌, ◌+◌, ◌++◌, ◌∷◌, [], cond, get_or, ℕ, List, map, take, refl, sym, ap, ap₂, subst}
+use Rattle.std.proofs.Common.{◌≡◌, ◌∙◌, ◌+◌, ◌++◌, ◌∷◌, [], cond, ℕ, List, refl, sym, ap, ap₂, subst, Bool}
 use Rattle.std.specs.List.{fold}
 use Rattle.gather_license.specs.files.Calls.{IsFront}
-use Rattle.gather_license.specs.files.KnownReads.{holds, looked_of}
-use Rattle.gather_license.specs.files.NamedFile.{NamedFileView}
+use Rattle.gather_license.specs.files.KnownReads.{holds}
 use Rattle.gather_license.specs.files.Steps.{with_path}
 use Rattle.gather_license.specs.files.View.{paths_read}
 use Rattle.gather_license.proofs.files.CallLemmas.{agrees_before, goes_itself, goes_then, on_err, starves_behind}
-use Rattle.gather_core.specs.Exceptions.{files_at, holding_at, looked_at, named_in}
+use Rattle.gather_core.specs.Exceptions.{files_at, looked_at, named_in}
 use Rattle.gather_core.proofs.ExceptionLemmas.{front_places, holding_more, looked_next, starves_holding}
 use Rattle.gather_core.proofs.exceptions.holding.Goals as goal
 

@@ -1,5 +1,4 @@
-use Rattle.std.proofs.Common.{◌≡◌, ◌∙◌, Bool, List, map, refl, sym, ap, subst}
-use Rattle.std.proofs.lemmas.Result.{IfOk-weaker, on_err_weaker}
+use Rattle.std.proofs.Common.{◌≡◌, ◌∙◌, map}
 use Rattle.graph_core.specs.Krate.{record_of}
 use Rattle.gather_license.specs.Clarification.{lent_clarification}
 use Rattle.gather_license.specs.Settled.{scanner_of_scan}

@@ -1,6 +1,5 @@
-use Rattle.std.proofs.Common.{◌≡◌, ◌∙◌, ◌≤◌, ◌++◌, length, length-append, arith, false, List, refl, sym, ap, subst, rules}
+use Rattle.std.proofs.Common.{◌≡◌, ◌∙◌, ◌≤◌, ◌++◌, List, refl, subst}
 use Rattle.std.specs.List.{fold}
-use Rattle.tree_core.specs.declared.reads.ReadRecord.{ReadRecord}
 use Rattle.tree_core.specs.file_reads.Read.{records_of_reads}
 use Rattle.graph_core.specs.Krate.{record_of}
 use Rattle.gather_license.specs.files.Calls.{IsFront}
