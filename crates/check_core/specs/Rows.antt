@@ -1,7 +1,6 @@
 -- Rows of policies and crates, with the judgement, the hits and what is reported, worked out by hand from the rules.
 use Rattle.std.specs.Prelude.{ℕ, Bool, true, false, List, [], ◌∷◌, map, codes, Option, Some, None}
 use Rattle.spdx_terms.specs.declared.term.ExpressionReq.{ExpressionReq}
-use Rattle.spdx_terms.specs.declared.term.LicenseItem.TheVariants.{Spdx}
 use Rattle.spdx_terms.specs.declared.term.LicenseReq.{LicenseReq}
 use Rattle.spdx_core.specs.Grammar.{leaf, both, either}
 use Rattle.spdx_core.specs.Reading.{ExpressionView}
@@ -15,7 +14,6 @@ use Rattle.gather_core.specs.declared.findings.license.LicenseInfo.{LicenseInfo}
 use Rattle.gather_core.specs.declared.findings.license.LicenseInfo.TheVariants.{SpdxExpression, Unlicensed}
 use Rattle.policy_core.specs.valid.Policy.{Grant, Policy}
 use Rattle.policy_core.specs.valid.Rows.{crate_a, grant, isc, mit, policy, zlib}
-use Rattle.check_core.specs.evaluate.Entries.{entries_of_terms}
 use Rattle.check_core.specs.findings.Findings.{finding}
 use Rattle.check_core.specs.Turns.{GatheredCrate, expression_of, findings_by, hits_by}
 use Rattle.check_core.specs.Verdicts.{Judgement, skipped, unlicensed, accepted, rejected, verdict_of}
@@ -141,19 +139,3 @@ rows =
     ∷ accepted_row one_term
     ∷ accepted_row Unlicensed
     ∷ []
-
--- ---- entries
-
-abbrev gnu : List ℕ → ℕ → LicenseReq
-gnu name rank = record { item = Spdx name 5 rank false false; exception = None }
-
--- How many entries are asked at most for `GPL-3.0-only`, where one of its family is allowed, and two exceptions count that
--- have one of it each.
-abbrev pub entries_asked : ℕ
-entries_asked =
-    entries_of_terms
-    (policy (gnu (codes "GPL-1.0-only") 10 ∷ [])
-    (grant (codes "a") (gnu (codes "GPL-2.0-only") 20 ∷ mit ∷ [])
-    ∷ grant (codes "a") (gnu (codes "GPL-3.0-only") 30 ∷ [])
-    ∷ []))
-    (0 ∷ 1 ∷ []) (term (gnu (codes "GPL-3.0-only") 30) 0 12 ∷ [])
