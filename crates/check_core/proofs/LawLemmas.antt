@@ -1,5 +1,5 @@
 -- More entries never reject a crate.
-use Rattle.std.proofs.Common.{◌≡◌, ◌∙◌, refl, sym, ap, subst, ℕ, Bool, true, false, inl, inr, cond, IsTrue, List, Option, Some, None}
+use Rattle.std.proofs.Common.{◌≡◌, ◌∙◌, refl, sym, ap, subst, ℕ, Bool, true, false, inl, inr, cond, IsTrue, List, ◌++◌, Option, Some, None}
 use Rattle.std.specs.Prelude.{◌↔◌}
 use Rattle.std.proofs.lemmas.Bool.{both_ways}
 use Rattle.spdx_terms.specs.declared.term.ExpressionReq.{ExpressionReq}
@@ -27,34 +27,34 @@ as_good_if true false more = absurd (both_ways false refl (more refl))
 as_good_if false true more = inr refl
 as_good_if false false more = inl refl
 
--- a policy that allows no less, and passes over the same crates
-module _ (policy other : Policy) (krate : CrateRecord) (to : IsPrivate policy krate → IsPrivate other krate) (from : IsPrivate other krate → IsPrivate policy krate)
-    (more : (terms : List ExpressionReq) (tree : ExpressionTree) → IsTrue (is_allowed policy krate terms tree) → IsTrue (is_allowed other krate terms tree)) where
-  judged_as_good : (expression : Option ExpressionView) → IsAsGood (judgement_of policy krate expression) (judgement_of other krate expression)
+-- a policy that allows no less by some exceptions than another by others, and passes over the same crates
+module _ (policy other : Policy) (krate : CrateRecord) (counted further : List ℕ) (to : IsPrivate policy krate → IsPrivate other krate) (from : IsPrivate other krate → IsPrivate policy krate)
+    (more : (terms : List ExpressionReq) (tree : ExpressionTree) → IsTrue (is_allowed policy counted terms tree) → IsTrue (is_allowed other further terms tree)) where
+  judged_as_good : (expression : Option ExpressionView) → IsAsGood (judgement_of policy counted expression) (judgement_of other further expression)
   judged_as_good None = refl
   judged_as_good (Some expression) =
-      as_good_if (is_allowed policy krate expression.terms expression.tree) (is_allowed other krate expression.terms expression.tree)
+      as_good_if (is_allowed policy counted expression.terms expression.tree) (is_allowed other further expression.terms expression.tree)
       (more expression.terms expression.tree)
 
-  verdict_as_good : (private : Bool) (expression : Option ExpressionView) → IsAsGood (verdict_of private policy krate expression) (verdict_of private other krate expression)
+  verdict_as_good : (private : Bool) (expression : Option ExpressionView) → IsAsGood (verdict_of private policy counted expression) (verdict_of private other further expression)
   verdict_as_good true expression = refl
   verdict_as_good false expression = judged_as_good expression
 
-  as_good : (expression : Option ExpressionView) (before after : Judgement) → IsJudged policy krate expression before → IsJudged other krate expression after → IsAsGood before after
+  as_good : (expression : Option ExpressionView) (before after : Judgement) → IsJudged policy krate counted expression before → IsJudged other krate further expression after → IsAsGood before after
   as_good expression before after first second =
       let same : first.private ≡ second.private = same_test first.private second.private to from first.tells second.tells in
-      let after_is : after ≡ verdict_of first.private other krate expression = second.is ∙ ap (λ (b : Bool). verdict_of b other krate expression) (sym same) in
+      let after_is : after ≡ verdict_of first.private other further expression = second.is ∙ ap (λ (b : Bool). verdict_of b other further expression) (sym same) in
       subst (λ (j : Judgement). IsAsGood j after) (sym first.is)
-      (subst (λ (j : Judgement). IsAsGood (verdict_of first.private policy krate expression) j) (sym after_is) (verdict_as_good first.private expression))
+      (subst (λ (j : Judgement). IsAsGood (verdict_of first.private policy counted expression) j) (sym after_is) (verdict_as_good first.private expression))
 
-pub more_allowed_as_good : (policy : Policy) (krate : CrateRecord) (expression : Option ExpressionView) (place : ℕ) (licensee : LicenseReq) (before after : Judgement)
-    → IsJudged policy krate expression before → IsJudged (with_allowed policy place licensee) krate expression after → IsAsGood before after
-more_allowed_as_good policy krate expression place licensee =
-    as_good policy (with_allowed policy place licensee) krate (λ is. record { ignores = is.ignores; private = is.private }) (λ is. record { ignores = is.ignores; private = is.private })
-    (λ terms tree. more_allowed policy krate terms tree place licensee) expression
+pub more_allowed_as_good : (policy : Policy) (krate : CrateRecord) (counted : List ℕ) (expression : Option ExpressionView) (place : ℕ) (licensee : LicenseReq) (before after : Judgement)
+    → IsJudged policy krate counted expression before → IsJudged (with_allowed policy place licensee) krate counted expression after → IsAsGood before after
+more_allowed_as_good policy krate counted expression place licensee =
+    as_good policy (with_allowed policy place licensee) krate counted counted (λ is. record { ignores = is.ignores; private = is.private })
+    (λ is. record { ignores = is.ignores; private = is.private }) (λ terms tree. more_allowed policy counted terms tree place licensee) expression
 
-pub more_exceptions_as_good : (policy : Policy) (krate : CrateRecord) (expression : Option ExpressionView) (grant : Grant) (before after : Judgement)
-    → IsJudged policy krate expression before → IsJudged (with_exception policy grant) krate expression after → IsAsGood before after
-more_exceptions_as_good policy krate expression grant =
-    as_good policy (with_exception policy grant) krate (λ is. record { ignores = is.ignores; private = is.private }) (λ is. record { ignores = is.ignores; private = is.private })
-    (λ terms tree. more_exceptions policy krate terms tree grant) expression
+pub more_exceptions_as_good : (policy : Policy) (krate : CrateRecord) (counted more : List ℕ) (expression : Option ExpressionView) (grant : Grant) (before after : Judgement)
+    → IsJudged policy krate counted expression before → IsJudged (with_exception policy grant) krate (counted ++ more) expression after → IsAsGood before after
+more_exceptions_as_good policy krate counted more expression grant =
+    as_good policy (with_exception policy grant) krate counted (counted ++ more) (λ is. record { ignores = is.ignores; private = is.private })
+    (λ is. record { ignores = is.ignores; private = is.private }) (λ terms tree. more_exceptions policy counted more terms tree grant) expression

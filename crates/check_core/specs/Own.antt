@@ -14,8 +14,7 @@ use Rattle.gather_license.specs.expression.Scanned.{Scanner}
 use Rattle.gather_license.specs.Clarification.{ClarificationView, named_in}
 use Rattle.gather_license.specs.Priority.{folder_of, priority_of}
 use Rattle.gather_core.specs.Entries.{clarifications_of, entries_of}
-use Rattle.gather_core.specs.Exceptions.{ExceptionEntry, ExceptionRules, counted_of, exception_rules}
-use Rattle.policy_parts.specs.spec.Matching.{spec_matches}
+use Rattle.gather_core.specs.Exceptions.{ExceptionEntry, ExceptionRules, counted_of, exception_rules, is_for}
 use Rattle.policy_core.specs.declared.valid.policy.ValidConfig.{ValidConfig}
 use Rattle.policy_core.specs.valid.View.{policy_of}
 use Rattle.check_core.specs.Verdicts.{IsVerdict}
@@ -31,9 +30,9 @@ expression_by scanner policy krate known_reads =
 abbrev pub clarified_paths : ClarificationView → List (List ℕ)
 clarified_paths one = map (λ named. named.path) (named_in one)
 
--- the files of an exception, where it matches the crate
+-- the files of an exception, where it is for the crate
 abbrev pub excepted_paths : CrateRecord → ExceptionEntry → List (List ℕ)
-excepted_paths krate entry = if spec_matches entry.spec krate then map (λ named. named.path) entry.files else []
+excepted_paths krate entry = if is_for krate entry then map (λ named. named.path) entry.files else []
 
 -- those of all exceptions, where each that holds counts; where the first alone counts it does so whatever its files
 abbrev pub exception_paths : ExceptionRules → CrateRecord → List (List ℕ)
