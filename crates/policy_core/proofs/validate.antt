@@ -1,3 +1,4 @@
+mod AddedLemmas
 mod AddressLemmas
 mod Clarified
 mod Examples

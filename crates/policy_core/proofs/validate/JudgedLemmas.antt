@@ -40,6 +40,14 @@ held_more judge items item judged before after is added so_far =
     ∙ ap (λ j. kept_by judge items ++ option_to_list (result_ok j)) is
     ∙ sym (kept_more judge items item)
 
+-- what is reported of items so far, and of one more that may tell nothing
+pub filtered_more : {A B : Type 0} (f : A → Option B) (items : List A) (item : A) (first before after : List B)
+    → after ≡ before ++ option_to_list (f item) → before ≡ first ++ filter_map f items → after ≡ first ++ filter_map f (items ++ item ∷ [])
+filtered_more f items item first before after added so_far =
+    added ∙ ap (λ b. b ++ option_to_list (f item)) so_far
+    ∙ append_assoc first (filter_map f items) (option_to_list (f item))
+    ∙ ap (λ t. first ++ t) (sym (filter_map_more f items item))
+
 -- what is reported of items so far, and of one more
 pub mapped_more : {A B : Type 0} (f : A → B) (items : List A) (item : A) (first before after : List B)
     → after ≡ before ++ f item ∷ [] → before ≡ first ++ map f items → after ≡ first ++ map f (items ++ item ∷ [])

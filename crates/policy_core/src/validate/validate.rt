@@ -60,7 +60,13 @@ fn validate_config<C: Catalog>(
     let ignore_sources = judge_addresses(alloc, file, sources, found)?;
     let clarifications = judge_clarifications(alloc, file, config.clarify, catalog, found)?;
     tell_removed(alloc, file, config.deprecated_spans.items(), found)?;
-    tell_versions(alloc, config.version, file, config.exceptions.items(), found)?;
+    tell_versions(
+        alloc,
+        config.version,
+        file,
+        config.exceptions.items(),
+        found,
+    )?;
     let exceptions = valid_exceptions(alloc, file, config.exceptions)?;
     Ok(ValidConfig {
         file_id: file,

@@ -47,10 +47,7 @@ impl<C: Catalog> FromKeys<C> for ExceptionLicenses {
         mut table: TableHelper<'_>,
         catalog: &C,
     ) -> Result<ExceptionLicenses, DeserError> {
-        let allow = match table.required(alloc, "allow", catalog) {
-            Ok(allow) => allow,
-            Err(error) => return Err(error),
-        };
+        let allow = table.required(alloc, "allow", catalog)?;
         let license_files = table.optional(alloc, "license-files", &())?;
         let keys = ExceptionLicenses {
             allow,
