@@ -1,7 +1,7 @@
 -- The exceptions of a policy, which of them count for a crate, and what is read of the crate's files for that.
-use Rattle.std.specs.Prelude.{ℕ, Bool, ◌&&◌, not, List, [], ◌∷◌, ◌++◌, map, filter, if◌then◌else◌}
+use Rattle.std.specs.Prelude.{ℕ, Bool, ◌&&◌, not, List, [], ◌∷◌, ◌++◌, map, filter, slice_get, if◌then◌else◌}
 use Rattle.std.specs.List.{flat_map, list_any}
-use Rattle.std.specs.Option.{option_to_list}
+use Rattle.std.specs.Option.{option_map_or, option_to_list}
 use Rattle.graph_core.specs.Krate.{CrateRecord}
 use Rattle.policy_parts.specs.declared.file_source.FileSource.{FileSource}
 use Rattle.policy_parts.specs.spec.Index.{first_of, places_from}
@@ -13,13 +13,14 @@ use Rattle.policy_core.specs.valid.Version.{is_version_3}
 use Rattle.gather_license.specs.files.KnownReads.{FolderReads, holds, looked_of}
 use Rattle.gather_license.specs.files.NamedFile.{NamedFileView}
 use Rattle.gather_license.specs.files.Pack.{first_spellings, same_path}
+use Rattle.gather_license.specs.Clarification.{PlacedFile}
 
 -- an exception: the crates that it is for, and the files that have to have their hashes
 pub record ExceptionEntry : Type 0 where
   pub spec : Spec
   pub files : List NamedFileView
 
--- the exceptions of a policy, in its order, and whether each that holds for a crate counts, or the first for it alone
+-- The exceptions of a policy, in its order, and whether each that holds for a crate counts, or the first for it alone
 pub record ExceptionRules : Type 0 where
   pub each_counts : Bool
   pub entries : List ExceptionEntry
@@ -53,19 +54,42 @@ counted_of rules krate known_reads =
 
 -- ---- what is read for that
 
--- of each exception that is for the crate, its files up to and with the first that does not match
-abbrev pub named_for : ExceptionRules → CrateRecord → FolderReads → List (List ℕ)
-named_for rules krate known_reads =
-    flat_map (λ (one : ExceptionEntry). looked_of known_reads one.files) (filter (is_for krate) rules.entries)
+-- of each exception that is for the crate, in order, its files up to and with the first that does not match
+abbrev pub named_by_each : List ExceptionEntry → CrateRecord → FolderReads → List (List ℕ)
+named_by_each entries krate known_reads =
+    flat_map (λ (one : ExceptionEntry). looked_of known_reads one.files) (filter (is_for krate) entries)
 
--- The files of exceptions that are looked at, each path by its first spelling: none, unless each exception counts.
+-- these where each counts, else none
+abbrev pub named_for : ExceptionRules → CrateRecord → FolderReads → List (List ℕ)
+named_for rules krate known_reads = if rules.each_counts then named_by_each rules.entries krate known_reads else []
+
+-- the files of exceptions that are looked at, each path by its first spelling
 abbrev pub looked_for : ExceptionRules → CrateRecord → FolderReads → List (List ℕ)
-looked_for rules krate known_reads =
-    if rules.each_counts then first_spellings (named_for rules krate known_reads) else []
+looked_for rules krate known_reads = first_spellings (named_for rules krate known_reads)
 
 -- the paths that have the parts of none that was read before
 abbrev pub further_paths : List (List ℕ) → List (List ℕ) → List (List ℕ)
 further_paths read paths = filter (λ path. not (list_any (same_path path) read)) paths
+
+-- ---- found by places
+
+abbrev pub exception_specs : List ExceptionEntry → List Spec
+exception_specs entries = map (λ one. one.spec) entries
+
+abbrev pub named_in : List PlacedFile → List NamedFileView
+named_in files = map (λ file. file.named) files
+
+-- the files of the exception at a place; none where there is no exception
+abbrev pub files_at : List ExceptionEntry → ℕ → List NamedFileView
+files_at entries place = option_map_or (λ (one : ExceptionEntry). one.files) (slice_get entries place) []
+
+-- the places whose exceptions hold by their files, out of some
+abbrev pub holding_at : FolderReads → List ExceptionEntry → List ℕ → List ℕ
+holding_at known_reads entries places = filter (λ place. holds known_reads (files_at entries place)) places
+
+-- the files that are looked at of the exceptions at some places
+abbrev pub looked_at : FolderReads → List ExceptionEntry → List ℕ → List (List ℕ)
+looked_at known_reads entries places = flat_map (λ place. looked_of known_reads (files_at entries place)) places
 
 -- ---- a further exception
 

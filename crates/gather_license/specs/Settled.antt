@@ -1,5 +1,5 @@
 -- What the call that settles a crate's licence answers.
-use Rattle.std.specs.Prelude.{◌≡◌, ℕ, List, [], ◌∷◌, ◌++◌, slice_get, Option, option_copied, option_map}
+use Rattle.std.specs.Prelude.{◌≡◌, ℕ, List, [], ◌∷◌, ◌++◌, length, slice_get, Option, option_copied, option_map}
 use Rattle.std.specs.Prelude.{option_and_then, if◌then◌else◌}
 use Rattle.std.specs.Option.{option_to_list}
 use Rattle.deny_text.specs.declared.span.Span.{Span}
@@ -51,6 +51,7 @@ pub record IsSettledBy (scanner : Scanner) (clarifications : List ClarificationV
 pub record IsSettledFrom (scanner : Scanner) (clarifications : List ClarificationView) (krate : CrateRecord)
     (known_reads : FolderReads) (settled : SettledLicense) : Type 0 where
   pub folder : settled.pack.folder ≡ folder_of krate
+  pub made : settled.reads_made ≡ length settled.pack.reads
   pub agrees : Agrees known_reads settled.pack
   pub by_any : (other : FolderReads) → Agrees other settled.pack
       → IsSettledBy scanner clarifications krate other settled
