@@ -58,7 +58,11 @@ abbrev pub asked_fault : Policy → List ℕ → Option ExpressionView → Recor
 asked_fault policy counted None verdict = unlicensed_fault verdict
 asked_fault policy counted (Some expression) verdict = certificate_fault policy counted expression verdict
 
+-- by whether the policy passes the crate over
+abbrev pub fault_by : Bool → Policy → List ℕ → Option ExpressionView → RecordVerdict → Option VerdictFault
+fault_by private policy counted expression verdict =
+    if private then skipped_fault verdict else asked_fault policy counted expression verdict
+
 -- the first thing that is wrong with a crate's verdict
 abbrev pub fault_of : Policy → SeenCrate → RecordVerdict → Option VerdictFault
-fault_of policy seen verdict =
-    if seen.private then skipped_fault verdict else asked_fault policy seen.exceptions seen.expression verdict
+fault_of policy seen verdict = fault_by seen.private policy seen.exceptions seen.expression verdict

@@ -12,6 +12,7 @@ use crate::evaluate::entry_index::EntryIndex;
 use crate::evaluate::hits::keep_hits;
 use deny_text::Steps;
 use policy_core::valid::CountedPolicy;
+use policy_parts::spec::Places;
 use spdx_core::Expression;
 use spdx_core::certificates::{Hit, Verdict};
 use std::alloc::{AllocError, Global};
@@ -78,7 +79,7 @@ impl Evaluator {
     pub fn evaluate<L: Ledger>(
         &mut self,
         expression: &Expression,
-        exceptions: &[usize],
+        exceptions: &Places,
         policy: &CountedPolicy<'_, L>,
         steps: &mut Steps<L>,
     ) -> bool

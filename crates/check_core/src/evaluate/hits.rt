@@ -12,6 +12,7 @@ use crate::evaluate::entry_index::EntryIndex;
 use crate::evaluate::room::put;
 use deny_text::Steps;
 use policy_core::valid::{CountedLicensees, CountedPolicy};
+use policy_parts::spec::Places;
 use spdx_core::certificates::Hit;
 use spdx_core::{ExpressionReq, LicenseReq};
 use std::sync::ledger::Ledger;
@@ -103,7 +104,7 @@ fn allowed_hit<L: Ledger>(
 pub fn hit_by<L: Ledger>(
     policy: &CountedPolicy<'_, L>,
     index: &EntryIndex,
-    exceptions: &[usize],
+    exceptions: &Places,
     term: &LicenseReq,
     steps: &mut Steps<L>,
 ) -> Option<Hit>
@@ -112,7 +113,7 @@ pub fn hit_by<L: Ledger>(
     ensures steps { steps.old ≤ steps.new }
     ensures bound { steps.new ≤ steps.old + entries_of (policy_of policy.now) exceptions.now term.now }
 {
-    match granted_hit(policy, index, exceptions, term, steps) {
+    match granted_hit(policy, index, exceptions.items(), term, steps) {
         Some(hit) => Some(hit),
         None => allowed_hit(policy, index, term, steps),
     }
@@ -123,7 +124,7 @@ pub fn keep_hits<L: Ledger>(
     kept: &mut Vec<Option<Hit>>,
     policy: &CountedPolicy<'_, L>,
     index: &EntryIndex,
-    exceptions: &[usize],
+    exceptions: &Places,
     terms: &[ExpressionReq],
     steps: &mut Steps<L>,
 )
