@@ -347,7 +347,7 @@ starves_listing folder license_file called some = record {
 
 -- ---- from the files that are wanted to the records
 
-map_option : {A B : Type 0} (f : A → B) (o : Option A) → map f (option_to_list o) ≡ option_to_list (option_map f o)
+pub map_option : {A B : Type 0} (f : A → B) (o : Option A) → map f (option_to_list o) ≡ option_to_list (option_map f o)
 map_option f None = refl
 map_option f (Some x) = refl
 

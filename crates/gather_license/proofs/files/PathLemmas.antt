@@ -1,5 +1,5 @@
 -- Paths of the same parts, and lists of paths.
-use Rattle.std.proofs.Common.{◌≡◌, ℕ, Bool, true, false, not, ◌&&◌, ◌||◌, cond, filter, List, [], ◌∷◌, ◌++◌, refl, sym, ap, ◌∙◌, append-nil, append_assoc}
+use Rattle.std.proofs.Common.{◌≡◌, ℕ, Bool, true, false, not, ◌||◌, cond, filter, List, [], ◌∷◌, ◌++◌, refl, sym, ap, ◌∙◌, append-nil, append_assoc}
 use Rattle.std.specs.List.{fold, list_any}
 use Rattle.std.specs.Ordering.{ordering_then, is_eq, is_lt, nat_cmp}
 use Rattle.std.specs.declared.cmp.Ordering.{Ordering}
@@ -171,18 +171,8 @@ apart_known read x (path ∷ paths) there =
     known_too : same_path x path ≡ true → list_any (same_path path) read ≡ true
     known_too same = ap (λ parts. list_any (λ other. is_eq (slice_cmp part_cmp parts (components_of other))) read) (sym (parts_of_same x path same)) ∙ there
 
-not_any : (a b : Bool) → not (a || b) ≡ (not a && not b)
-not_any true b = refl
-not_any false b = refl
-
-or_swap : (a b : Bool) → (a || (b || false)) ≡ (b || a)
-or_swap true true = refl
-or_swap true false = refl
-or_swap false true = refl
-or_swap false false = refl
-
 any-push : (y : List ℕ) (read : List (List ℕ)) (x : List ℕ) → list_any (same_path y) (read ++ x ∷ []) ≡ (same_path x y || list_any (same_path y) read)
-any-push y [] x = or_swap (same_path y x) false ∙ ap (λ b. b || false) (symmetric y x) ∙ refl
+any-push y [] x = ap (λ b. b || false) (symmetric y x)
 any-push y (one ∷ read) x =
     ap (λ b. same_path y one || b) (any-push y read x) ∙ three (same_path y one) (same_path x y) (list_any (same_path y) read)
   where

@@ -14,18 +14,18 @@ returns-clause-answered g c =
     let pack = c.in_ok-clarified.clarified.pack in
     let looked = c.in_ok-clarified.ensures.looked in
     let made = c.in_ok-clarified.ensures.made in
-    let settled : SettledLicense = record { by = c.in_ok-by.by; missing = c.in_ok-clarified.clarified.missing; pack = pack; reads_made = c.reads_made.result } in
+    let settled : SettledLicense = record { by = c.in_ok-by.by; missing = c.in_ok-clarified.clarified.missing; pack = pack; reads_made = c.reads_made-reads_made.result } in
     record {
       reads = made.reads;
       records = sym made.is.records;
       made = made.made;
       is_so = record {
         folder = looked.folder;
-        made = c.reads_made.ensures.number;
+        made = c.reads_made-reads_made.ensures.number;
         agrees = made.is.agrees;
         by_any = ordered (scanner_of_scan g.C.Catalog.lists g.I.Identifier.match_of c.args.scan.now) krate (map lent_clarification c.args.clarifications.now)
             c.in_ok-clarified.clarified.held c.in_ok-clarified.clarified.missing c.args.field settled looked
-            c.reads_made.ensures.sorted c.requires c.in_ok-by.ensures refl;
+            c.reads_made-reads_made.ensures.sorted c.requires c.in_ok-by.ensures refl;
       };
     }
 
