@@ -1,17 +1,24 @@
 -- More entries never reject a crate.
-use Rattle.std.proofs.Common.{◌≡◌, ◌∙◌, refl, sym, ap, subst, ℕ, Bool, true, false, inl, inr, cond, IsTrue, List, ◌++◌, Option, Some, None}
+use Rattle.std.proofs.Common.{◌≡◌, ◌∙◌, refl, sym, ap, subst, ℕ, Bool, true, false, inl, inr, cond, IsTrue, List, [], ◌∷◌, ◌++◌, Option, Some, None}
 use Rattle.std.specs.Prelude.{◌↔◌}
 use Rattle.std.proofs.lemmas.Bool.{both_ways}
+use Rattle.std.proofs.lemmas.List.{map-append}
 use Rattle.spdx_terms.specs.declared.term.ExpressionReq.{ExpressionReq}
 use Rattle.spdx_terms.specs.declared.term.LicenseReq.{LicenseReq}
 use Rattle.spdx_core.specs.Grammar.{ExpressionTree}
 use Rattle.spdx_core.specs.Reading.{ExpressionView}
 use Rattle.graph_core.specs.Krate.{CrateRecord}
+use Rattle.gather_core.specs.Exceptions as rules
+use Rattle.gather_core.specs.Exceptions.{ExceptionEntry, ExceptionRules, counted_of, exception_entry, exception_rules}
+use Rattle.gather_core.proofs.ExceptionLemmas.{further_exceptions_count_last}
+use Rattle.policy_core.specs.declared.valid.policy.ValidConfig.{ValidConfig}
+use Rattle.policy_core.specs.declared.valid.policy.ValidException.{ValidException}
 use Rattle.policy_core.specs.valid.Policy.{Grant, IsPrivate, Policy}
+use Rattle.policy_core.specs.valid.View.{grant_of, policy_of}
 use Rattle.check_core.specs.evaluate.Evaluation.{is_allowed}
 use Rattle.check_core.specs.evaluate.Laws.{with_allowed, with_exception}
 use Rattle.check_core.proofs.evaluate.MoreLemmas.{more_allowed, more_exceptions}
-use Rattle.check_core.specs.Laws.{IsAsGood}
+use Rattle.check_core.specs.Laws.{FurtherExceptionIsAsGood, IsAsGood, with_further}
 use Rattle.check_core.specs.Verdicts.{Judgement, accepted, rejected, IsJudged, judgement_of, verdict_of}
 
 -- tests of one fact agree
@@ -58,3 +65,25 @@ pub more_exceptions_as_good : (policy : Policy) (krate : CrateRecord) (counted m
 more_exceptions_as_good policy krate counted more expression grant =
     as_good policy (with_exception policy grant) krate counted (counted ++ more) (λ is. record { ignores = is.ignores; private = is.private })
     (λ is. record { ignores = is.ignores; private = is.private }) (λ terms tree. more_exceptions policy counted more terms tree grant) expression
+
+-- ---- of a whole policy
+
+further_policy : (policy : ValidConfig) (exception : ValidException) → policy_of (with_further policy exception) ≡ with_exception (policy_of policy) (grant_of exception)
+further_policy policy exception =
+    ap (λ (grants : List Grant). let it : Policy = record (policy_of policy) { exceptions = grants } in it) (map-append grant_of policy.exceptions (exception ∷ []))
+
+further_rules : (policy : ValidConfig) (exception : ValidException) → exception_rules (with_further policy exception) ≡ rules.with_exception (exception_rules policy) (exception_entry exception)
+further_rules policy exception =
+    ap (λ (entries : List ExceptionEntry). let it : ExceptionRules = record { each_counts = (exception_rules policy).each_counts; entries = entries } in it)
+    (map-append exception_entry policy.exceptions (exception ∷ []))
+
+pub further_as_good : FurtherExceptionIsAsGood
+further_as_good policy exception krate known_reads expression before after first second =
+    let counted = counted_of (exception_rules policy) krate known_reads in
+    let last = further_exceptions_count_last (exception_rules policy) (exception_entry exception) krate known_reads in
+    let count : counted_of (exception_rules (with_further policy exception)) krate known_reads ≡ counted ++ last.0 =
+    ap (λ (all : ExceptionRules). counted_of all krate known_reads) (further_rules policy exception) ∙ last.1 in
+    more_exceptions_as_good (policy_of policy) krate counted last.0 expression (grant_of exception) before after first
+    (subst (λ (places : List ℕ). IsJudged (with_exception (policy_of policy) (grant_of exception)) krate places expression after) count
+    (subst (λ (more : Policy). IsJudged more krate (counted_of (exception_rules (with_further policy exception)) krate known_reads) expression after)
+    (further_policy policy exception) second))

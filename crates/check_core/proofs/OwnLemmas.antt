@@ -174,7 +174,7 @@ module _ (one other : FolderReads) where
   counted_by krate entries false same = refl
 
   -- what is read for the licence, and what is read for exceptions
-  abbrev all_around : (clarifications : List ClarificationView) (rules : ExceptionRules) (krate : CrateRecord) → HearTheSame clarifications rules krate one other
+  all_around : (clarifications : List ClarificationView) (rules : ExceptionRules) (krate : CrateRecord) → HearTheSame clarifications rules krate one other
       → AllByRecursion SameAt (paths_around one.listing clarifications rules krate)
   all_around clarifications rules krate hear = recursion_from_All SameAt (paths_around one.listing clarifications rules krate) hear.files
 

@@ -1,9 +1,14 @@
 -- More entries never reject a crate.
-use Rattle.std.specs.Prelude.{◌≡◌, ◌⊎◌, ℕ, List, ◌++◌, Option}
+use Rattle.std.specs.Prelude.{◌≡◌, ◌⊎◌, ℕ, List, [], ◌∷◌, ◌++◌, Option}
 use Rattle.spdx_terms.specs.declared.term.LicenseReq.{LicenseReq}
 use Rattle.spdx_core.specs.Reading.{ExpressionView}
 use Rattle.graph_core.specs.Krate.{CrateRecord}
+use Rattle.policy_core.specs.declared.valid.policy.ValidConfig.{ValidConfig}
+use Rattle.policy_core.specs.declared.valid.policy.ValidException.{ValidException}
 use Rattle.policy_core.specs.valid.Policy.{Grant, Policy}
+use Rattle.policy_core.specs.valid.View.{policy_of}
+use Rattle.gather_license.specs.files.KnownReads.{FolderReads}
+use Rattle.gather_core.specs.Exceptions.{counted_of, exception_rules}
 use Rattle.check_core.specs.evaluate.Laws.{with_allowed, with_exception}
 use Rattle.check_core.specs.Verdicts.{Judgement, skipped, unlicensed, accepted, rejected, IsJudged}
 
@@ -29,3 +34,19 @@ MoreExceptionsAreAsGood =
     (before after : Judgement)
     → IsJudged policy krate counted expression before
     → IsJudged (with_exception policy grant) krate (counted ++ more) expression after → IsAsGood before after
+
+-- ---- of a whole policy, by what is read of a crate
+
+-- a policy with one more exception behind all others
+abbrev pub with_further : ValidConfig → ValidException → ValidConfig
+with_further policy exception = record policy { exceptions = policy.exceptions ++ exception ∷ [] }
+
+-- whether each exception that holds counts or the first alone
+abbrev pub FurtherExceptionIsAsGood : Type 0
+FurtherExceptionIsAsGood =
+    (policy : ValidConfig) (exception : ValidException) (krate : CrateRecord) (known_reads : FolderReads)
+    (expression : Option ExpressionView) (before after : Judgement)
+    → IsJudged (policy_of policy) krate (counted_of (exception_rules policy) krate known_reads) expression before
+    → IsJudged (policy_of (with_further policy exception)) krate
+    (counted_of (exception_rules (with_further policy exception)) krate known_reads) expression after
+    → IsAsGood before after

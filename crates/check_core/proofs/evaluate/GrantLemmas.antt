@@ -7,8 +7,8 @@ use Rattle.spdx_core.specs.declared.certificates.verdict.Hit.{Hit}
 use Rattle.policy_core.specs.valid.Policy.{Grant, exception_hit, granted_hit}
 
 pub none_of : {A : Type 0} (found : Option A) → ((x : A) → found ≡ Some x → ⊥) → found ≡ None
-none_of None no = refl
-none_of (Some x) no = absurd (no x refl)
+none_of None other = refl
+none_of (Some x) other = absurd (other x refl)
 
 module _ (exceptions : List Grant) (term : LicenseReq) (places : List ℕ) (i : ℕ) where
   abbrev from_here : Option Hit → Option Hit
