@@ -37,8 +37,8 @@ abbrev pub granted_entries : List Grant → List ℕ → LicenseReq → ℕ
 granted_entries exceptions counted term =
     sum_by (λ place. entries_in (granted_licensees exceptions place) term) counted
 
--- How many entries are asked at most for a term of a crate: those of the term's family in each exception that counts for
--- the crate, and in what is allowed.
+-- How many entries are asked at most for a term of a crate: those of the term's family in each exception that counts
+-- for the crate, and in what is allowed.
 abbrev pub entries_of : Policy → List ℕ → LicenseReq → ℕ
 entries_of policy counted term = granted_entries policy.exceptions counted term + entries_in policy.allowed term
 

@@ -116,14 +116,16 @@ rows =
     ∷ row (isc ∷ []) two_grants isc (Some (Allowed 0))
     ∷ row_by (1 ∷ []) [] two_grants zlib None
     -- of two that count the second alone satisfies, and the first is asked before it
-    ∷ row_by (0 ∷ 1 ∷ []) [] (grant (codes "a") (mit ∷ []) ∷ grant (codes "a") (isc ∷ []) ∷ []) isc (Some (Exception 1 0))
+    ∷ row_by (0 ∷ 1 ∷ []) [] (grant (codes "a") (mit ∷ []) ∷ grant (codes "a") (isc ∷ []) ∷ []) isc
+    (Some (Exception 1 0))
     ∷ row_by (0 ∷ 1 ∷ []) [] two_grants isc (Some (Exception 0 1))
     ∷ row_by (0 ∷ 1 ∷ []) (mit ∷ []) two_grants mit (Some (Allowed 0))
     ∷ row_by (0 ∷ 1 ∷ []) (zlib ∷ []) two_grants x11 None
     -- an empty exception has no hit; alone it leaves what is allowed, and before another it does not hide that
     ∷ row_by (0 ∷ []) (mit ∷ []) (grant (codes "a") [] ∷ grant (codes "a") (isc ∷ []) ∷ []) isc None
     ∷ row_by (0 ∷ []) (mit ∷ []) (grant (codes "a") [] ∷ grant (codes "a") (isc ∷ []) ∷ []) mit (Some (Allowed 0))
-    ∷ row_by (0 ∷ 1 ∷ []) (isc ∷ []) (grant (codes "a") [] ∷ grant (codes "a") (isc ∷ []) ∷ []) isc (Some (Exception 1 0))
+    ∷ row_by (0 ∷ 1 ∷ []) (isc ∷ []) (grant (codes "a") [] ∷ grant (codes "a") (isc ∷ []) ∷ []) isc
+    (Some (Exception 1 0))
     -- the order is that of the places that count, whatever the list's
     ∷ row_by (1 ∷ 0 ∷ []) [] two_grants isc (Some (Exception 1 0))
     -- a place behind the end of the list grants nothing
