@@ -12,8 +12,8 @@ gnu name rank = record { item = Spdx name 5 rank false false; exception = None }
 abbrev gpl3_term : ExpressionReq
 gpl3_term = record { req = gnu (codes "GPL-3.0-only") 30; span = record { start = 0; end = 12 } }
 
--- How many entries are asked at most for `GPL-3.0-only`, where one of its family is allowed, and two exceptions count that
--- have one of it each.
+-- How many entries are asked at most for `GPL-3.0-only`, where one of its family is allowed, and two exceptions count
+-- that have one of it each.
 abbrev pub entries_asked : ℕ
 entries_asked =
     entries_of_terms
