@@ -127,7 +127,7 @@ module _ (policy : Policy) where
   seen_all [] [] each = tt
   seen_all [] (private ∷ flags) each = absurd each
   seen_all (license ∷ licenses) [] each = absurd each
-  seen_all (license ∷ licenses) (private ∷ flags) each = (record { krate = refl; private = each.0; expression = refl }, seen_all licenses flags each.1)
+  seen_all (license ∷ licenses) (private ∷ flags) each = (record { krate = refl; exceptions = refl; private = each.0; expression = refl }, seen_all licenses flags each.1)
 
   ids_all : (licenses : List KrateLicense) (flags : List Bool) → AllZip (IsFlagged policy) licenses flags → ids_seen (all_seen licenses flags) ≡ ids_gathered licenses
   ids_all [] [] each = refl
