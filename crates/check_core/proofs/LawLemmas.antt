@@ -1,6 +1,7 @@
 -- More entries never reject a crate.
-use Rattle.std.proofs.Common.{◌≡◌, ◌∙◌, refl, sym, ap, subst, ℕ, Bool, true, false, inl, inr, cond, IsTrue, List, [], ◌∷◌, ◌++◌, Option, Some, None}
+use Rattle.std.proofs.Common.{◌≡◌, ◌∙◌, refl, sym, ap, subst, ℕ, suc, Bool, true, false, inl, inr, cond, IsTrue, List, [], ◌∷◌, ◌++◌, map, Option, Some, None}
 use Rattle.std.specs.Prelude.{◌↔◌}
+use Rattle.std.specs.Option.{option_to_list}
 use Rattle.std.proofs.lemmas.Bool.{both_ways}
 use Rattle.std.proofs.lemmas.List.{map-append}
 use Rattle.spdx_terms.specs.declared.term.ExpressionReq.{ExpressionReq}
@@ -8,9 +9,11 @@ use Rattle.spdx_terms.specs.declared.term.LicenseReq.{LicenseReq}
 use Rattle.spdx_core.specs.Grammar.{ExpressionTree}
 use Rattle.spdx_core.specs.Reading.{ExpressionView}
 use Rattle.graph_core.specs.Krate.{CrateRecord}
+use Rattle.policy_parts.specs.spec.Index.{first_of, places_from}
+use Rattle.policy_parts.specs.spec.Matching.{spec_matches}
 use Rattle.gather_core.specs.Exceptions as rules
-use Rattle.gather_core.specs.Exceptions.{ExceptionEntry, ExceptionRules, counted_of, exception_entry, exception_rules}
-use Rattle.gather_core.proofs.ExceptionLemmas.{further_exceptions_count_last}
+use Rattle.gather_core.specs.Exceptions.{ExceptionEntry, ExceptionRules, counted_of, exception_entry, exception_rules, is_for}
+use Rattle.gather_core.proofs.ExceptionLemmas.{further_exceptions_count_last, one_exception_counts}
 use Rattle.policy_core.specs.declared.valid.policy.ValidConfig.{ValidConfig}
 use Rattle.policy_core.specs.declared.valid.policy.ValidException.{ValidException}
 use Rattle.policy_core.specs.valid.Policy.{Grant, IsPrivate, Policy}
@@ -18,7 +21,7 @@ use Rattle.policy_core.specs.valid.View.{grant_of, policy_of}
 use Rattle.check_core.specs.evaluate.Evaluation.{is_allowed}
 use Rattle.check_core.specs.evaluate.Laws.{with_allowed, with_exception}
 use Rattle.check_core.proofs.evaluate.MoreLemmas.{more_allowed, more_exceptions}
-use Rattle.check_core.specs.Laws.{FurtherExceptionIsAsGood, IsAsGood, with_further}
+use Rattle.check_core.specs.Laws.{FirstExceptionCounts, FurtherExceptionIsAsGood, IsAsGood, with_further}
 use Rattle.check_core.specs.Verdicts.{Judgement, accepted, rejected, IsJudged, judgement_of, verdict_of}
 
 -- tests of one fact agree
@@ -67,6 +70,16 @@ more_exceptions_as_good policy krate counted more expression grant =
     (λ is. record { ignores = is.ignores; private = is.private }) (λ terms tree. more_exceptions policy counted more terms tree grant) expression
 
 -- ---- of a whole policy
+
+-- the exceptions for a crate, by their specs
+places_by_spec : (krate : CrateRecord) (n : ℕ) (exceptions : List ValidException)
+    → places_from n (is_for krate) (map exception_entry exceptions) ≡ places_from n (λ spec. spec_matches spec krate) (map (λ (grant : Grant). grant.spec) (map grant_of exceptions))
+places_by_spec krate n [] = refl
+places_by_spec krate n (exception ∷ more) = ap (λ (rest : List ℕ). cond (spec_matches exception.spec krate) (n ∷ rest) rest) (places_by_spec krate (suc n) more)
+
+pub first_counts : FirstExceptionCounts
+first_counts policy krate known_reads other =
+    (one_exception_counts (exception_rules policy) krate known_reads other).0 ∙ ap (λ (places : List ℕ). option_to_list (first_of places)) (places_by_spec krate 0 policy.exceptions)
 
 further_policy : (policy : ValidConfig) (exception : ValidException) → policy_of (with_further policy exception) ≡ with_exception (policy_of policy) (grant_of exception)
 further_policy policy exception =

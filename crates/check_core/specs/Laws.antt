@@ -1,11 +1,13 @@
 -- More entries never reject a crate.
-use Rattle.std.specs.Prelude.{◌≡◌, ◌⊎◌, ℕ, List, [], ◌∷◌, ◌++◌, Option}
+use Rattle.std.specs.Prelude.{◌≡◌, ◌⊎◌, ℕ, false, List, [], ◌∷◌, ◌++◌, Option}
+use Rattle.std.specs.Option.{option_to_list}
 use Rattle.spdx_terms.specs.declared.term.LicenseReq.{LicenseReq}
 use Rattle.spdx_core.specs.Reading.{ExpressionView}
 use Rattle.graph_core.specs.Krate.{CrateRecord}
 use Rattle.policy_core.specs.declared.valid.policy.ValidConfig.{ValidConfig}
 use Rattle.policy_core.specs.declared.valid.policy.ValidException.{ValidException}
-use Rattle.policy_core.specs.valid.Policy.{Grant, Policy}
+use Rattle.policy_core.specs.valid.Policy.{Grant, Policy, first_exception}
+use Rattle.policy_core.specs.valid.Version.{is_version_3}
 use Rattle.policy_core.specs.valid.View.{policy_of}
 use Rattle.gather_license.specs.files.KnownReads.{FolderReads}
 use Rattle.gather_core.specs.Exceptions.{counted_of, exception_rules}
@@ -40,6 +42,13 @@ MoreExceptionsAreAsGood =
 -- a policy with one more exception behind all others
 abbrev pub with_further : ValidConfig → ValidException → ValidConfig
 with_further policy exception = record policy { exceptions = policy.exceptions ++ exception ∷ [] }
+
+-- under another version than 3 the first exception for a crate counts alone, whatever is read of the crate
+abbrev pub FirstExceptionCounts : Type 0
+FirstExceptionCounts =
+    (policy : ValidConfig) (krate : CrateRecord) (known_reads : FolderReads) → is_version_3 policy.version ≡ false
+    → counted_of (exception_rules policy) krate known_reads
+    ≡ option_to_list (first_exception (policy_of policy) krate)
 
 -- whether each exception that holds counts or the first alone
 abbrev pub FurtherExceptionIsAsGood : Type 0

@@ -1,7 +1,8 @@
 //! What holds of all policies and crates. These functions do nothing: their contracts are the laws.
-//! Called by no code: seven laws of verdicts and their findings, whose bodies hold nothing to change.
+//! Called by no code: eight laws of verdicts and their findings, whose bodies hold nothing to change.
 ghost use Rattle.check_core.specs.Hits.{TellsTheUnneeded, TermsAreTold};
-ghost use Rattle.check_core.specs.Laws.{FurtherExceptionIsAsGood, MoreAllowedIsAsGood, MoreExceptionsAreAsGood};
+ghost use Rattle.check_core.specs.Laws.{FirstExceptionCounts, FurtherExceptionIsAsGood, MoreAllowedIsAsGood};
+ghost use Rattle.check_core.specs.Laws.{MoreExceptionsAreAsGood};
 ghost use Rattle.check_core.specs.Own.{VerdictIsByKnownReads, VerdictIsOwn};
 
 /// A further allowed licensee, at any place of the list, rejects no crate that was accepted, and a crate that
@@ -15,7 +16,14 @@ pub fn more_exceptions_are_as_good()
     ensures { MoreExceptionsAreAsGood }
 {}
 
-/// So does a further exception behind all others of a policy of any version, whatever is read of the crate.
+/// Under another version of a policy than 3 the first exception for a crate counts alone, whatever is read of
+/// the crate.
+pub fn first_exception_counts()
+    ensures { FirstExceptionCounts }
+{}
+
+/// A further exception behind all others of a policy, of any version, rejects no crate that was accepted,
+/// whatever is read of the crate.
 pub fn further_exception_is_as_good()
     ensures { FurtherExceptionIsAsGood }
 {}

@@ -1,5 +1,5 @@
 -- Exceptions that are found by their places, and which of them count.
-use Rattle.std.proofs.Common.{◌≡◌, ◌∙◌, ℕ, suc, ◌+◌, ◌<◌, length, take, drop, take-append-drop, get_or, Bool, true, false, ◌&&◌, cond, List, [], ◌∷◌, ◌++◌, map, filter, Option, Some, refl, sym, ap, ap₂, subst, append-nil, append_assoc, length-append, arith, slice_get}
+use Rattle.std.proofs.Common.{◌≡◌, ◌∙◌, ℕ, suc, ◌+◌, ◌<◌, length, take, drop, take-append-drop, get_or, Bool, true, false, ◌&&◌, cond, List, [], ◌∷◌, ◌++◌, map, filter, Option, None, Some, refl, sym, ap, ap₂, subst, append-nil, append_assoc, length-append, arith, slice_get}
 use Rattle.std.proofs.Math.Seq.{get_or-append_seam}
 use Rattle.std.proofs.lemmas.Option.{slice_get-get_or}
 use Rattle.std.proofs.lemmas.List.{take_more}
@@ -96,6 +96,13 @@ holding_each krate known_reads entries = ap (holding_at known_reads entries) (pl
 pub looked_each : (krate : CrateRecord) (known_reads : FolderReads) (entries : List ExceptionEntry)
     → looked_at known_reads entries (matching_places (exception_specs entries) krate) ≡ named_by_each entries krate known_reads
 looked_each krate known_reads entries = ap (looked_at known_reads entries) (places_for krate entries) ∙ looked_from krate known_reads entries [] entries 0 refl refl
+
+-- what is found at a place, and where nothing is
+pub files_found : (entries : List ExceptionEntry) (place : ℕ) (one : ExceptionEntry) (files : List NamedFileView) → files ≡ one.files → slice_get entries place ≡ Some one → files ≡ files_at entries place
+files_found entries place one files are is = are ∙ sym (ap (λ (found : Option ExceptionEntry). option_map_or (λ (one : ExceptionEntry). one.files) found []) is)
+
+pub files_unfound : (entries : List ExceptionEntry) (place : ℕ) → slice_get entries place ≡ None → files_at entries place ≡ []
+files_unfound entries place is = ap (λ (found : Option ExceptionEntry). option_map_or (λ (one : ExceptionEntry). one.files) found []) is
 
 -- ---- one more place
 

@@ -1,5 +1,5 @@
 -- What follows from the calls that are made at the turns of crates, and which exceptions count.
-use Rattle.std.specs.Prelude.{◌≡◌, ℕ, false, List, [], Option, ◌×◌}
+use Rattle.std.specs.Prelude.{◌≡◌, ℕ, false, List, [], Option}
 use Rattle.std.specs.Option.{option_to_list}
 use Rattle.tree_core.specs.Call.{Call}
 use Rattle.tree_core.specs.Content.{Content}

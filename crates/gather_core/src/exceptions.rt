@@ -5,7 +5,7 @@ ghost use Rattle.std.specs.Option.{option_to_list};
 ghost use Rattle.graph_core.specs.Krate.{record_of};
 ghost use Rattle.policy_parts.specs.spec.Index.{first_of, places_from};
 ghost use Rattle.gather_license.specs.files.Calls.{GoesBy, Starves};
-ghost use Rattle.gather_license.specs.files.KnownReads.{FolderReads};
+ghost use Rattle.gather_license.specs.files.KnownReads.{FolderReads, holds, looked_of};
 ghost use Rattle.gather_license.specs.files.Steps.{Agrees, with_path};
 ghost use Rattle.gather_license.specs.files.View.{paths_read};
 ghost use Rattle.gather_core.specs.Exceptions.{counted_of, exception_entry, exception_rules, files_at, holding_at, holds_for};
@@ -13,7 +13,7 @@ ghost use Rattle.gather_core.specs.Exceptions.{is_for, looked_at, named_by_each,
 
 use crate::clarifications::file_refs;
 use gather_license::FileRef;
-use gather_license::files::LicensePack;
+use gather_license::files::{LicensePack, TriedClarification};
 use graph_core::Krate;
 use policy_core::valid::{ValidConfig, ValidException, is_version_3};
 use policy_parts::spec::{HasSpec, PackageSpec, Places, SpecIndex};
@@ -115,13 +115,35 @@ fn exception_refs(
     Ok(refs)
 }
 
-/// The files of the exception at a place; none where there is no exception.
-fn files_at<'a, 'p>(entries: &'a [ExceptionRef<'p>], place: usize) -> &'a [FileRef<'p>]
-    ensures { named_in result.now ≡ files_at entries.entry.now place }
+/// Tries the exception at a place by its files: each is looked up in order, up to the first that does not
+/// match; none is read twice. Where there is no exception nothing is.
+fn try_at<T: Tree>(
+    alloc: Global,
+    tree: &mut T,
+    pack: LicensePack,
+    entries: &[ExceptionRef<'_>],
+    place: usize,
+) -> Result<TriedClarification, AllocError>
+    ensures paths { IfOk result (λ tried. (known_reads : FolderReads) → Agrees known_reads tried.pack
+        → paths_read tried.pack.reads
+        ≡ fold with_path (paths_read pack.reads) (looked_of known_reads (files_at entries.now place))) }
+    ensures holds { IfOk result (λ tried. (known_reads : FolderReads) → Agrees known_reads tried.pack
+        → tried.holds ≡ holds known_reads (files_at entries.now place)) }
+    ensures goes { IfOk result (λ tried. GoesBy (T.content tree.old) (T.content tree.new) (T.fault_count tree.old)
+        (T.fault_count tree.new) (T.trace tree.old) (T.trace tree.new)
+        pack tried.pack) }
+    ensures no_memory { OnErr result (Starves (T.content tree.old) (T.content tree.new) (T.fault_count tree.old)
+        (T.fault_count tree.new) (T.trace tree.old) (T.trace tree.new)
+        pack (λ known_reads.
+        fold with_path (paths_read pack.reads) (looked_of known_reads (files_at entries.now place)))) }
 {
     match entries.get(place) {
-        Some(one) => one.files(),
-        None => &[],
+        Some(one) => pack.tries(alloc, tree, one.files()),
+        None => Ok(TriedClarification {
+            pack,
+            holds: true,
+            missing: None,
+        }),
     }
 }
 
@@ -132,8 +154,7 @@ fn push_where(counted: &mut Places, place: usize, holds: bool) -> Result<(), All
     if holds { counted.push(place) } else { Ok(()) }
 }
 
-/// The places of the exceptions that hold by their files, out of some places. The files of each are looked up
-/// in order, up to the first that does not match; none is read twice.
+/// The places of the exceptions that hold by their files, out of some places.
 fn holding<T: Tree>(
     alloc: Global,
     tree: &mut T,
@@ -157,7 +178,7 @@ fn holding<T: Tree>(
     let mut pack = pack;
     let mut counted = Places::new(alloc);
     'places: for place in places {
-        let tried = pack.tries(alloc, tree, files_at(entries, *place))?;
+        let tried = try_at(alloc, tree, pack, entries, *place)?;
         pack = tried.pack;
         push_where(&mut counted, *place, tried.holds)?;
     }

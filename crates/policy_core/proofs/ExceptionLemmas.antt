@@ -13,7 +13,7 @@ use Rattle.policy_core.specs.declared.valid.policy.ValidConfig.{ValidConfig}
 use Rattle.policy_core.specs.declared.valid.policy.ValidException.{ValidException}
 use Rattle.policy_core.specs.Exceptions.{HasMoreExceptions, valid_exceptions_in, exceptions_kept, exceptions_findings, file_version_findings, shape_diagnostic, syntax_finding, version_findings_in}
 use Rattle.policy_core.specs.ExceptionsText.{ExceptionsAnswer, HadMemory, ReadsBy, answer_exceptions, diagnostics_of}
-use Rattle.policy_core.specs.Heard.{LoadState, TakesExceptions, exceptions_read_of, findings_heard, heard_file_of, value_or_fault}
+use Rattle.policy_core.specs.Heard.{TakesExceptions, exceptions_read_of, findings_heard, heard_file_of, value_or_fault}
 use Rattle.policy_core.specs.validate.Order.{AddsInOrder}
 use Rattle.policy_core.specs.declared.exceptions.ExceptionsHeard.{ExceptionsHeard}
 use Rattle.policy_core.specs.declared.exceptions.ExceptionsHeard.TheVariants.{Heard}

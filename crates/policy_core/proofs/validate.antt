@@ -1,7 +1,7 @@
-mod AddedLemmas
+pub mod AddedLemmas
 mod AddressLemmas
 mod Clarified
 mod Examples
-mod JudgedLemmas
+pub mod JudgedLemmas
 mod OrderLemmas
 mod SortLemmas

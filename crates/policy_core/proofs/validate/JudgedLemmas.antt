@@ -62,3 +62,12 @@ zipped_append R [] [] more others one other = other
 zipped_append R [] (y ∷ ys) more others one other = absurd one
 zipped_append R (x ∷ xs) [] more others one other = absurd one
 zipped_append R (x ∷ xs) (y ∷ ys) more others one other = (one.0, zipped_append R xs ys more others one.1 other)
+
+-- four lists of findings, one behind another
+joined : (first a b c d : List Diagnostic) → ((((first ++ a) ++ b) ++ c) ++ d) ≡ first ++ (((a ++ b) ++ c) ++ d)
+joined first a b c d = simp append_assoc refl
+
+pub all_told : (first a b c d one two three four : List Diagnostic) → one ≡ first ++ a → two ≡ one ++ b → three ≡ two ++ c → four ≡ three ++ d
+    → four ≡ first ++ (((a ++ b) ++ c) ++ d)
+all_told first a b c d one two three four told more further last =
+    last ∙ ap (λ x. x ++ d) (further ∙ ap (λ x. x ++ c) (more ∙ ap (λ x. x ++ b) told)) ∙ joined first a b c d

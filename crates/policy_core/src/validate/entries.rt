@@ -82,7 +82,7 @@ fn exception_in(
 
 /// Puts the exceptions of a file behind the others, as they are there, the files that each names in order.
 /// Where memory is wanted those so far stay, in front of what was added.
-#[tactic(auto, using(crate::proofs::validate::AddedLemmas::adds_none, crate::proofs::validate::AddedLemmas::adds_more, crate::proofs::validate::AddedLemmas::added_behind))]
+#[tactic(auto, using(crate::proofs::validate::AddedLemmas::adds_none, crate::proofs::validate::AddedLemmas::added_behind))]
 pub fn add_exceptions(
     alloc: Global,
     file: FileId,

@@ -1,5 +1,8 @@
 -- Each key is read as if it were the first, and so are the faults at the end.
-use Rattle.std.proofs.Common.{◌≡◌, Bool, true, false, List, [], ◌∷◌, Option, refl, ap, subst, ◌∙◌}
+use Rattle.std.proofs.Common.{◌≡◌, Bool, true, false, List, [], ◌∷◌, Option, refl, ap, subst, ◌∙◌, rules}
+use Rattle.std.proofs.lemmas.Int.{to_z-of_z}
+use mir.Syntax.{w32}
+use mir.Val.{SFits}
 use Rattle.std.specs.Prelude.{ℤ, pos, codes, unwrap_or}
 use Rattle.deny_text.specs.declared.span.Span.{Span}
 use Rattle.toml_subset.specs.Data.{Entries}
@@ -106,7 +109,8 @@ returns g c =
     ∙ ap (λ x. places_there (key_span (codes "unlicensed") state.left ∷ key_span (codes "allow-osi-fsf-free") state.left ∷ key_span (codes "copyleft") state.left ∷ x ∷ c.take_removed-deny.result ∷ [])) f6
     ∙ ap (λ x. places_there (key_span (codes "unlicensed") state.left ∷ key_span (codes "allow-osi-fsf-free") state.left ∷ key_span (codes "copyleft") state.left ∷ key_span (codes "default") state.left ∷ x ∷ [])) f8
     in
-    let value = same (value_is (pos 1) c.unwrap_or.ensures f1) (value_is no_private c.or_no_private.ensures f2) (value_is usual_threshold c.unwrap_or-2.ensures f7)
+    let fits : SFits w32 c.unwrap_or.result = search rules in
+    let value = same (to_z-of_z w32 c.unwrap_or.result fits ∙ value_is (pos 1) c.unwrap_or.ensures f1) (value_is no_private c.or_no_private.ensures f2) (value_is usual_threshold c.unwrap_or-2.ensures f7)
     (value_is [] c.or_empty.ensures f9) (value_is Warn c.unwrap_or-3.ensures f10) (value_is [] c.or_empty-2.ensures f11) (value_is [] c.or_empty-3.ensures f12)
     (value_is Warn c.unwrap_or-4.ensures f13) (value_is false c.unwrap_or-5.ensures f14) (value_is true c.unwrap_or-6.ensures f15) spans in
     subst (λ r. AnswersShape r c.finish.result) (finished [] (config_rows lists) state.left state.span (state_of c.optional-10.new.self) _ refl k15
