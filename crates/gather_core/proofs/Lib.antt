@@ -1,7 +1,6 @@
 pub mod CallLemmas
 pub mod CountedLemmas
 pub mod CrateTurns
-mod Examples
 pub mod ExceptionLemmas
 pub mod GatheredLemmas
 pub mod PickLemmas

@@ -10,34 +10,6 @@ use Rattle.gather_core.specs.Exceptions.{named_by_each, named_for}
 use Rattle.gather_core.proofs.ExceptionLemmas.{counted_each, counted_first, named_each, named_none}
 use Rattle.gather_core.proofs.exceptions.ExceptionIndex.counted.Goals as goal
 
-pub returns-then-each_counts-clause-places : goal.returns-then-each_counts-clause-places
-returns-then-each_counts-clause-places g c =
-    let all = c.args.self.now in
-    let krate = record_of c.args.krate.now in
-    let on : all.each_counts ≡ true = search rules in
-    IfOk-weaker c.each.result _ _ (λ counted is known_reads agrees. is known_reads agrees ∙ sym (counted_each all krate known_reads on)) c.each.ensures.places
-
-pub returns-then-each_counts-clause-paths : goal.returns-then-each_counts-clause-paths
-returns-then-each_counts-clause-paths g c =
-    let all = c.args.self.now in
-    let krate = record_of c.args.krate.now in
-    let on : all.each_counts ≡ true = search rules in
-    IfOk-weaker c.each.result _ _
-    (λ counted is known_reads agrees. is known_reads agrees ∙ ap (fold with_path (paths_read c.args.pack.reads)) (sym (named_each all krate known_reads on))) c.each.ensures.paths
-
-pub returns-then-each_counts-clause-no_memory : goal.returns-then-each_counts-clause-no_memory
-returns-then-each_counts-clause-no_memory g c =
-    let all = c.args.self.now in
-    let krate = record_of c.args.krate.now in
-    let on : all.each_counts ≡ true = search rules in
-    let start = paths_read c.args.pack.reads in
-    on_err_weaker c.each.result
-    (λ starves. starves_as c.args.pack (λ known_reads. fold with_path start (named_by_each all.entries krate known_reads)) (λ known_reads. fold with_path start (named_for all krate known_reads)) starves
-    (λ known_reads.
-    subst (IsFront (fold with_path start (named_by_each all.entries krate known_reads))) (ap (fold with_path start) (sym (named_each all krate known_reads on)))
-    (front_itself (fold with_path start (named_by_each all.entries krate known_reads)))))
-    c.each.ensures.no_memory
-
 pub returns-clause-places : goal.returns-clause-places
 returns-clause-places g c = λ known_reads agrees.
     let all = c.args.self.now in
