@@ -163,7 +163,9 @@ impl Checker {
         ensures bound { let counted = license.now.exceptions in
             steps.new ≤ steps.old + entries_of_terms (policy_of policy.now) counted expr.now.terms }
     {
-        let accepted = self.evaluator.evaluate(expr, &license.exceptions, policy, steps);
+        let accepted = self
+            .evaluator
+            .evaluate(expr, &license.exceptions, policy, steps);
         self.encountered.mark_all(self.evaluator.hits());
         let verdict = self.evaluator.certificate(alloc, expr)?;
         let hits = self.evaluator.hits();

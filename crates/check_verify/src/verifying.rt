@@ -118,15 +118,7 @@ pub fn verify<L: Ledger>(
     }
     let index = EntryIndex::of(alloc, policy)?;
     let flags = flags.as_slice();
-    match first_reason(
-        alloc,
-        policy,
-        &index,
-        licenses,
-        flags,
-        items,
-        steps,
-    )? {
+    match first_reason(alloc, policy, &index, licenses, flags, items, steps)? {
         Some(reason) => Ok(VerifyAnswer::No(reason)),
         None => Ok(VerifyAnswer::Yes),
     }
