@@ -1,6 +1,7 @@
 pub mod CallLemmas
 pub mod CountedLemmas
 pub mod CrateTurns
+mod Examples
 pub mod ExceptionLemmas
 pub mod GatheredLemmas
 pub mod PickLemmas

@@ -67,10 +67,7 @@ impl<'p> Model for ClarificationIndex<'p> {
 }
 
 /// Files that a policy names, as a crate's pack takes them.
-pub(crate) fn file_refs(
-    alloc: Global,
-    files: &[FileSource],
-) -> Result<Vec<FileRef<'_>>, AllocError>
+pub(crate) fn file_refs(alloc: Global, files: &[FileSource]) -> Result<Vec<FileRef<'_>>, AllocError>
     ensures { IfOk result (λ refs. refs.items ≡ map placed_of files.now) }
 {
     let mut refs = Vec::new(alloc);

@@ -104,7 +104,16 @@ fn license_of<'k, T: Tree, I: Identifier, C: Catalog>(
     let matching = rules.matching(alloc, krate)?;
     let field = read_krate(alloc, krate, scan.catalog)?;
     let exceptions = rules.exceptions();
-    let taken = take(alloc, tree, files, scan, krate, &matching, exceptions, field.expression)?;
+    let taken = take(
+        alloc,
+        tree,
+        files,
+        scan,
+        krate,
+        &matching,
+        exceptions,
+        field.expression,
+    )?;
     tell(alloc, files, policy, krate, &field.faults, taken)
 }
 

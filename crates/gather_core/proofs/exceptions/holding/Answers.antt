@@ -1,11 +1,10 @@
-use Rattle.std.proofs.Common.{get_or, ◌≡◌, ◌∙◌, ◌+◌, ◌++◌, ◌∷◌, [], cond, ℕ, List, refl, sym, ap, ap₂, subst, Bool}
+use Rattle.std.proofs.Common.{take_all, get_or, ◌∙◌, ◌+◌, ◌++◌, ◌∷◌, [], cond, ℕ, List, refl, sym, ap, ap₂, subst, Bool}
 use Rattle.std.specs.List.{fold}
 use Rattle.gather_license.specs.files.Calls.{IsFront}
-use Rattle.gather_license.specs.files.KnownReads.{holds}
 use Rattle.gather_license.specs.files.Steps.{with_path}
 use Rattle.gather_license.specs.files.View.{paths_read}
 use Rattle.gather_license.proofs.files.CallLemmas.{agrees_before, goes_itself, goes_then, on_err, starves_behind}
-use Rattle.gather_core.specs.Exceptions.{files_at, looked_at}
+use Rattle.gather_core.specs.Exceptions.{holding_at, looked_at}
 use Rattle.gather_core.proofs.ExceptionLemmas.{front_places, holding_more, looked_next, starves_holding}
 use Rattle.gather_core.proofs.exceptions.holding.Goals as goal
 
@@ -64,3 +63,12 @@ returns-in_err-push_where-clause-no_memory g c =
     (sym (c.in_ok-tried.ensures.paths known_reads agrees
     ∙ looked_next c.args.pack c.places.pack entries places i c.places-test.true so_far.looked known_reads before))
     (front_places known_reads entries places start (i + 1))))
+
+pub returns-clause-places : goal.returns-clause-places
+returns-clause-places g c = λ known_reads agrees.
+    c.places.invariant.held known_reads agrees ∙ ap (holding_at known_reads c.args.entries.now) (take_all c.places.place-index c.args.places.now c.places-test.false)
+
+pub returns-clause-paths : goal.returns-clause-paths
+returns-clause-paths g c = λ known_reads agrees.
+    c.places.invariant.looked known_reads agrees
+    ∙ ap (λ (those : List ℕ). fold with_path (paths_read c.args.pack.reads) (looked_at known_reads c.args.entries.now those)) (take_all c.places.place-index c.args.places.now c.places-test.false)

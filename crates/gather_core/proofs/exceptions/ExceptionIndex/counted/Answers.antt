@@ -1,5 +1,5 @@
-use Rattle.std.proofs.Common.{◌≡◌, ◌∙◌, true, false, [], sym, ap, subst, rules}
-use Rattle.std.proofs.lemmas.Result.{IfOk-weaker, on_err_weaker}
+use Rattle.std.proofs.Common.{◌≡◌, ◌∙◌, true, false, sym, ap, subst, rules}
+use Rattle.std.proofs.lemmas.Result.{on_err_weaker}
 use Rattle.std.specs.List.{fold}
 use Rattle.graph_core.specs.Krate.{record_of}
 use Rattle.gather_license.specs.files.Calls.{IsFront}
@@ -7,8 +7,21 @@ use Rattle.gather_license.specs.files.Steps.{with_path}
 use Rattle.gather_license.specs.files.View.{paths_read}
 use Rattle.gather_license.proofs.files.CallLemmas.{front_itself, front_looks, goes_itself, on_err, starves_as, starves_behind}
 use Rattle.gather_core.specs.Exceptions.{named_by_each, named_for}
-use Rattle.gather_core.proofs.ExceptionLemmas.{counted_each, counted_first, named_each, named_none}
+use Rattle.gather_core.proofs.ExceptionLemmas.{counted_first, named_each, named_none}
 use Rattle.gather_core.proofs.exceptions.ExceptionIndex.counted.Goals as goal
+
+pub returns-then-self-clause-no_memory : goal.returns-then-self-clause-no_memory
+returns-then-self-clause-no_memory g c =
+    let all = c.args.self.now in
+    let krate = record_of c.args.krate.now in
+    let on : all.each_counts ≡ true = search rules in
+    let start = paths_read c.args.pack.reads in
+    on_err_weaker c.each.result
+    (λ starves. starves_as c.args.pack (λ known_reads. fold with_path start (named_by_each all.entries krate known_reads)) (λ known_reads. fold with_path start (named_for all krate known_reads)) starves
+    (λ known_reads.
+    subst (IsFront (fold with_path start (named_by_each all.entries krate known_reads))) (ap (fold with_path start) (sym (named_each all krate known_reads on)))
+    (front_itself (fold with_path start (named_by_each all.entries krate known_reads)))))
+    c.each.ensures.no_memory
 
 pub returns-clause-places : goal.returns-clause-places
 returns-clause-places g c = λ known_reads agrees.
