@@ -5,7 +5,7 @@ ghost use Rattle.diag_print.specs.Human.{flat_text};
 use std::alloc::AllocError;
 
 /// Appends a text with a space in place of each line feed.
-pub(crate) fn push_flat(out: &mut String, text: &str) -> Result<(), AllocError>
+pub fn push_flat(out: &mut String, text: &str) -> Result<(), AllocError>
     ensures { OnOk result (string_bytes out.new ≡ string_bytes out.old ++ flat_text text.now) }
 {
     let mut rest = text;
