@@ -1,4 +1,4 @@
-use Rattle.std.proofs.Common.{ap, ◌∙◌}
+use Rattle.std.proofs.Common.{ap}
 use Rattle.diag_print.specs.JsonTokens.{data_tokens}
 use Rattle.diag_print.proofs.JsonLemmas.{then, one, last, same}
 use Rattle.run_list_text.specs.Listing.{texts_data}
@@ -9,5 +9,5 @@ returns c =
     let result = c.end_array.result in
     then result _ _ _ _ _ (one _ _ _ _ c.in_ok-begin_array.ensures)
     (then result _ _ _ _ _ (one _ _ _ _ c.in_ok-string.ensures)
-    (then result _ _ _ _ _ (same _ _ _ _ (ap (λ texts. data_tokens (texts_data texts)) (c.items.ensures ∙ c.in_ok-names.ensures)) c.in_ok-write_texts.ensures)
+    (then result _ _ _ _ _ (same _ _ _ _ (ap (λ texts. data_tokens (texts_data texts)) c.items.ensures) c.in_ok-write_texts.ensures)
     (last result _ _ _ c.end_array.ensures)))
