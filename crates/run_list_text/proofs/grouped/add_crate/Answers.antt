@@ -7,6 +7,6 @@ pub licenses-preserved : goal.licenses-preserved
 licenses-preserved c =
     let listed = c.args.listed.now in
     c.in_ok-add_name.ensures
-    ∙ ap (λ name. with_name name c.licenses.names c.as_str-2.result.now) (c.in_ok-name.ensures ∙ c.as_str.ensures)
-    ∙ ap₂ (with_name listed.name) c.licenses.invariant c.as_str-2.ensures
+    ∙ ap (λ name. with_name name c.licenses.names c.as_str-in-licenses.result.now) (c.in_ok-name.ensures ∙ c.as_str.ensures)
+    ∙ ap₂ (with_name listed.name) c.licenses.invariant c.as_str-in-licenses.ensures
     ∙ sym (fold_more _ c.licenses.license-index c.license-item.result c.licenses-test.true c.license-item.is (with_name listed.name) _)
