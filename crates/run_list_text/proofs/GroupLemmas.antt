@@ -5,8 +5,10 @@ use Rattle.std.specs.Option.{is_some, unwrap_or}
 use Rattle.std.specs.Cmp.{tied_itself}
 use Rattle.std.specs.Cmp.Lexicographic.{slice_cmp, nat_list_cmp_total}
 use Rattle.std.specs.BTreeSet.{insert_key}
-use Rattle.std.specs.FinMap.{empty, empty_of_len, entries, entries_sorted, entries-from_sorted, entries-insert, find, from_sorted, get, get-empty, get-entries, get-insert, insert, is_sorted, len-entries, put}
-use Rattle.std.specs.FinMap.Entries.{by_order, below_all}
+use Rattle.std.specs.BTreeMap.{insert_entry, is_at}
+use Rattle.std.specs.FinMap.{find, is_sorted, put}
+use Rattle.std.specs.FinMap.Entries.{by_order, below_all, find-put, is_sorted-put}
+use Rattle.std.specs.Map.{lookup, set_value}
 use Rattle.std.specs.List.{AllByRecursion, filter, flat_map, fold}
 use Rattle.std.specs.List.Sorted.{IsStrictlySortedBy}
 use Rattle.std.specs.Str.{bytes_eq}
@@ -15,23 +17,25 @@ use Rattle.std.proofs.lemmas.List.Concat.{flat_map-append}
 use Rattle.std.proofs.lemmas.List.Elements.{recursion_from_All}
 use Rattle.std.proofs.lemmas.List.Sums.{fold-append}
 use Rattle.serde_json.specs.Data.{Data}
-use Rattle.deny_text.specs.TextMap.{with_value}
 use Rattle.graph_core.specs.Krate.{has_text}
 use Rattle.graph_core.specs.Metadata.{AreRising}
 use Rattle.run_list_text.specs.declared.grouped.LicenseNames.{LicenseNames}
 use Rattle.run_list_text.specs.declared.listed.ListedCrate.{ListedCrate}
-use Rattle.run_list_text.specs.Grouped.{NameMap, entry_data, entry_line, entry_of, gathered_names, names_at, names_by_license, with_crate, with_name}
+use Rattle.run_list_text.specs.Grouped.{entry_data, entry_line, entry_of, gathered_names, names_at, names_by_license, with_crate, with_name}
 use Rattle.run_list_text.specs.Listed.{all_licenses, distinct_texts, is_under, names_under}
 use Rattle.run_list_text.specs.Listing.{license_data, license_line}
 use Rattle.run_list_text.proofs.ListLemmas.{names_split}
 use Rattle.run_list_text.proofs.MarkLemmas.{by_test, in_back, itself, left_too, neither, not_less, other_text, right_too, same_text}
+
+abbrev Entries : Type 0
+Entries = List (List ℕ × List (List ℕ))
 
 abbrev key_of : List ℕ × List (List ℕ) → List ℕ
 key_of entry = entry.0
 
 -- ---- entries in order
 
-put_keys : (k : List ℕ) (v : List (List ℕ)) (es : List (List ℕ × List (List ℕ))) → map key_of (put (slice_cmp nat_cmp) k v es) ≡ insert_key (slice_cmp nat_cmp) (map key_of es) k
+put_keys : (k : List ℕ) (v : List (List ℕ)) (es : Entries) → map key_of (put (slice_cmp nat_cmp) k v es) ≡ insert_key (slice_cmp nat_cmp) (map key_of es) k
 put_keys k v [] = refl
 put_keys k v (e ∷ es) =
     elim (slice_cmp nat_cmp k e.0) as (λ r. map key_of (by_order r ((k, v) ∷ e ∷ es) ((e.0, v) ∷ es) (e ∷ put (slice_cmp nat_cmp) k v es)) ≡ match_ordering r (k ∷ e.0 ∷ map key_of es) (e.0 ∷ map key_of es) (e.0 ∷ insert_key (slice_cmp nat_cmp) (map key_of es) k)) [
@@ -41,7 +45,7 @@ put_keys k v (e ∷ es) =
     ]
 
 -- what a look-up among entries finds
-abbrev found : List (List ℕ × List (List ℕ)) → List ℕ → List (List ℕ)
+abbrev found : Entries → List ℕ → List (List ℕ)
 found es k = unwrap_or (find (slice_cmp nat_cmp) k es) []
 
 first_holds : (a b : Bool) → T (a && b) → T a
@@ -68,7 +72,7 @@ not_tied x y less =
     (λ tied. not_less x y (sym (exact_bytes y x (is_equal _ tied))) less)
     (λ differs. differs)
 
-still_found : (e : List ℕ × List (List ℕ)) (es rest : List (List ℕ × List (List ℕ))) → T (below_all (slice_cmp nat_cmp) e.0 rest)
+still_found : (e : List ℕ × List (List ℕ)) (es rest : Entries) → T (below_all (slice_cmp nat_cmp) e.0 rest)
     → AllByRecursion (λ x. found es x.0 ≡ x.1) rest → AllByRecursion (λ x. found (e ∷ es) x.0 ≡ x.1) rest
 still_found e es [] below are = tt
 still_found e es (x ∷ rest) below are = (
@@ -76,14 +80,14 @@ still_found e es (x ∷ rest) below are = (
   still_found e es rest (second_holds _ _ below) are.1,
 )
 
-each_found : (es : List (List ℕ × List (List ℕ))) → T (is_sorted (slice_cmp nat_cmp) es) → AllByRecursion (λ x. found es x.0 ≡ x.1) es
+each_found : (es : Entries) → T (is_sorted (slice_cmp nat_cmp) es) → AllByRecursion (λ x. found es x.0 ≡ x.1) es
 each_found [] sorted = tt
 each_found (e ∷ es) sorted = (
   ap (λ r. unwrap_or (cond (is_eq r) (Some e.1) (find (slice_cmp nat_cmp) e.0 es)) []) (tied_itself nat_list_cmp_total e.0),
   still_found e es es (first_holds _ _ sorted) (each_found es (second_holds _ _ sorted)),
 )
 
-by_look : (look : List ℕ → List (List ℕ)) (es : List (List ℕ × List (List ℕ))) → AllByRecursion (λ x. look x.0 ≡ x.1) es → es ≡ map (λ k. (k, look k)) (map key_of es)
+by_look : (look : List ℕ → List (List ℕ)) (es : Entries) → AllByRecursion (λ x. look x.0 ≡ x.1) es → es ≡ map (λ k. (k, look k)) (map key_of es)
 by_look look [] are = refl
 by_look look (e ∷ es) are = ap₂ (λ v rest. (e.0, v) ∷ rest) (sym are.0) (by_look look es are.1)
 
@@ -93,8 +97,9 @@ abbrev when : Bool → List ℕ → List (List ℕ)
 when holds name = cond holds (name ∷ []) []
 
 -- the licences so far are the keys of a map, and these are the names at each
-record Holds (names : NameMap) (licenses : List (List ℕ)) (at : List ℕ → List (List ℕ)) : Type 0 where
-  keys : map key_of (entries names) ≡ distinct_texts licenses
+record Holds (names : Entries) (licenses : List (List ℕ)) (at : List ℕ → List (List ℕ)) : Type 0 where
+  sorted : T (is_sorted (slice_cmp nat_cmp) names)
+  keys : map key_of names ≡ distinct_texts licenses
   each : (q : List ℕ) → names_at names q ≡ at q
 
 has_other : (done : List (List ℕ)) (k q : List ℕ) → bytes_eq k q ≡ false → has_text (done ++ k ∷ []) q ≡ has_text done q
@@ -110,7 +115,7 @@ differ q k untied =
     cc)
     (λ differs. differs)
 
-module _ (names : NameMap) (licenses done : List (List ℕ)) (old : List ℕ → List (List ℕ)) (name k : List ℕ) (new : has_text done k ≡ false) (holds : Holds names licenses (λ q. old q ++ when (has_text done q) name)) where
+module _ (names : Entries) (licenses done : List (List ℕ)) (old : List ℕ → List (List ℕ)) (name k : List ℕ) (new : has_text done k ≡ false) (holds : Holds names licenses (λ q. old q ++ when (has_text done q) name)) where
   abbrev value : List (List ℕ)
   value = names_at names k ++ name ∷ []
 
@@ -118,7 +123,7 @@ module _ (names : NameMap) (licenses done : List (List ℕ)) (old : List ℕ →
   value_is =
       ap (λ texts. texts ++ name ∷ []) (holds.each k ∙ ap (λ b. old k ++ when b name) new ∙ append-nil (old k))
 
-  at_it : (q : List ℕ) (b : Bool) → is_eq (slice_cmp nat_cmp q k) ≡ b → unwrap_or (cond b (Some value) (get names q)) [] ≡ old q ++ when (has_text (done ++ k ∷ []) q) name
+  at_it : (q : List ℕ) (b : Bool) → is_eq (slice_cmp nat_cmp q k) ≡ b → unwrap_or (cond b (Some value) (find (slice_cmp nat_cmp) q names)) [] ≡ old q ++ when (has_text (done ++ k ∷ []) q) name
   at_it q true tied =
       let is : q ≡ k = exact_bytes q k (is_equal _ tied) in
       value_is
@@ -128,12 +133,12 @@ module _ (names : NameMap) (licenses done : List (List ℕ)) (old : List ℕ →
 
   one_name : Holds (with_name name names k) (licenses ++ k ∷ []) (λ q. old q ++ when (has_text (done ++ k ∷ []) q) name)
   one_name = record {
+    sorted = is_sorted-put (slice_cmp nat_cmp) nat_list_cmp_total k value names holds.sorted;
     keys =
-        ap (map key_of) (entries-insert nat_list_cmp_total names k value)
-        ∙ put_keys k value (entries names)
+        put_keys k value names
         ∙ ap (λ texts. insert_key (slice_cmp nat_cmp) texts k) holds.keys
         ∙ sym (fold-append (insert_key (slice_cmp nat_cmp)) [] licenses (k ∷ []));
-    each = λ q. ap (λ o. unwrap_or o []) (get-insert nat_list_cmp_total names k value q) ∙ at_it q (is_eq (slice_cmp nat_cmp q k)) refl;
+    each = λ q. ap (λ o. unwrap_or o []) (find-put (slice_cmp nat_cmp) nat_list_cmp_total q k value names) ∙ at_it q (is_eq (slice_cmp nat_cmp q k)) refl;
   }
 
 among : (P : List ℕ → Type 0) (done : List (List ℕ)) (k : List ℕ) (rest : List (List ℕ)) → AllByRecursion P (done ++ k ∷ rest) → P k
@@ -145,7 +150,7 @@ unfolding IsStrictlySortedBy
 not_yet [] k rest rising = refl
 not_yet (x ∷ done) k rest rising = neither _ _ (other_text x k (among (λ y. slice_cmp nat_cmp x y ≡ Less) done k rest rising.0)) (not_yet done k rest rising.1)
 
-each_license : (name : List ℕ) (old : List ℕ → List (List ℕ)) (start rest done : List (List ℕ)) (names : NameMap) → AreRising (done ++ rest)
+each_license : (name : List ℕ) (old : List ℕ → List (List ℕ)) (start rest done : List (List ℕ)) (names : Entries) → AreRising (done ++ rest)
     → Holds names (start ++ done) (λ q. old q ++ when (has_text done q) name)
     → Holds (fold (with_name name) names rest) (start ++ (done ++ rest)) (λ q. old q ++ when (has_text (done ++ rest) q) name)
 each_license name old start [] done names rising holds =
@@ -164,52 +169,86 @@ name_when : (listed : ListedCrate) (b : Bool) → when b listed.name ≡ map (λ
 name_when listed true = refl
 name_when listed false = refl
 
-one_crate : (before : List ListedCrate) (listed : ListedCrate) (names : NameMap) → AreRising listed.licenses → Holds names (licenses_in before) (λ q. names_under (Some q) before)
+one_crate : (before : List ListedCrate) (listed : ListedCrate) (names : Entries) → AreRising listed.licenses → Holds names (licenses_in before) (λ q. names_under (Some q) before)
     → Holds (with_crate names listed) (licenses_in (before ++ listed ∷ [])) (λ q. names_under (Some q) (before ++ listed ∷ []))
 one_crate before listed names rising holds =
     let more = each_license listed.name (λ q. names_under (Some q) before) (licenses_in before) listed.licenses [] names rising
-    (record { keys = holds.keys ∙ ap distinct_texts (sym (append-nil (licenses_in before))); each = λ q. holds.each q ∙ sym (append-nil (names_under (Some q) before)) }) in
+    (record { sorted = holds.sorted; keys = holds.keys ∙ ap distinct_texts (sym (append-nil (licenses_in before))); each = λ q. holds.each q ∙ sym (append-nil (names_under (Some q) before)) }) in
     record {
+      sorted = more.sorted;
       keys = more.keys ∙ ap distinct_texts (sym (flat_map-append (λ krate. krate.licenses) before (listed ∷ []) ∙ ap (λ texts. licenses_in before ++ texts) (append-nil listed.licenses)));
       each = λ q. more.each q ∙ ap (λ texts. names_under (Some q) before ++ texts) (name_when listed (has_text listed.licenses q)) ∙ sym (names_split (Some q) before (listed ∷ []));
     }
 
-each_crate : (crates before : List ListedCrate) (names : NameMap) → AllByRecursion (λ listed. AreRising listed.licenses) crates → Holds names (licenses_in before) (λ q. names_under (Some q) before)
+each_crate : (crates before : List ListedCrate) (names : Entries) → AllByRecursion (λ listed. AreRising listed.licenses) crates → Holds names (licenses_in before) (λ q. names_under (Some q) before)
     → Holds (fold with_crate names crates) (licenses_in (before ++ crates)) (λ q. names_under (Some q) (before ++ crates))
 each_crate [] before names rising holds = subst (λ crates. Holds names (licenses_in crates) (λ q. names_under (Some q) crates)) (sym (append-nil before)) holds
 each_crate (listed ∷ crates) before names rising holds =
     subst (λ all. Holds (fold with_crate (with_crate names listed) crates) (licenses_in all) (λ q. names_under (Some q) all)) (append_assoc before (listed ∷ []) crates)
     (each_crate crates (before ++ listed ∷ []) (with_crate names listed) rising.1 (one_crate before listed names rising.0 holds))
 
-none_held : entries (empty {X = List (List ℕ)} {R = slice_cmp nat_cmp}) ≡ []
-none_held =
-    sym (ap entries (empty_of_len (from_sorted {R = slice_cmp nat_cmp} []) (len-entries _ ∙ ap length (entries-from_sorted (slice_cmp nat_cmp) [] tt))))
-    ∙ entries-from_sorted (slice_cmp nat_cmp) [] tt
-
-holds_none : Holds empty [] (λ q. [])
-holds_none = record { keys = ap (map key_of) none_held; each = λ q. ap (λ o. unwrap_or o []) (get-empty (slice_cmp nat_cmp) q) }
-
--- the map that is gathered has all licences in order, each with the names of its crates
-pub gathered : (crates : List ListedCrate) → All (λ listed. AreRising listed.licenses) crates → entries (gathered_names crates) ≡ names_by_license crates
+-- the entries that are gathered have all licences in order, each with the names of its crates
+pub gathered : (crates : List ListedCrate) → All (λ listed. AreRising listed.licenses) crates → gathered_names crates ≡ names_by_license crates
 gathered crates rising =
     let names = gathered_names crates in
-    let holds = each_crate crates [] empty (recursion_from_All (λ listed. AreRising listed.licenses) crates rising) holds_none in
-    by_look (found (entries names)) (entries names) (each_found (entries names) (entries_sorted names))
-    ∙ ap (map (λ k. (k, found (entries names) k))) holds.keys
-    ∙ (λ i. map (λ k. (k, (ap (λ o. unwrap_or o []) (sym (get-entries names k)) ∙ holds.each k) i)) (all_licenses crates))
+    let holds = each_crate crates [] [] (recursion_from_All (λ listed. AreRising listed.licenses) crates rising) (record { sorted = tt; keys = refl; each = λ q. refl }) in
+    by_look (found names) names (each_found names holds.sorted)
+    ∙ ap (map (λ k. (k, found names k))) holds.keys
+    ∙ (λ i. map (λ k. (k, holds.each k i)) (all_licenses crates))
+
+-- ---- the map's own words
+
+put_is : (k : List ℕ) (v : List (List ℕ)) (es : Entries) → insert_entry (slice_cmp nat_cmp) es k v ≡ put (slice_cmp nat_cmp) k v es
+put_is k v [] = refl
+put_is k v (e ∷ es) =
+    elim (slice_cmp nat_cmp k e.0) as (λ r. match_ordering r ((k, v) ∷ e ∷ es) ((e.0, v) ∷ es) (e ∷ insert_entry (slice_cmp nat_cmp) es k v) ≡ by_order r ((k, v) ∷ e ∷ es) ((e.0, v) ∷ es) (e ∷ put (slice_cmp nat_cmp) k v es)) [
+      | Less ↦ refl
+      | Equal ↦ refl
+      | Greater ↦ ap (λ rest. e ∷ rest) (put_is k v es)
+    ]
+
+find_is : (k : List ℕ) (es : Entries) → lookup (is_at (slice_cmp nat_cmp k)) es ≡ find (slice_cmp nat_cmp) k es
+find_is k [] = refl
+find_is k (e ∷ es) = ap (cond (is_eq (slice_cmp nat_cmp k e.0)) (Some e.1)) (find_is k es)
+
+above_none : (k x : List ℕ) (es : Entries) → slice_cmp nat_cmp k x ≡ Less → AllByRecursion (λ y. slice_cmp nat_cmp x y ≡ Less) (map key_of es) → lookup (is_at (slice_cmp nat_cmp k)) es ≡ None
+above_none k x [] less below = refl
+above_none k x (e ∷ es) less below =
+    ap (λ r. cond (is_eq r) (Some e.1) (lookup (is_at (slice_cmp nat_cmp k)) es)) (nat_list_cmp_total.trans k x e.0 less below.0) ∙ above_none k x es less below.1
+
+no_Some : {G : Type 0} (old : List (List ℕ)) (o : Option (List (List ℕ))) → Some old ≡ o → o ≡ None → G
+no_Some old o there none =
+    let bad : true ≡ false = ap is_some (there ∙ none) in
+    cc
+
+set_is : (k : List ℕ) (old new : List (List ℕ)) (es : Entries) → IsStrictlySortedBy (slice_cmp nat_cmp) (map key_of es) → Some old ≡ lookup (is_at (slice_cmp nat_cmp k)) es
+    → set_value (is_at (slice_cmp nat_cmp k)) es new ≡ put (slice_cmp nat_cmp) k new es
+unfolding IsStrictlySortedBy
+set_is k old new [] sorted there = no_Some old None there refl
+set_is k old new (e ∷ es) sorted there =
+    elim (slice_cmp nat_cmp k e.0) as (λ r. slice_cmp nat_cmp k e.0 ≡ r → Some old ≡ cond (is_eq r) (Some e.1) (lookup (is_at (slice_cmp nat_cmp k)) es)
+    → cond (is_eq r) ((e.0, new) ∷ es) (e ∷ set_value (is_at (slice_cmp nat_cmp k)) es new) ≡ by_order r ((k, new) ∷ e ∷ es) ((e.0, new) ∷ es) (e ∷ put (slice_cmp nat_cmp) k new es)) [
+      | Less ↦ λ is held. no_Some old (lookup (is_at (slice_cmp nat_cmp k)) es) held (above_none k e.0 es is sorted.0)
+      | Equal ↦ λ is held. refl
+      | Greater ↦ λ is held. ap (λ rest. e ∷ rest) (set_is k old new es sorted.1 held)
+    ] refl there
 
 -- a name more at a licence that the map has
-pub name_added : (before after : NameMap) (license name : List ℕ) (old new : List (List ℕ)) → Some old ≡ get before license → after ≡ with_value before license new → new ≡ old ++ name ∷ []
-    → after ≡ with_name name before license
-name_added before after license name old new there writes is =
+pub name_added : (before after : Entries) (license name : List ℕ) (old new : List (List ℕ)) → IsStrictlySortedBy (slice_cmp nat_cmp) (map key_of before) → Some old ≡ lookup (is_at (slice_cmp nat_cmp license)) before
+    → after ≡ set_value (is_at (slice_cmp nat_cmp license)) before new → new ≡ old ++ name ∷ [] → after ≡ with_name name before license
+name_added before after license name old new sorted there writes is =
     writes
-    ∙ ap (λ (o : Option (List (List ℕ))). cond (is_some o) (insert before license new) before) (sym there)
-    ∙ ap (insert before license) (is ∙ ap (λ (o : Option (List (List ℕ))). unwrap_or o [] ++ name ∷ []) there)
+    ∙ set_is license old new before sorted there
+    ∙ ap (λ names. put (slice_cmp nat_cmp) license names before)
+    (is ∙ ap (λ (o : Option (List (List ℕ))). unwrap_or o [] ++ name ∷ []) (there ∙ find_is license before))
 
 -- the first name
-pub name_first : (before after : NameMap) (license name : List ℕ) (new : List (List ℕ)) → names_at before license ≡ [] → after ≡ insert before license new → new ≡ name ∷ [] → after ≡ with_name name before license
+pub name_first : (before after : Entries) (license name : List ℕ) (new : List (List ℕ)) → unwrap_or (lookup (is_at (slice_cmp nat_cmp license)) before) [] ≡ [] → after ≡ insert_entry (slice_cmp nat_cmp) before license new → new ≡ name ∷ []
+    → after ≡ with_name name before license
 name_first before after license name new none inserts is =
-    inserts ∙ ap (insert before license) (is ∙ ap (λ texts. texts ++ name ∷ []) (sym none))
+    inserts
+    ∙ put_is license new before
+    ∙ ap (λ names. put (slice_cmp nat_cmp) license names before) (is ∙ ap (λ texts. texts ++ name ∷ []) (sym none ∙ ap (λ (o : Option (List (List ℕ))). unwrap_or o []) (find_is license before)))
 
 -- ---- what is written of it
 

@@ -70,18 +70,13 @@ impl Lines<ListedCrate> for CrateLines {
 #[derive(Clone, Copy)]
 pub(crate) struct LicenseLines;
 
-impl<'m> Lines<LicenseNames<'m>> for LicenseLines {
+impl Lines<LicenseNames> for LicenseLines {
     ghost line = { λ _ group. entry_line (entry_of group) };
 
     ghost fits = { λ _ _. ⊤ };
 
-    fn push(
-        &self,
-        out: &mut Vec<u8>,
-        alloc: Global,
-        item: &LicenseNames<'m>,
-    ) -> Result<(), AllocError> {
-        push_group(out, alloc, item.license, item.names.items())
+    fn push(&self, out: &mut Vec<u8>, alloc: Global, item: &LicenseNames) -> Result<(), AllocError> {
+        push_group(out, alloc, item.license.as_str(), item.names.items())
     }
 }
 

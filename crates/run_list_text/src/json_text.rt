@@ -9,7 +9,7 @@ ghost use Rattle.run_list_text.specs.Grouped.{entry_data, entry_of};
 ghost use Rattle.run_list_text.specs.Listing.{crate_data, data_by_crate, data_by_license, data_of, json_text};
 ghost use Rattle.run_list_text.specs.Listing.{texts_data};
 
-use crate::grouped::{LicenseNames, groups_of, names_by_license};
+use crate::grouped::{LicenseNames, names_by_license};
 use crate::listed::{ListedCrate, names_without};
 use deny_text::Text;
 use json::Writer;
@@ -51,17 +51,17 @@ fn write_by_crate(out: &mut Writer, crates: &[ListedCrate]) -> Result<(), AllocE
 }
 
 /// A licence and the crates that have it.
-fn write_license(out: &mut Writer, group: &LicenseNames<'_>) -> Result<(), AllocError>
+fn write_license(out: &mut Writer, group: &LicenseNames) -> Result<(), AllocError>
     ensures { OnOk result (Adds out.old out.new (data_tokens (entry_data (entry_of group.now)))) }
 {
     out.begin_array()?;
-    out.string(group.license)?;
+    out.string(group.license.as_str())?;
     write_texts(out, group.names.items())?;
     out.end_array()
 }
 
 /// Licences and the crates that have them.
-fn write_licenses(out: &mut Writer, groups: &[LicenseNames<'_>]) -> Result<(), AllocError>
+fn write_licenses(out: &mut Writer, groups: &[LicenseNames]) -> Result<(), AllocError>
     ensures { let licenses = items_of (map (λ group. entry_data (entry_of group)) groups.now) in
         OnOk result (Adds out.old out.new (data_tokens (array licenses))) }
 {
@@ -81,12 +81,11 @@ fn write_by_license(
     requires { All (λ listed. AreRising listed.licenses) crates.now }
     ensures { OnOk result (Adds out.old out.new (data_tokens (data_by_license crates.now))) }
 {
-    let licenses = names_by_license(alloc, crates)?;
-    let groups = groups_of(alloc, &licenses)?;
+    let groups = names_by_license(alloc, crates)?;
     let names = names_without(alloc, crates)?;
     out.begin_object()?;
     out.key("licenses")?;
-    write_licenses(out, groups.as_slice())?;
+    write_licenses(out, groups.items())?;
     out.key("unlicensed")?;
     write_texts(out, names.items())?;
     out.end_object()

@@ -7,7 +7,7 @@ ghost use Rattle.run_list_text.specs.Listed.{listed_of};
 ghost use Rattle.run_list_text.specs.Listing.{data_of, human_by_crate, human_by_license, json_text, listing_of, table_of};
 ghost use Rattle.run_list_text.specs.Written.{HasReasonSince};
 
-use crate::grouped::{groups_of, names_by_license};
+use crate::grouped::names_by_license;
 use crate::human::{CrateLines, LicenseLines, unlicensed_line};
 use crate::json_text::json_text;
 use crate::lines::{ListError, write_lines, write_text};
@@ -53,15 +53,14 @@ fn write_licenses<S: Sink>(
     ensures reason { IfErr result (HasReasonSince begun (S.fault_count sink.new)) }
     ensures later { S.fault_count sink.old ≤ S.fault_count sink.new }
 {
-    let licenses = names_by_license(alloc, crates)?;
-    let groups = groups_of(alloc, &licenses)?;
+    let groups = names_by_license(alloc, crates)?;
     let last = unlicensed_line(alloc, crates)?;
     let mut pending = Vec::new(alloc);
     write_lines(
         alloc,
         &mut pending,
         &LicenseLines,
-        groups.as_slice(),
+        groups.items(),
         last.as_slice(),
         sink,
         begun,

@@ -4,4 +4,4 @@ use Rattle.run_list_text.specs.Grouped.{with_name}
 use Rattle.run_list_text.proofs.grouped.add_crate.Given as goal
 
 abbrev pub invariant-licenses : goal.invariant-licenses
-invariant-licenses l = l.names ≡ fold (with_name l.listed.name) l.initial.names (take l.license-index l.licenses)
+invariant-licenses l = l.map.entries ≡ fold (with_name l.listed.name) l.initial.map.entries (take l.license-index l.licenses)

@@ -1,5 +1,4 @@
-use Rattle.std.proofs.Common.{◌∙◌, ap, sym, take_all}
-use Rattle.std.specs.FinMap.{empty, entries}
+use Rattle.std.proofs.Common.{◌∙◌, [], ap, sym, take_all}
 use Rattle.run_list_text.specs.Grouped.{gathered_names, with_crate}
 use Rattle.run_list_text.proofs.GroupLemmas.{gathered}
 use Rattle.run_list_text.proofs.ListLemmas.{fold_more}
@@ -9,9 +8,11 @@ pub crates-preserved : goal.crates-preserved
 crates-preserved c =
     c.in_ok-add_crate.ensures
     ∙ ap (λ names. with_crate names c.listed-item.result) c.crates.invariant
-    ∙ sym (fold_more c.args.crates.now c.crates.listed-index c.listed-item.result c.crates-test.true c.listed-item.is with_crate empty)
+    ∙ sym (fold_more c.args.crates.now c.crates.listed-index c.listed-item.result c.crates-test.true c.listed-item.is with_crate [])
 
 pub returns : goal.returns
 returns c =
-    ap entries (c.crates.invariant ∙ ap gathered_names (take_all c.crates.listed-index c.args.crates.now c.crates-test.false))
+    c.in_ok-groups.ensures
+    ∙ c.crates.invariant
+    ∙ ap gathered_names (take_all c.crates.listed-index c.args.crates.now c.crates-test.false)
     ∙ gathered c.args.crates.now c.requires

@@ -11,10 +11,10 @@ use Rattle.run_list_text.proofs.json_text.write_by_license.Goals as goal
 pub returns : goal.returns
 returns c =
     let result = c.end_object.result in
-    let licenses = data_are c.args.crates.now c.as_slice.result.now (ap (λ groups. map entry_of groups) c.as_slice.ensures.value ∙ c.in_ok-groups.ensures ∙ c.in_ok-licenses.ensures) in
+    let licenses = data_are c.args.crates.now c.items.result.now (ap (λ groups. map entry_of groups) c.items.ensures ∙ c.in_ok-groups.ensures) in
     then result _ _ _ _ _ (one _ _ _ _ c.in_ok-begin_object.ensures)
     (then result _ _ _ _ _ (one _ _ _ _ c.in_ok-key.ensures)
     (then result _ _ _ _ _ (same _ _ _ _ (ap (λ items. data_tokens (array (items_of items))) licenses) c.in_ok-write_licenses.ensures)
     (then result _ _ _ _ _ (one _ _ _ _ c.in_ok-key-2.ensures)
-    (then result _ _ _ _ _ (same _ _ _ _ (ap (λ texts. data_tokens (texts_data texts)) (c.items.ensures ∙ c.in_ok-names.ensures)) c.in_ok-write_texts.ensures)
+    (then result _ _ _ _ _ (same _ _ _ _ (ap (λ texts. data_tokens (texts_data texts)) (c.items-2.ensures ∙ c.in_ok-names.ensures)) c.in_ok-write_texts.ensures)
     (last result _ _ _ c.end_object.ensures)))))

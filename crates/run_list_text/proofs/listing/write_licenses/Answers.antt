@@ -10,8 +10,8 @@ returns-clause-ok g c =
     let crates = c.args.crates.now in
     on_ok_text c.write_lines.result _ _ _ (human_by_license crates)
     (three_parts _ _ _ _ _ c.new-pending.ensures.items
-    (lines_are crates _ (ap (λ groups. map entry_of groups) c.as_slice.ensures.value ∙ c.in_ok-groups.ensures ∙ c.in_ok-licenses.ensures))
-    (c.as_slice-2.ensures.value ∙ c.in_ok-last.ensures))
+    (lines_are crates _ (ap (λ groups. map entry_of groups) c.items.ensures ∙ c.in_ok-groups.ensures))
+    (c.as_slice.ensures.value ∙ c.in_ok-last.ensures))
     c.write_lines.ensures.ok
 
 pub returns-clause-err : goal.returns-clause-err
@@ -19,6 +19,6 @@ returns-clause-err g c =
     let crates = c.args.crates.now in
     on_err_text c.write_lines.result _ _ _ (human_by_license crates)
     (three_parts _ _ _ _ _ c.new-pending.ensures.items
-    (lines_are crates _ (ap (λ groups. map entry_of groups) c.as_slice.ensures.value ∙ c.in_ok-groups.ensures ∙ c.in_ok-licenses.ensures))
-    (c.as_slice-2.ensures.value ∙ c.in_ok-last.ensures))
+    (lines_are crates _ (ap (λ groups. map entry_of groups) c.items.ensures ∙ c.in_ok-groups.ensures))
+    (c.as_slice.ensures.value ∙ c.in_ok-last.ensures))
     c.write_lines.ensures.err
