@@ -1,5 +1,5 @@
 -- Names of crates by licences, gathered crate by crate.
-use Rattle.std.proofs.Common.{◌≡◌, ◌∙◌, refl, sym, ap, ap₂, subst, ℕ, Bool, true, false, ◌||◌, ◌&&◌, cond, T, List, [], ◌∷◌, ◌++◌, length, map, All, nat_cmp, Ordering, Less, Equal, Greater, Option, Some, None, append_assoc, append-nil}
+use Rattle.std.proofs.Common.{◌≡◌, ◌∙◌, refl, sym, ap, ap₂, subst, ℕ, Bool, true, false, ◌||◌, ◌&&◌, cond, T, List, [], ◌∷◌, ◌++◌, map, All, nat_cmp, Ordering, Less, Equal, Greater, Option, Some, None, append_assoc, append-nil}
 use Rattle.std.specs.Ordering.{is_eq, is_lt, match_ordering}
 use Rattle.std.specs.Option.{is_some, unwrap_or}
 use Rattle.std.specs.Cmp.{tied_itself}
@@ -9,23 +9,22 @@ use Rattle.std.specs.BTreeMap.{insert_entry, is_at}
 use Rattle.std.specs.FinMap.{find, is_sorted, put}
 use Rattle.std.specs.FinMap.Entries.{by_order, below_all, find-put, is_sorted-put}
 use Rattle.std.specs.Map.{lookup, set_value}
-use Rattle.std.specs.List.{AllByRecursion, filter, flat_map, fold}
+use Rattle.std.specs.List.{AllByRecursion, flat_map, fold}
 use Rattle.std.specs.List.Sorted.{IsStrictlySortedBy}
 use Rattle.std.specs.Str.{bytes_eq}
 use Rattle.std.proofs.lemmas.Map.Lookups.{exact_bytes}
 use Rattle.std.proofs.lemmas.List.Concat.{flat_map-append}
 use Rattle.std.proofs.lemmas.List.Elements.{recursion_from_All}
 use Rattle.std.proofs.lemmas.List.Sums.{fold-append}
-use Rattle.serde_json.specs.Data.{Data}
 use Rattle.graph_core.specs.Krate.{has_text}
 use Rattle.graph_core.specs.Metadata.{AreRising}
 use Rattle.run_list_text.specs.declared.grouped.LicenseNames.{LicenseNames}
 use Rattle.run_list_text.specs.declared.listed.ListedCrate.{ListedCrate}
 use Rattle.run_list_text.specs.Grouped.{entry_data, entry_line, entry_of, gathered_names, names_at, names_by_license, with_crate, with_name}
-use Rattle.run_list_text.specs.Listed.{all_licenses, distinct_texts, is_under, names_under}
+use Rattle.run_list_text.specs.Listed.{all_licenses, distinct_texts, names_under}
 use Rattle.run_list_text.specs.Listing.{license_data, license_line}
 use Rattle.run_list_text.proofs.ListLemmas.{names_split}
-use Rattle.run_list_text.proofs.MarkLemmas.{by_test, in_back, itself, left_too, neither, not_less, other_text, right_too, same_text}
+use Rattle.run_list_text.proofs.MarkLemmas.{by_test, in_back, itself, left_too, neither, not_less, other_text, same_text}
 
 abbrev Entries : Type 0
 Entries = List (List ℕ × List (List ℕ))

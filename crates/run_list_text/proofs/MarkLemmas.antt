@@ -32,7 +32,7 @@ four_pieces out one two three four first second third a b c =
 
 -- ---- tests
 
-pub right_too : (a b : Bool) → b ≡ true → (a || b) ≡ true
+right_too : (a b : Bool) → b ≡ true → (a || b) ≡ true
 right_too true b e = refl
 right_too false b e = e
 

@@ -24,12 +24,7 @@ pub(crate) struct LicenseNames {
 type NameMap = BTreeMap<Text, Texts>;
 
 /// The first name at a licence.
-fn add_first(
-    alloc: Global,
-    map: &mut NameMap,
-    license: &Text,
-    name: Text,
-) -> Result<(), AllocError>
+fn add_first(alloc: Global, map: &mut NameMap, license: &Text, name: Text) -> Result<(), AllocError>
     requires { unwrap_or (get (slice_cmp nat_cmp) map.old license.now) [] ≡ [] }
     ensures { OnOk result (map.new.entries ≡ with_name name map.old.entries license.now) }
 {
@@ -41,12 +36,7 @@ fn add_first(
 }
 
 /// A further name at a licence.
-fn add_name(
-    alloc: Global,
-    map: &mut NameMap,
-    license: &Text,
-    name: Text,
-) -> Result<(), AllocError>
+fn add_name(alloc: Global, map: &mut NameMap, license: &Text, name: Text) -> Result<(), AllocError>
     ensures { OnOk result (map.new.entries ≡ with_name name map.old.entries license.now) }
 {
     if let Some(names) = map.get_mut(license) {

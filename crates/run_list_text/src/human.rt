@@ -75,7 +75,12 @@ impl Lines<LicenseNames> for LicenseLines {
 
     ghost fits = { λ _ _. ⊤ };
 
-    fn push(&self, out: &mut Vec<u8>, alloc: Global, item: &LicenseNames) -> Result<(), AllocError> {
+    fn push(
+        &self,
+        out: &mut Vec<u8>,
+        alloc: Global,
+        item: &LicenseNames,
+    ) -> Result<(), AllocError> {
         push_group(out, alloc, item.license.as_str(), item.names.items())
     }
 }

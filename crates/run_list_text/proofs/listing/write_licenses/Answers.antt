@@ -1,4 +1,4 @@
-use Rattle.std.proofs.Common.{◌++◌, ◌∙◌, ap, map}
+use Rattle.std.proofs.Common.{◌∙◌, ap, map}
 use Rattle.run_list_text.specs.Grouped.{entry_of}
 use Rattle.run_list_text.specs.Listing.{human_by_license}
 use Rattle.run_list_text.proofs.GroupLemmas.{lines_are}
