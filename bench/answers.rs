@@ -3,10 +3,16 @@ use std::collections::{BTreeMap, BTreeSet};
 use std::fmt::Arguments;
 use std::io::Write;
 
+/// How many line feeds a text has, counted in bytes over parts that are short enough.
+fn feeds(text: &str) -> usize {
+    let parts = text.as_bytes().chunks(255);
+    parts.map(|part| usize::from(part.iter().map(|byte| u8::from(*byte == b'\n')).sum::<u8>())).sum()
+}
+
 /// The line and column, from 1, behind a text that begins at one.
 pub fn after((line, column): (usize, usize), text: &str) -> (usize, usize) {
     match text.rfind('\n') {
-        Some(feed) => (line + text.bytes().filter(|byte| *byte == b'\n').count(), text[feed + 1..].chars().count() + 1),
+        Some(feed) => (line + feeds(text), text[feed + 1..].chars().count() + 1),
         None => (line, column + text.chars().count()),
     }
 }
@@ -111,7 +117,7 @@ impl<W: Write> Printer<W> {
     pub fn end(&mut self) -> Option<bool> {
         let [notes, warnings, errors] = self.counts;
         if self.form == Form::Json {
-            let counts = format_args!(r#"{{"errors":{errors},"helps":0,"notes":{notes},"warnings":{warnings}}}"#);
+            let counts = format!(r#"{{"errors":{errors},"helps":0,"notes":{notes},"warnings":{warnings}}}"#);
             writeln!(self.out, r#"{{"fields":{{"licenses":{counts}}},"type":"summary"}}"#).ok()?;
         }
         self.out.flush().ok()?;

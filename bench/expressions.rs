@@ -109,10 +109,10 @@ impl<'p> Policy<'p> {
 
     /// Adds an entry; its family and exception.
     fn add(&mut self, name: &'p str, start: usize, catalog: &Catalog) -> Option<(u32, Option<&'p str>)> {
-        let (licence, exception) = name.split_once(" WITH ").map_or((name, None), |parts| (parts.0, Some(parts.1)));
-        if exception.is_some_and(|exception| !catalog.exceptions.contains(exception)) {
-            return None;
-        }
+        let (licence, exception) = match name.split_once(' ') {
+            Some((licence, rest)) => (licence, Some(rest.strip_prefix("WITH ").filter(|name| catalog.exceptions.contains(name))?)),
+            None => (name, None),
+        };
         let Licence { family, rank, is_later, .. } = *catalog.licences.get(licence)?;
         self.entries.push(Entry { name, place: (0, 0), start, rank, is_later, is_used: false });
         Some((family, exception))

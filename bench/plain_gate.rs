@@ -162,29 +162,43 @@ fn selected(value: &Value) -> Option<Vec<(&str, &Value)>> {
 
 // ---- licence files
 
+/// Each byte of a word in small letters, and 0 for all others.
+const SMALL: [u8; 256] = small_letters();
+
+const fn small_letters() -> [u8; 256] {
+    let mut small = [0; 256];
+    let mut byte = 0;
+    while byte < 128 {
+        if (byte as u8).is_ascii_alphanumeric() {
+            small[byte] = (byte as u8).to_ascii_lowercase();
+        }
+        byte += 1;
+    }
+    small
+}
+
 /// The words of a text in small letters, each with a blank behind it, without the lines that say whose it is.
 fn write_words(text: &str, words: &mut Vec<u8>) {
-    words.clear();
-    words.reserve(text.len() + 1);
-    for line in text.split_inclusive('\n') {
-        let start = words.len();
-        let mut is_in_word = false;
-        for byte in line.bytes() {
-            if byte.is_ascii_alphanumeric() {
-                words.push(byte.to_ascii_lowercase());
-                is_in_word = true;
-            } else if is_in_word {
-                words.push(b' ');
-                is_in_word = false;
+    words.resize(text.len() + 1, 0);
+    let out = &mut words[..];
+    let (mut line, mut end) = (0, 0);
+    let mut bytes = text.bytes();
+    while let Some(mut byte) = bytes.next() {
+        if SMALL[byte as usize] != 0 {
+            while SMALL[byte as usize] != 0 {
+                out[end] = SMALL[byte as usize];
+                end += 1;
+                byte = bytes.next().unwrap_or(b'\n');
             }
+            out[end] = b' ';
+            end += 1;
         }
-        if is_in_word {
-            words.push(b' ');
-        }
-        if is_notice(&words[start..]) {
-            words.truncate(start);
+        if byte == b'\n' || bytes.len() == 0 {
+            end = if is_notice(&out[line..end]) { line } else { end };
+            line = end;
         }
     }
+    words.truncate(end);
 }
 
 fn is_notice(line: &[u8]) -> bool {
@@ -249,20 +263,13 @@ impl<'t, T: Tree> Reader<'t, T> {
 
 // ---- the check
 
-/// Where the licence field of a manifest stands, with its value: behind the first `=` that follows the word `license`.
+/// Where the licence field of a manifest stands, with its value.
 fn field_place(manifest: &str) -> Option<(usize, &str)> {
-    let mut from = 0;
-    while let Some(found) = manifest[from..].find('=') {
-        let sign = from + found;
-        from = sign + 1;
-        if !manifest[..sign].trim_end().ends_with("license") {
-            continue;
-        }
-        let Some(value) = manifest[from..].trim_start().strip_prefix(['"', '\'']) else { continue };
-        let Some(length) = value.find(['"', '\'']) else { continue };
-        return Some((manifest.len() - value.len(), &value[..length]));
-    }
-    None
+    manifest.match_indices("license").find_map(|(start, key)| {
+        let rest = manifest[start + key.len()..].trim_start().strip_prefix('=')?;
+        let value = rest.trim_start().strip_prefix(['"', '\''])?;
+        Some((manifest.len() - value.len(), &value[..value.find(['"', '\''])?]))
+    })
 }
 
 /// Where an expression stands: the parts of its file's name, its line and column; and where it comes from.
@@ -316,8 +323,13 @@ impl<T: Tree, W: Write> Check<'_, T, W> {
 
     fn check_files(&mut self, id: &str, path: &str, package: &Value) -> Option<()> {
         let (name, version) = (text(package, "name")?, text(package, "version")?);
-        let message = format_args!("license expression was not specified in manifest for crate '{name} = {version}'");
-        self.printer.tell(Severity::Warning, "no-license-field", message, ["", ""], [])?;
+        self.printer.tell(
+            Severity::Warning,
+            "no-license-field",
+            format_args!("license expression was not specified in manifest for crate '{name} = {version}'"),
+            ["", ""],
+            [],
+        )?;
         let (licences, files) = self.reader.licences(path.rsplit_once('/')?.0)?;
         if licences.is_empty() {
             return self.tell_unlicensed(id, name, version);
@@ -363,8 +375,13 @@ impl<T: Tree, W: Write> Check<'_, T, W> {
     fn tell_unlicensed(&mut self, id: &str, name: &str, version: &str) -> Option<()> {
         self.verdicts.unlicensed += 1;
         let label = Label { arrow: "-->", place: (2, 9), message: ["", ""], span: name };
-        let message = format_args!("a valid license expression could not be retrieved for the crate");
-        self.printer.tell(Severity::Warning, "unlicensed", message, [id, "-synthesized.toml"], [label])?;
+        self.printer.tell(
+            Severity::Warning,
+            "unlicensed",
+            format_args!("a valid license expression could not be retrieved for the crate"),
+            [id, "-synthesized.toml"],
+            [label],
+        )?;
         self.printer.tell(Severity::Error, "unlicensed", format_args!("{name} = {version} is unlicensed"), ["", ""], [])
     }
 
