@@ -518,25 +518,35 @@ fn listing(request: &Request) -> Option<ExitCode> {
     Some(ExitCode::SUCCESS)
 }
 
-/// Metadata of crates, each of which leads to two further ones, and their folders.
-fn made(count: usize) -> (String, Made) {
+/// Metadata of crates, each of which leads to two further ones.
+fn made_metadata(count: usize) -> String {
     let fields = [r#""MIT""#, r#""MIT OR Apache-2.0""#, r#""GPL-3.0-only""#, "null"];
-    let (mut packages, mut nodes, mut folders) = (String::new(), String::new(), HashMap::with_capacity(count));
+    let comma = |is_there: bool| if is_there { "," } else { "" };
+    let mut text = String::from(r#"{"packages":["#);
     for index in 0..count {
-        let comma = if index > 0 { "," } else { "" };
-        let field = fields[index % 4];
-        let _ = write!(packages, r#"{comma}{{"name":"c{index}","version":"1.0.{index}","id":"c{index}","manifest_path":"/s/c{index}/Cargo.toml","license":{field}}}"#);
-        let edges: Vec<String> = (2 * index + 1..2 * index + 3).filter(|to| *to < count).map(|to| format!(r#"{{"pkg":"c{to}"}}"#)).collect();
-        let _ = write!(nodes, r#"{comma}{{"id":"c{index}","deps":[{}]}}"#, edges.join(","));
-        folders.insert(format!("/s/c{index}"), vec!["Cargo.toml"]);
+        let (comma, field) = (comma(index > 0), fields[index % 4]);
+        let _ = write!(text, r#"{comma}{{"name":"c{index}","version":"1.0.{index}","id":"c{index}","manifest_path":"/s/c{index}/Cargo.toml","license":{field}}}"#);
     }
-    let text = format!(r#"{{"packages":[{packages}],"workspace_members":["c0"],"workspace_root":"/s","resolve":{{"root":"c0","nodes":[{nodes}]}}}}"#);
-    (text, Made(folders))
+    text.push_str(r#"],"workspace_members":["c0"],"workspace_root":"/s","resolve":{"root":"c0","nodes":["#);
+    for index in 0..count {
+        let _ = write!(text, r#"{}{{"id":"c{index}","deps":["#, comma(index > 0));
+        for to in (2 * index + 1..2 * index + 3).filter(|to| *to < count) {
+            let _ = write!(text, r#"{}{{"pkg":"c{to}"}}"#, comma(to % 2 == 0));
+        }
+        text.push_str("]}");
+    }
+    text.push_str("]}}");
+    text
+}
+
+/// The folders of these crates.
+fn made_tree(count: usize) -> Made {
+    Made((0..count).map(|index| (format!("/s/c{index}"), vec!["Cargo.toml"])).collect())
 }
 
 fn sample(count: usize) -> Option<ExitCode> {
     let catalog = Catalog::new(include_str!("built-in.txt"));
-    let (text, tree) = made(count);
+    let tree = made_tree(count);
     let mut check = Check {
         reader: Reader::new(&tree),
         policy: Policy::new("[licenses]\nallow = [\"MIT\"]\n", &catalog)?,
@@ -545,8 +555,7 @@ fn sample(count: usize) -> Option<ExitCode> {
         terms: Vec::new(),
         verdicts: Verdicts::default(),
     };
-    let metadata = metadata(&text)?;
-    drop(text);
+    let metadata = metadata(&made_metadata(count))?;
     check_all(&mut check, &metadata, "/s/p.toml", Severity::Warning)?;
     let Verdicts { accepted, rejected, unlicensed } = check.verdicts;
     println!("crates {count}\naccepted {accepted}\nrejected {rejected}\nunlicensed {unlicensed}");
