@@ -1,16 +1,18 @@
 //! A run: what its words ask for, and what the process ends with.
-ghost use Rattle.std.specs.Prelude.{◌≡◌, ◌&&◌, IfOk, OnOk};
+ghost use Rattle.std.specs.Prelude.{◌≡◌, ◌≤◌, ◌&&◌, IfErr, IfOk, OnErr, OnOk};
 ghost use Rattle.std.specs.Process.{exit_status};
-ghost use Rattle.tree_core.specs.Faults.{Gained};
+ghost use Rattle.tree_core.specs.Faults.{Gained, GainedPrefix, IsCounted};
+ghost use Rattle.tree_core.specs.Script.{LineWritten};
 ghost use Rattle.licence_hash.specs.Run.{Does, DoesSome, asks_help, ending_of, has_none, hash_seen, is_help, usage};
-ghost use Rattle.licence_hash.specs.Run.{behind_name, texts};
+ghost use Rattle.licence_hash.specs.Run.{GivesUp, IsOfWords, StopsSome, StopsWithLine, behind_name, texts, why_line};
 
 use crate::told::{TellError, both, tell_all};
 use std::alloc::Global;
-use std::env;
 use std::env::Env;
+use std::io::ErrorKind;
 use std::process::ExitCode;
-use tree_core::{Sink, Tree, write_all};
+use std::{env, io};
+use tree_core::{Sink, SinkFailed, Tree, write_all};
 
 /// How the program is used.
 #[tactic(auto, unfolding(crate::specs::Run::usage))]
@@ -24,11 +26,12 @@ since such an entry names a file from there on. Status 1: a file is not there, o
 "
 }
 
-fn show_usage<S: Sink>(sink: &mut S) -> Result<(), TellError>
-    ensures { OnOk result (Gained (S.written sink.old) (S.written sink.new) usage) }
+fn show_usage<S: Sink>(sink: &mut S) -> Result<(), SinkFailed>
+    ensures ok { OnOk result (Gained (S.written sink.old) (S.written sink.new) usage) }
+    ensures err { OnErr result (GainedPrefix (S.written sink.old) (S.written sink.new) usage) }
+    ensures cause { IsCounted (S.fault_count sink.old) (S.fault_count sink.new) result }
 {
-    write_all(sink, usage().as_bytes())?;
-    Ok(())
+    write_all(sink, usage().as_bytes())
 }
 
 /// The words behind the program's name.
@@ -74,7 +77,9 @@ fn do_asked<T: Tree, O: Sink, E: Sink>(
     out: &mut O,
     err: &mut E,
 ) -> Result<bool, TellError>
-    ensures { IfOk result (Does (texts asked.now) (hash_seen T.trace O.written E.written
+    ensures does { IfOk result (Does (texts asked.now) (hash_seen T.trace O.written O.fault_count E.written E.fault_count
+        tree.old out.old err.old tree.new out.new err.new)) }
+    ensures gives_up { IfErr result (GivesUp (texts asked.now) (hash_seen T.trace O.written O.fault_count E.written E.fault_count
         tree.old out.old err.old tree.new out.new err.new)) }
 {
     if has_none(asked) {
@@ -89,13 +94,26 @@ fn do_asked<T: Tree, O: Sink, E: Sink>(
     Ok(all)
 }
 
-fn words_of<V: Env + AllocGlobal>(env: &V) -> Result<Vec<String>, TellError> {
+/// Why the words could not be read.
+fn words_error(error: &io::Error) -> TellError
+    ensures { IsOfWords result }
+{
+    if error.kind() == ErrorKind::OutOfMemory {
+        TellError::Memory
+    } else {
+        TellError::Words
+    }
+}
+
+fn words_of<V: Env + AllocGlobal>(env: &V) -> Result<Vec<String>, TellError>
+    ensures { IfErr result IsOfWords }
+{
     match env::args(env) {
         Ok(told) => {
             let words = told.collect(env.alloc())?;
             Ok(words)
         }
-        Err(_) => Err(TellError::Words),
+        Err(error) => Err(words_error(&error)),
     }
 }
 
@@ -106,7 +124,9 @@ fn do_words<V: Env + AllocGlobal, T: Tree, O: Sink, E: Sink>(
     out: &mut O,
     err: &mut E,
 ) -> Result<bool, TellError>
-    ensures { IfOk result (DoesSome (hash_seen T.trace O.written E.written
+    ensures does { IfOk result (DoesSome (hash_seen T.trace O.written O.fault_count E.written E.fault_count
+        tree.old out.old err.old tree.new out.new err.new)) }
+    ensures stops { IfErr result (StopsSome (hash_seen T.trace O.written O.fault_count E.written E.fault_count
         tree.old out.old err.old tree.new out.new err.new)) }
 {
     let words = words_of(env)?;
@@ -115,12 +135,24 @@ fn do_words<V: Env + AllocGlobal, T: Tree, O: Sink, E: Sink>(
 }
 
 /// The line that says why the program gave up.
-fn line_of(error: TellError) -> &'static str {
+#[tactic(auto, unfolding(crate::specs::Run::why_line))]
+fn line_of(error: TellError) -> &'static str
+    ensures { result.now ≡ why_line error }
+{
     match error {
         TellError::Words => "licence-hash: the words could not be read\n",
         TellError::Memory => "licence-hash: out of memory\n",
         TellError::Write => "licence-hash: writing failed\n",
     }
+}
+
+/// Writes the line that says why the program gave up. A sink that refuses it changes nothing in the answer.
+fn write_line<E: Sink>(err: &mut E, error: TellError)
+    ensures later { E.fault_count err.old ≤ E.fault_count err.new }
+    ensures written { LineWritten (E.written err.old) (E.written err.new)
+        (E.fault_count err.old) (E.fault_count err.new) (why_line error) }
+{
+    let _ = write_all(err, line_of(error).as_bytes());
 }
 
 /// Does what the words of an environment ask for, each of them behind the first, and says whether all of it was
@@ -131,13 +163,15 @@ pub fn hash_over<V: Env + AllocGlobal, T: Tree, O: Sink, E: Sink>(
     out: &mut O,
     err: &mut E,
 ) -> Result<bool, TellError>
-    ensures { IfOk result (DoesSome (hash_seen T.trace O.written E.written
+    ensures does { IfOk result (DoesSome (hash_seen T.trace O.written O.fault_count E.written E.fault_count
+        tree.old out.old err.old tree.new out.new err.new)) }
+    ensures stops { IfErr result (StopsWithLine (hash_seen T.trace O.written O.fault_count E.written E.fault_count
         tree.old out.old err.old tree.new out.new err.new)) }
 {
     match do_words(env, tree, out, err) {
         Ok(is_done) => Ok(is_done),
         Err(error) => {
-            let _ = write_all(err, line_of(error).as_bytes());
+            write_line(err, error);
             Err(error)
         }
     }

@@ -1,8 +1,9 @@
 //! What is written of the files that words name.
-ghost use Rattle.std.specs.Prelude.{◌≡◌, ◌&&◌, ◌∷◌, [], map, IfOk, is_ok};
+ghost use Rattle.std.specs.Prelude.{◌≡◌, ◌&&◌, ◌∷◌, [], map, IfErr, IfOk, is_ok};
 ghost use Rattle.std.specs.String.{string_bytes};
 ghost use Rattle.tree_core.specs.Faults.{Gained};
 ghost use Rattle.licence_hash.specs.Told.{AreTold, err_text, fault_words, out_text, refusal_of};
+ghost use Rattle.licence_hash.specs.Told.{AreLater, IsCaused, IsCutAmong, IsCutAt, IsCutText, sink_faults};
 
 use crate::entry::entry_of;
 use std::alloc::{AllocError, Global};
@@ -20,12 +21,20 @@ pub enum TellError {
 }
 
 impl From<AllocError> for TellError {
+    ghost use Rattle.licence_hash.specs.declared.told.TellError.TheVariants.{Memory};
+
+    ghost from_gives = { λ _ error. error ≡ Memory };
+
     fn from(_: AllocError) -> TellError {
         TellError::Memory
     }
 }
 
 impl From<SinkFailed> for TellError {
+    ghost use Rattle.licence_hash.specs.declared.told.TellError.TheVariants.{Write};
+
+    ghost from_gives = { λ _ error. error ≡ Write };
+
     fn from(_: SinkFailed) -> TellError {
         TellError::Write
     }
@@ -67,6 +76,12 @@ fn write_heard<O: Sink, E: Sink>(
     ensures out { IfOk result (λ _. Gained (O.written out.old) (O.written out.new) (out_text path.now heard.now)) }
     ensures err { IfOk result (λ _. Gained (E.written err.old) (E.written err.new) (err_text path.now heard.now)) }
     ensures told { IfOk result (λ is_told. is_told ≡ is_ok heard.now) }
+    ensures cut { IfErr result (λ error. IsCutText error path.now heard.now
+        (record { out = O.written out.old; err = E.written err.old })
+        (record { out = O.written out.new; err = E.written err.new })) }
+    ensures cause { IfErr result
+        (IsCaused (sink_faults O.fault_count E.fault_count out.old err.old out.new err.new)) }
+    ensures later { AreLater (sink_faults O.fault_count E.fault_count out.old err.old out.new err.new) }
 {
     match heard {
         Ok(text) => {
@@ -90,9 +105,15 @@ pub fn tell<T: Tree, O: Sink, E: Sink>(
     err: &mut E,
     path: &str,
 ) -> Result<bool, TellError>
-    ensures { IfOk result (λ all. AreTold (path.now ∷ []) (T.trace tree.old) (T.trace tree.new)
+    ensures told { IfOk result (λ all. AreTold (path.now ∷ []) (T.trace tree.old) (T.trace tree.new)
         (record { out = O.written out.old; err = E.written err.old })
         (record { out = O.written out.new; err = E.written err.new }) all) }
+    ensures cut { IfErr result (λ error. IsCutAt error path.now (T.trace tree.old) (T.trace tree.new)
+        (record { out = O.written out.old; err = E.written err.old })
+        (record { out = O.written out.new; err = E.written err.new })) }
+    ensures cause { IfErr result
+        (IsCaused (sink_faults O.fault_count E.fault_count out.old err.old out.new err.new)) }
+    ensures later { AreLater (sink_faults O.fault_count E.fault_count out.old err.old out.new err.new) }
 {
     let before = tree.faults();
     let heard = read_file_text(alloc, tree, path, before)?;
@@ -114,10 +135,17 @@ pub fn tell_all<T: Tree, O: Sink, E: Sink>(
     err: &mut E,
     paths: &[String],
 ) -> Result<bool, TellError>
-    ensures { IfOk result (λ all. AreTold (map (λ path. string_bytes path) paths.now)
+    ensures told { IfOk result (λ all. AreTold (map (λ path. string_bytes path) paths.now)
         (T.trace tree.old) (T.trace tree.new)
         (record { out = O.written out.old; err = E.written err.old })
         (record { out = O.written out.new; err = E.written err.new }) all) }
+    ensures cut { IfErr result (λ error. IsCutAmong error (map (λ path. string_bytes path) paths.now)
+        (T.trace tree.old) (T.trace tree.new)
+        (record { out = O.written out.old; err = E.written err.old })
+        (record { out = O.written out.new; err = E.written err.new })) }
+    ensures cause { IfErr result
+        (IsCaused (sink_faults O.fault_count E.fault_count out.old err.old out.new err.new)) }
+    ensures later { AreLater (sink_faults O.fault_count E.fault_count out.old err.old out.new err.new) }
 {
     let mut all = true;
     'paths: for path in paths {
