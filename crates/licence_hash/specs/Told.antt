@@ -113,7 +113,7 @@ pub record IsAsked (path : List ℕ) (old new : List Call) : Type 0 where
   pub made : new ≡ old ++ read_of path answer ∷ []
 
 -- this path was read, and a prefix of what is read of it was written
-pub record IsHalfTold (path : List ℕ) (old new : List Call) (before after : SinkTexts) : Type 0 where
+pub record IsPartlyWritten (path : List ℕ) (old new : List Call) (before after : SinkTexts) : Type 0 where
   pub begun : ℕ
   pub behind : ℕ
   pub heard : Result (List ℕ) ReadFault
@@ -125,7 +125,7 @@ pub record IsHalfTold (path : List ℕ) (old new : List Call) (before after : Si
 abbrev pub IsCutAt : TellError → List ℕ → List Call → List Call → SinkTexts → SinkTexts → Type 0
 IsCutAt Memory path old new before after =
     IsAsked path old new × (after.out ≡ before.out) × (after.err ≡ before.err)
-IsCutAt Write path old new before after = IsHalfTold path old new before after
+IsCutAt Write path old new before after = IsPartlyWritten path old new before after
 IsCutAt Words path old new before after = ⊥
 
 -- It is given up at one of these files: what those before it have is written, and none behind it was asked.
