@@ -66,6 +66,6 @@ for kind in none excluded exceptions clarifications registries publish addresses
     once=$(count "$kind" "$size")
     twice=$(count "$kind" $((2 * size)))
     awk -v kind="$kind" -v size="$size" -v once="$once" -v twice="$twice" 'BEGIN {
-        printf "%s %d: %d, twice as many %d, ratio %.2f\n", kind, size, once, twice, twice / once
+        printf "%s %d: %.0f, twice as many %.0f, ratio %.2f\n", kind, size, once, twice, twice / once
     }'
 done

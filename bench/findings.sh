@@ -140,7 +140,7 @@ sizes() {
 
 grows() {
     awk -v some="$1" -v twice="$2" -v more="$3" 'BEGIN {
-        printf "%d, %d, %d instructions: %.3f and %.3f\n", some, twice, more, twice / some, more / some
+        printf "%.0f, %.0f, %.0f instructions: %.3f and %.3f\n", some, twice, more, twice / some, more / some
     }'
 }
 

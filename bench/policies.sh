@@ -61,8 +61,8 @@ part_none=$(count 1 0)
 part_some=$(count 1 20000)
 part_more=$(count 1 40000)
 awk -v none="$none" -v some="$some" -v more="$more" -v p0="$part_none" -v p1="$part_some" -v p2="$part_more" 'BEGIN {
-    printf "5,000 crates: no exception %d, 20,000 exceptions %d, 40,000 exceptions %d\n", none, some, more
-    printf "one crate:    no exception %d, 20,000 exceptions %d, 40,000 exceptions %d\n", p0, p1, p2
+    printf "5,000 crates: no exception %.0f, 20,000 exceptions %.0f, 40,000 exceptions %.0f\n", none, some, more
+    printf "one crate:    no exception %.0f, 20,000 exceptions %.0f, 40,000 exceptions %.0f\n", p0, p1, p2
     printf "without the policy: 20,000 to none %.3f, 40,000 to none %.3f\n", (some - p1 + p0) / none, (more - p2 + p0) / none
     printf "the policies: 40,000 to 20,000 %.3f\n", (p2 - p0) / (p1 - p0)
 }'
@@ -96,7 +96,7 @@ grep -q '^licenses ok' said
 clarified=$(count own20000 clarified)
 grep -q '^licenses ok' said
 awk -v tied="$tied" -v clarified="$clarified" 'BEGIN {
-    printf "20,000 crates: tied exceptions %d, clarifications %d, ratio %.3f\n", tied, clarified, tied / clarified
+    printf "20,000 crates: tied exceptions %.0f, clarifications %.0f, ratio %.3f\n", tied, clarified, tied / clarified
 }'
 
 # One crate, and that many exceptions of the crate of a name, each tied to the same that many files; each file has 64 KiB.
