@@ -88,10 +88,7 @@ pub(crate) struct CountedExceptions {
 }
 
 #[tactic(auto, using(crate::proofs::ExceptionLemmas::named_of_placed))]
-fn exception_ref(
-    alloc: Global,
-    exception: &ValidException,
-) -> Result<ExceptionRef<'_>, AllocError>
+fn exception_ref(alloc: Global, exception: &ValidException) -> Result<ExceptionRef<'_>, AllocError>
     ensures { IfOk result (λ found. found ≡ exception_entry exception.now) }
 {
     let files = file_refs(alloc, exception.license_files.items())?;
