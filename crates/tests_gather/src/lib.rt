@@ -44,7 +44,9 @@ impl Cases for CrateCases {
 
     fn told(&self, alloc: Global, case: &Case<'_>, key: &str, out: &mut AnswerText) -> KeyAnswer {
         let tried = match key {
-            "gathered" | "counted" | "found" | "second-file" => gathering::put(alloc, case, key, out),
+            "gathered" | "counted" | "found" | "second-file" => gathering::put(
+                alloc, case, key, out,
+            ),
             "points" | "messages" | "first-file" => pointed::put(alloc, case, key, out),
             _ => return told_of_files(alloc, case, key, out),
         };

@@ -312,12 +312,10 @@ impl Cases for PolicyCases {
     fn told(&self, alloc: Global, case: &Case<'_>, key: &str, out: &mut AnswerText) -> KeyAnswer {
         match (key, case.entry("policy")) {
             ("left-out", _) => put_left_out(alloc, out),
-            (
-                "licenses" | "version" | "faults" | "whole" | "whole-faults" | "read",
-                Some(policy),
-            ) => {
-                put_policy(alloc, key, wanted(policy), out);
-            }
+            ("licenses" | "version" | "faults" | "whole" | "whole-faults" | "read", Some(policy)) =>
+                {
+                    put_policy(alloc, key, wanted(policy), out);
+                }
             _ => return put_load(alloc, case, key, out),
         }
         KeyAnswer::Yes
