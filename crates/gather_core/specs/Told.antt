@@ -9,8 +9,8 @@ use Rattle.gather_license.specs.Priority.{LicenseAnswer, ExpressionSource, metad
 use Rattle.gather_license.specs.Priority.{license_files}
 use Rattle.gather_core.specs.declared.findings.license.LicenseExprInfo.{LicenseExprInfo}
 use Rattle.gather_core.specs.declared.findings.license.LicenseExprSource.{LicenseExprSource}
-use Rattle.gather_core.specs.declared.findings.license.LicenseExprSource.TheVariants.{Metadata, UserOverride, OverlayOverride}
-use Rattle.gather_core.specs.declared.findings.license.LicenseExprSource.TheVariants.{LicenseFiles}
+use Rattle.gather_core.specs.declared.findings.license.LicenseExprSource.TheVariants.{Metadata, UserOverride}
+use Rattle.gather_core.specs.declared.findings.license.LicenseExprSource.TheVariants.{OverlayOverride, LicenseFiles}
 use Rattle.gather_core.specs.declared.findings.license.LicenseInfo.{LicenseInfo}
 use Rattle.gather_core.specs.declared.findings.license.LicenseInfo.TheVariants.{SpdxExpression, Unlicensed}
 
@@ -31,8 +31,8 @@ field_source location = Metadata (option_map (λ at. (at.file, at.span)) locatio
 abbrev pub clarified_source : Bool → LicenseExprSource
 clarified_source overlay = if overlay then OverlayOverride else UserOverride
 
--- The licence that is reported: of a clarification, its expression with its place in the clarification's file; of a field
--- and of joined names, the place that finding has given them.
+-- The licence that is reported: of a clarification, its expression with its place in the clarification's file; of a
+-- field and of joined names, the place that finding has given them.
 abbrev pub joined_info : Coord → Option JoinedNames → LicenseInfo
 joined_info place None = Unlicensed
 joined_info place (Some joined) = SpdxExpression joined.expression (info_at place (LicenseFiles joined.paths))

@@ -17,8 +17,8 @@ pub record PlacedFile : Type 0 where
   pub span : Span
 
 -- The expression that a policy gives a crate, its file, whether that is the exceptions file, where the expression is
--- there, and the files that have to have their hashes. The text begins at the offset; of a string with escapes the whole
--- place is reported.
+-- there, and the files that have to have their hashes. The text begins at the offset; of a string with escapes the
+-- whole place is reported.
 pub record ClarificationView : Type 0 where
   pub expression : ExpressionView
   pub file : ℕ

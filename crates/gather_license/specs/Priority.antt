@@ -1,5 +1,6 @@
 -- Which licence a crate is under, in one fixed order: a clarification of the policy, then of its exceptions file, whose
--- files have the stated hashes, else the crate's own field, else what its licence files are identified as, else nothing.
+-- files have the stated hashes, else the crate's own field, else what its licence files are identified as, else
+-- nothing.
 use Rattle.std.specs.Prelude.{ℕ, Bool, true, false, ◌||◌, not, List, [], ◌∷◌, map, find, Option, Some, None, is_none}
 use Rattle.std.specs.Prelude.{unwrap_or, if◌then◌else◌}
 use Rattle.std.specs.Prelude.{option_map, option_and_then}

@@ -55,9 +55,9 @@ abbrev pub absence_findings : Bool → Option (List ℕ) → List Diagnostic
 absence_findings is_there path = if is_there then [] else absence_finding path ∷ []
 
 -- All that is reported of a policy, in order: that it is absent; addresses that can't be read; clarifications whose
--- expressions can't; keys that were removed; exceptions that name files under another version than 3; what is wrong with
--- the exceptions file, then with the expressions of its clarifications, and then those of its exceptions; targets, which
--- have no effect; keys that were moved to the table `graph`, and the one that was moved to `output`.
+-- expressions can't; keys that were removed; exceptions that name files under another version than 3; what is wrong
+-- with the exceptions file, then with the expressions of its clarifications, and then those of its exceptions; targets,
+-- which have no effect; keys that were moved to the table `graph`, and the one that was moved to `output`.
 abbrev pub load_findings : CatalogLists → FileNumbers → List Diagnostic → RootConfig → ExceptionsRead → List Diagnostic
 load_findings lists numbers absence root exceptions =
     absence

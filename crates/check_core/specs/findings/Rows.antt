@@ -17,8 +17,8 @@ use Rattle.diag_core.specs.declared.pack.Diag.{Diag}
 use Rattle.diag_core.specs.Label.{label_at}
 use Rattle.gather_core.specs.declared.findings.license.LicenseExprInfo.{LicenseExprInfo}
 use Rattle.gather_core.specs.declared.findings.license.LicenseExprSource.{LicenseExprSource}
-use Rattle.gather_core.specs.declared.findings.license.LicenseExprSource.TheVariants.{Metadata, UserOverride, OverlayOverride}
-use Rattle.gather_core.specs.declared.findings.license.LicenseExprSource.TheVariants.{LicenseFiles}
+use Rattle.gather_core.specs.declared.findings.license.LicenseExprSource.TheVariants.{Metadata, UserOverride}
+use Rattle.gather_core.specs.declared.findings.license.LicenseExprSource.TheVariants.{OverlayOverride, LicenseFiles}
 use Rattle.check_core.specs.findings.Findings.{expression_finding, verdict_labels, skipped_finding, unlicensed_finding}
 use Rattle.check_core.specs.findings.Sources.{source_text}
 

@@ -2,8 +2,8 @@
 use Rattle.std.specs.Prelude.{ℕ, List, [], ◌∷◌, ◌++◌, codes}
 use Rattle.std.specs.List.{flat_map}
 use Rattle.gather_core.specs.declared.findings.license.LicenseExprSource.{LicenseExprSource}
-use Rattle.gather_core.specs.declared.findings.license.LicenseExprSource.TheVariants.{Metadata, UserOverride, OverlayOverride}
-use Rattle.gather_core.specs.declared.findings.license.LicenseExprSource.TheVariants.{LicenseFiles}
+use Rattle.gather_core.specs.declared.findings.license.LicenseExprSource.TheVariants.{Metadata, UserOverride}
+use Rattle.gather_core.specs.declared.findings.license.LicenseExprSource.TheVariants.{OverlayOverride, LicenseFiles}
 
 -- a path that follows another one
 abbrev pub behind_comma : List ℕ → List ℕ

@@ -66,8 +66,8 @@ abbrev pub place_in : Clarification → Span → Span
 place_in clarification place =
     if clarification.escapes then clarification.expression.span else span_from clarification.expression.span.start place
 
--- the clarification with its expression and its file, its files as they are written; an overlay is one of the exceptions
--- file
+-- the clarification with its expression and its file, its files as they are written; an overlay is one of the
+-- exceptions file
 abbrev pub with_expression : ℕ → Bool → Clarification → ExpressionView → ValidClarification
 with_expression file overlay clarification expression = record {
   spec = clarification.spec;
