@@ -1,5 +1,5 @@
 -- A crate's turn with the exceptions that count for it, whose files are looked at behind all else.
-use Rattle.std.proofs.Common.{◌≡◌, ◌∙◌, ℕ, length, take, drop, Bool, true, false, cond, List, [], ◌∷◌, ◌++◌, map, Option, None, Some, option_map, Result, Ok, Err, OnErr, refl, sym, ap, ap₂, subst, append-nil, append_assoc}
+use Rattle.std.proofs.Common.{◌≡◌, ◌∙◌, ◌≤◌, ◌+◌, arith, length-append, ℕ, length, take, drop, Bool, true, false, cond, List, [], ◌∷◌, ◌++◌, map, Option, None, Some, option_map, Result, Ok, Err, OnErr, refl, sym, ap, ap₂, subst, append-nil, append_assoc}
 use Rattle.std.specs.List.{fold}
 use Rattle.std.specs.Option.{option_to_list}
 use Rattle.std.specs.Prelude.{IfOk, IfSome}
@@ -37,7 +37,7 @@ use Rattle.gather_core.proofs.TakenLemmas.{begun_reads}
 
 -- ---- lists
 
-behind : {A : Type 0} → List A → List A
+abbrev behind : {A : Type 0} → List A → List A
 behind [] = []
 behind (x ∷ xs) = xs
 
@@ -53,6 +53,14 @@ take_front (read ∷ front) more = ap (λ (rest : List ReadRecord). read ∷ res
 drop_front : (front more : List ReadRecord) → drop (length front) (front ++ more) ≡ more
 drop_front [] more = refl
 drop_front (read ∷ front) more = drop_front front more
+
+-- its place is among all
+pub place_inside : (manifest_first : Bool) (front more all : List ReadRecord) (n place : ℕ) → n ≡ length front → place ≡ cond manifest_first 0 n → all ≡ front ++ more → place ≤ length all
+place_inside true front more all n place counted is are = let first : place ≡ 0 = is in omega (arith, first)
+place_inside false front more all n place counted is are =
+    let last : place ≡ n = is in
+    let long : length all ≡ length front + length more = ap length are ∙ length-append front more in
+    omega (arith, last, counted, long)
 
 -- the manifest's record among others
 pub placed_manifest : (manifest_first : Bool) (manifest : Option ReadRecord) (front more all : List ReadRecord) (n place : ℕ) → n ≡ length front → place ≡ cond manifest_first 0 n → all ≡ front ++ more
@@ -213,7 +221,8 @@ module _ (scanner : Scanner) (clarifications : List ClarificationView) (rules : 
 
 -- ---- the turn as a whole
 
-module _ {told mid tells : Option Content} {before middle after : ℕ} {old between new : List Call} (scanner : Scanner) (clarifications : List ClarificationView) (rules : ExceptionRules) (krate : CrateRecord) (files : List File) (located : LocatedLicense) (left : List File)
+module _ {told mid : Option Content} {before middle : ℕ} {old between : List Call} (scanner : Scanner) (clarifications : List ClarificationView) (rules : ExceptionRules) (krate : CrateRecord) (files : List File) (located : LocatedLicense) (left : List File)
+    (tells : Option Content) (after : ℕ) (new : List Call)
     (by : IsByOwnReads told mid before middle old between (folder_of krate) (begun_records scanner clarifications rules krate files located left) (IsBegunAt scanner clarifications rules krate files located left)) where
   pub own_taken : (result : Result TakenLicense AllocError) (manifest_first : Bool) → manifest_first ≡ is_nothing clarifications → IfOk result (λ taken. Keeps located taken)
       → IfOk result (λ taken. CountsBy mid tells middle after between new rules krate manifest_first located taken)

@@ -1,13 +1,16 @@
 -- Exceptions that are found by their places, and which of them count.
 use Rattle.std.proofs.Common.{◌≡◌, ◌∙◌, ℕ, suc, ◌+◌, ◌<◌, length, take, drop, take-append-drop, get_or, Bool, true, false, ◌&&◌, cond, List, [], ◌∷◌, ◌++◌, map, filter, Option, None, Some, refl, sym, ap, ap₂, subst, append-nil, append_assoc, length-append, arith, slice_get}
 use Rattle.std.proofs.Math.Seq.{get_or-append_seam}
-use Rattle.std.proofs.lemmas.Option.{slice_get-get_or}
+use Rattle.std.proofs.lemmas.Bool.{ltb-false, ltb-true}
+use Rattle.std.proofs.lemmas.Option.{slice_get-get_or, slice_get_past, slice_get_read}
 use Rattle.std.proofs.lemmas.List.{take_more}
 use Rattle.std.proofs.lemmas.List.Concat.{flat_map-append}
 use Rattle.std.proofs.lemmas.List.Elements.{filter-append}
 use Rattle.std.proofs.lemmas.List.Sums.{fold-append}
 use Rattle.std.specs.List.{flat_map, fold}
-use Rattle.std.specs.Option.{option_map_or, option_to_list}
+use Rattle.std.specs.Borrow.{Bor}
+use Rattle.std.specs.Option.{option_copied, option_map_or, option_to_list}
+use Rattle.std.specs.Slice.{IsItemAt}
 use Rattle.tree_core.specs.Call.{Call}
 use Rattle.tree_core.specs.Content.{Content}
 use Rattle.graph_core.specs.Krate.{CrateRecord}
@@ -98,6 +101,10 @@ pub looked_each : (krate : CrateRecord) (known_reads : FolderReads) (entries : L
 looked_each krate known_reads entries = ap (looked_at known_reads entries) (places_for krate entries) ∙ looked_from krate known_reads entries [] entries 0 refl refl
 
 -- what is found at a place, and where nothing is
+pub item_at : (entries : List ExceptionEntry) (i : ℕ) (r : Option (Bor ExceptionEntry)) → IsItemAt entries i r → option_copied r ≡ slice_get entries i
+item_at entries i None item = sym (slice_get_past entries i (ltb-false i (length entries) (sym item.0)))
+item_at entries i (Some x) item = sym (slice_get_read entries (length entries) i x.now refl (ltb-true i (length entries) (sym item.0)) item.1)
+
 pub files_found : (entries : List ExceptionEntry) (place : ℕ) (one : ExceptionEntry) (files : List NamedFileView) → files ≡ one.files → slice_get entries place ≡ Some one → files ≡ files_at entries place
 files_found entries place one files are is = are ∙ sym (ap (λ (found : Option ExceptionEntry). option_map_or (λ (one : ExceptionEntry). one.files) found []) is)
 
@@ -135,30 +142,28 @@ front_places known_reads entries places start n =
     ∙ fold-append with_path start first later))
     (front_looks (fold with_path start first) later)
 
--- ---- for want of memory
-
-module _ {told mid tells : Option Content} {before middle after : ℕ} {old between new : List Call} (pack so_far : PackView) (entries : List ExceptionEntry) (places : List ℕ) (i : ℕ) (inside : i < length places)
-    (files : List NamedFileView) (are : files ≡ files_at entries (get_or places i 0))
+-- what is looked at of the next one
+module _ (pack so_far : PackView) (entries : List ExceptionEntry) (places : List ℕ) (i : ℕ) (inside : i < length places)
     (looked : (known_reads : FolderReads) → Agrees known_reads so_far → paths_read so_far.reads ≡ fold with_path (paths_read pack.reads) (looked_at known_reads entries (take i places))) where
-  abbrev wanted_at : FolderReads → List (List ℕ)
-  wanted_at known_reads = fold with_path (paths_read pack.reads) (looked_at known_reads entries places)
-
-  -- what is looked at of the next one
   pub looked_next : (known_reads : FolderReads) → Agrees known_reads so_far
-      → fold with_path (paths_read so_far.reads) (looked_of known_reads files) ≡ fold with_path (paths_read pack.reads) (looked_at known_reads entries (take (i + 1) places))
+      → fold with_path (paths_read so_far.reads) (looked_of known_reads (files_at entries (get_or places i 0))) ≡ fold with_path (paths_read pack.reads) (looked_at known_reads entries (take (i + 1) places))
   looked_next known_reads agrees =
-      ap (λ (start : List (List ℕ)). fold with_path start (looked_of known_reads files)) (looked known_reads agrees)
-      ∙ ap (λ (those : List NamedFileView). fold with_path (fold with_path (paths_read pack.reads) (looked_at known_reads entries (take i places))) (looked_of known_reads those)) are
+      ap (λ (start : List (List ℕ)). fold with_path start (looked_of known_reads (files_at entries (get_or places i 0)))) (looked known_reads agrees)
       ∙ sym (looked_more known_reads entries places i inside (paths_read pack.reads))
 
-  front_next : (known_reads : FolderReads) → Agrees known_reads so_far → IsFront (fold with_path (paths_read so_far.reads) (looked_of known_reads files)) (wanted_at known_reads)
+  front_next : (known_reads : FolderReads) → Agrees known_reads so_far
+      → IsFront (fold with_path (paths_read so_far.reads) (looked_of known_reads (files_at entries (get_or places i 0)))) (fold with_path (paths_read pack.reads) (looked_at known_reads entries places))
   front_next known_reads agrees =
-      subst (λ (front : List (List ℕ)). IsFront front (wanted_at known_reads)) (sym (looked_next known_reads agrees)) (front_places known_reads entries places (paths_read pack.reads) (i + 1))
+      subst (λ (front : List (List ℕ)). IsFront front (fold with_path (paths_read pack.reads) (looked_at known_reads entries places))) (sym (looked_next known_reads agrees))
+      (front_places known_reads entries places (paths_read pack.reads) (i + 1))
 
-  -- as its files were looked up
-  pub starves_holding : GoesBy told mid before middle old between pack so_far → Starves mid tells middle after between new so_far (λ known_reads. fold with_path (paths_read so_far.reads) (looked_of known_reads files))
-      → Starves told tells before after old new pack wanted_at
-  starves_holding goes starves = starves_then pack so_far (λ known_reads. fold with_path (paths_read so_far.reads) (looked_of known_reads files)) wanted_at goes starves front_next
+  -- memory was wanting as its files were looked up
+  pub starves_holding : {told mid tells : Option Content} {before middle after : ℕ} {old between new : List Call} → GoesBy told mid before middle old between pack so_far
+      → Starves mid tells middle after between new so_far (λ known_reads. fold with_path (paths_read so_far.reads) (looked_of known_reads (files_at entries (get_or places i 0))))
+      → Starves told tells before after old new pack (λ known_reads. fold with_path (paths_read pack.reads) (looked_at known_reads entries places))
+  starves_holding goes starves =
+      starves_then pack so_far (λ known_reads. fold with_path (paths_read so_far.reads) (looked_of known_reads (files_at entries (get_or places i 0))))
+      (λ known_reads. fold with_path (paths_read pack.reads) (looked_at known_reads entries places)) goes starves front_next
 
 -- ---- whether each counts
 

@@ -1,5 +1,5 @@
 //! The exceptions of a policy, and which of them count for a crate.
-ghost use Rattle.std.specs.Prelude.{◌≡◌, ◌++◌, ◌∷◌, [], map, IfOk, OnErr, OnOk, if◌then◌else◌};
+ghost use Rattle.std.specs.Prelude.{◌≡◌, ◌++◌, ◌∷◌, [], map, slice_get, option_copied, IfOk, OnErr, OnOk, if◌then◌else◌};
 ghost use Rattle.std.specs.List.{fold};
 ghost use Rattle.std.specs.Option.{option_to_list};
 ghost use Rattle.graph_core.specs.Krate.{record_of};
@@ -112,6 +112,17 @@ fn exception_refs(
     Ok(refs)
 }
 
+/// The exception at a place, if there is one.
+#[tactic(auto, using(crate::proofs::ExceptionLemmas::item_at))]
+fn exception_at<'a, 'p>(
+    entries: &'a [ExceptionRef<'p>],
+    place: usize,
+) -> Option<&'a ExceptionRef<'p>>
+    ensures { option_copied result ≡ slice_get entries.entry.now place }
+{
+    entries.get(place)
+}
+
 /// Tries the exception at a place by its files: each is looked up in order, up to the first that does not
 /// match; none is read twice. Where there is no exception nothing is.
 fn try_at<T: Tree>(
@@ -134,7 +145,7 @@ fn try_at<T: Tree>(
         pack (λ known_reads.
         fold with_path (paths_read pack.reads) (looked_of known_reads (files_at entries.now place)))) }
 {
-    match entries.get(place) {
+    match exception_at(entries, place) {
         Some(one) => pack.tries(alloc, tree, one.files()),
         None => Ok(TriedClarification {
             pack,

@@ -1,6 +1,6 @@
 //! What is taken at a crate's turn: what settles its licence, where its field is, and which exceptions count.
 ghost use Rattle.std.specs.Prelude.{◌≡◌, ◌≤◌, ◌++◌, ◌&&◌, ℕ, not, true, false, IfOk, IfSome, OnErr, is_some};
-ghost use Rattle.std.specs.Prelude.{drop, length, map, take};
+ghost use Rattle.std.specs.Prelude.{drop, length, map, take, if◌then◌else◌};
 ghost use Rattle.std.specs.List.{fold};
 ghost use Rattle.std.specs.Option.{option_to_list};
 ghost use Rattle.graph_core.specs.Krate.{record_of};
@@ -83,6 +83,13 @@ fn with_manifest(
         }
         None => Ok(reads),
     }
+}
+
+/// The place of the manifest's record among the reads: first, or behind those that settled the licence.
+fn manifest_place(manifest_first: bool, reads_made: usize) -> usize
+    ensures { result ≡ (if manifest_first then 0 else reads_made) }
+{
+    if manifest_first { 0 } else { reads_made }
 }
 
 /// Where a crate's field is, where it has one; else its manifest is not asked for.
@@ -314,11 +321,7 @@ fn take_exceptions<T: Tree>(
         located.pack (λ known_reads. fold with_path (paths_read located.pack.reads)
         (named_for exceptions.now (record_of krate.now) known_reads))) }
 {
-    let place = if manifest_first {
-        0
-    } else {
-        located.reads_made
-    };
+    let place = manifest_place(manifest_first, located.reads_made);
     let counted = exceptions.counted(alloc, tree, krate, located.pack)?;
     let reads = with_manifest(counted.pack.into_reads(), place, located.manifest)?;
     Ok(TakenLicense {

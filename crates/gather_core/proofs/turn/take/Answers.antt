@@ -11,7 +11,8 @@ returns-clause-answered g c =
     let scanner = scanner_of_scan g.C.Catalog.lists g.I.Identifier.match_of c.args.scan.now in
     let krate = record_of c.args.krate.now in
     let all = map lent_clarification c.args.clarifications.now in
-    own_taken scanner all c.args.exceptions.now krate c.args.files.now c.in_ok-located.located c.take_located.new.files (c.in_ok-located.ensures.answered c.args.exceptions.now)
+    own_taken scanner all c.args.exceptions.now krate c.args.files.now c.in_ok-located.located c.take_located.new.files
+    (g.T.Tree.content c.take_exceptions.new.tree) (g.T.Tree.fault_count c.take_exceptions.new.tree) (g.T.Tree.trace c.take_exceptions.new.tree) (c.in_ok-located.ensures.answered c.args.exceptions.now)
     c.take_exceptions.result c.is_nothing-manifest_first.result c.is_nothing-manifest_first.ensures c.take_exceptions.ensures.kept c.take_exceptions.ensures.counted
 
 pub returns-in_err-located-clause-no_memory : goal.returns-in_err-located-clause-no_memory
@@ -26,7 +27,8 @@ returns-clause-no_memory g c =
     let scanner = scanner_of_scan g.C.Catalog.lists g.I.Identifier.match_of c.args.scan.now in
     let krate = record_of c.args.krate.now in
     let all = map lent_clarification c.args.clarifications.now in
-    starves_taken scanner all c.args.exceptions.now krate c.args.files.now c.in_ok-located.located c.take_located.new.files (c.in_ok-located.ensures.answered c.args.exceptions.now)
+    starves_taken scanner all c.args.exceptions.now krate c.args.files.now c.in_ok-located.located c.take_located.new.files
+    (g.T.Tree.content c.take_exceptions.new.tree) (g.T.Tree.fault_count c.take_exceptions.new.tree) (g.T.Tree.trace c.take_exceptions.new.tree) (c.in_ok-located.ensures.answered c.args.exceptions.now)
     c.take_exceptions.result c.take_exceptions.ensures.no_memory
 
 pub returns-clause-points : goal.returns-clause-points

@@ -10,23 +10,8 @@ use Rattle.gather_core.specs.Exceptions.{named_by_each, named_for}
 use Rattle.gather_core.proofs.ExceptionLemmas.{counted_each, counted_first, named_each, named_none}
 use Rattle.gather_core.proofs.exceptions.ExceptionIndex.counted.Goals as goal
 
-pub returns-then-each_counts-clause-places : goal.returns-then-each_counts-clause-places
-returns-then-each_counts-clause-places g c =
-    let all = c.args.self.now in
-    let krate = record_of c.args.krate.now in
-    let on : all.each_counts ≡ true = search rules in
-    IfOk-weaker c.each.result _ _ (λ counted is known_reads agrees. is known_reads agrees ∙ sym (counted_each all krate known_reads on)) c.each.ensures.places
-
-pub returns-then-each_counts-clause-paths : goal.returns-then-each_counts-clause-paths
-returns-then-each_counts-clause-paths g c =
-    let all = c.args.self.now in
-    let krate = record_of c.args.krate.now in
-    let on : all.each_counts ≡ true = search rules in
-    IfOk-weaker c.each.result _ _
-    (λ counted is known_reads agrees. is known_reads agrees ∙ ap (fold with_path (paths_read c.args.pack.reads)) (sym (named_each all krate known_reads on))) c.each.ensures.paths
-
-pub returns-then-each_counts-clause-no_memory : goal.returns-then-each_counts-clause-no_memory
-returns-then-each_counts-clause-no_memory g c =
+pub returns-then-self-clause-no_memory : goal.returns-then-self-clause-no_memory
+returns-then-self-clause-no_memory g c =
     let all = c.args.self.now in
     let krate = record_of c.args.krate.now in
     let on : all.each_counts ≡ true = search rules in
