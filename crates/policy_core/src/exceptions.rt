@@ -4,8 +4,7 @@ ghost use Rattle.diag_core.specs.File.{Grows};
 ghost use Rattle.deny_text.specs.Fronts.{StandsInFront};
 ghost use Rattle.policy_core.specs.Exceptions.{HasMoreEntries};
 ghost use Rattle.policy_core.specs.validate.Order.{AddsInOrder, PutsExceptionInOrder, PutsFilesInOrder};
-ghost use Rattle.policy_core.specs.validate.Valid.{clarification_judged, exception_in, findings_by_each};
-ghost use Rattle.policy_core.specs.validate.Valid.{kept_by, version_findings};
+ghost use Rattle.policy_core.specs.validate.Valid.{clarification_judged, exception_in, kept_by};
 ghost use Rattle.policy_core.specs.ExceptionsText.{HadMemory, answer_exceptions, answer_overlays, diagnostics_of};
 ghost use Rattle.policy_core.specs.Heard.{IsFileText, IsTextHeard, LoadState, TakesExceptions};
 
