@@ -3,7 +3,7 @@ use Rattle.std.proofs.Common.{◌≡◌, ◌∙◌, ap, ℕ, List, Option}
 use Rattle.spdx_terms.specs.declared.term.ExpressionReq.{ExpressionReq}
 use Rattle.spdx_core.specs.declared.certificates.verdict.Hit.{Hit}
 use Rattle.policy_core.specs.valid.Policy.{Policy}
-use Rattle.check_core.specs.evaluate.Entries.{EntryFamilies, entries_of_terms}
+use Rattle.check_core.specs.evaluate.Entries.{EntryFamilies}
 use Rattle.check_core.specs.evaluate.Evaluation.{Evaluation, term_hits}
 
 pub kept_is : (policy : Policy) (counted : List ℕ) (terms asked : List ExpressionReq) (kept : List (Option Hit)) → asked ≡ terms → kept ≡ term_hits policy counted asked → kept ≡ term_hits policy counted terms

@@ -1,7 +1,6 @@
-use Rattle.std.proofs.Common.{take_all, get_or, ◌≡◌, ◌∙◌, ◌+◌, ◌++◌, ◌∷◌, [], cond, ℕ, List, refl, sym, ap, ap₂, subst, Bool}
+use Rattle.std.proofs.Common.{take_all, get_or, ◌∙◌, ◌+◌, ◌++◌, ◌∷◌, [], cond, ℕ, List, refl, sym, ap, ap₂, subst, Bool}
 use Rattle.std.specs.List.{fold}
 use Rattle.gather_license.specs.files.Calls.{IsFront}
-use Rattle.gather_license.specs.files.KnownReads.{holds}
 use Rattle.gather_license.specs.files.Steps.{with_path}
 use Rattle.gather_license.specs.files.View.{paths_read}
 use Rattle.gather_license.proofs.files.CallLemmas.{agrees_before, goes_itself, goes_then, on_err, starves_behind}

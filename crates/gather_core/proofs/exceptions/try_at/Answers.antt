@@ -1,15 +1,14 @@
-use Rattle.std.proofs.Common.{◌≡◌, ◌∙◌, List, [], Option, refl, sym, ap, subst}
+use Rattle.std.proofs.Common.{◌≡◌, ◌∙◌, List, sym, ap, subst}
 use Rattle.std.proofs.lemmas.Result.{IfOk-weaker, on_err_weaker}
 use Rattle.std.specs.List.{fold}
 use Rattle.std.specs.Prelude.{option_copied}
-use Rattle.std.specs.Option.{option_map_or}
 use Rattle.gather_license.specs.files.Calls.{IsFront}
 use Rattle.gather_license.specs.files.KnownReads.{holds, looked_of}
 use Rattle.gather_license.specs.files.NamedFile.{NamedFileView}
 use Rattle.gather_license.specs.files.Steps.{with_path}
 use Rattle.gather_license.specs.files.View.{paths_read}
 use Rattle.gather_license.proofs.files.CallLemmas.{front_itself, goes_itself, starves_as}
-use Rattle.gather_core.specs.Exceptions.{ExceptionEntry, files_at, named_in}
+use Rattle.gather_core.specs.Exceptions.{files_at, named_in}
 use Rattle.gather_core.proofs.ExceptionLemmas.{files_found, files_unfound}
 use Rattle.gather_core.proofs.exceptions.try_at.Goals as goal
 

@@ -1,4 +1,4 @@
-use Rattle.std.proofs.Common.{ℕ, ◌≡◌, ◌∙◌, ◌≤◌, ◌++◌, List, refl, subst}
+use Rattle.std.proofs.Common.{ℕ, ◌∙◌, List, subst}
 use Rattle.std.specs.List.{fold}
 use Rattle.tree_core.specs.file_reads.Read.{records_of_reads}
 use Rattle.graph_core.specs.Krate.{record_of}

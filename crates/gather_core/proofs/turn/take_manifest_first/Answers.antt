@@ -1,4 +1,4 @@
-use Rattle.std.proofs.Common.{◌≡◌, ◌∙◌, ◌++◌, map}
+use Rattle.std.proofs.Common.{map}
 use Rattle.graph_core.specs.Krate.{record_of}
 use Rattle.gather_license.specs.Clarification.{lent_clarification}
 use Rattle.gather_license.specs.Settled.{scanner_of_scan}

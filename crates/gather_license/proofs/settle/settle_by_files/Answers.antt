@@ -1,4 +1,4 @@
-use Rattle.std.proofs.Common.{refl, sym, map, ◌∙◌}
+use Rattle.std.proofs.Common.{refl, sym, map}
 use Rattle.graph_core.specs.Krate.{record_of}
 use Rattle.gather_license.proofs.files.CallLemmas.{on_err}
 use Rattle.gather_license.specs.declared.settle.SettledLicense.{SettledLicense}

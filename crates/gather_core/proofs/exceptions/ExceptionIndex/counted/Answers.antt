@@ -1,5 +1,5 @@
-use Rattle.std.proofs.Common.{◌≡◌, ◌∙◌, true, false, [], sym, ap, subst, rules}
-use Rattle.std.proofs.lemmas.Result.{IfOk-weaker, on_err_weaker}
+use Rattle.std.proofs.Common.{◌≡◌, ◌∙◌, true, false, sym, ap, subst, rules}
+use Rattle.std.proofs.lemmas.Result.{on_err_weaker}
 use Rattle.std.specs.List.{fold}
 use Rattle.graph_core.specs.Krate.{record_of}
 use Rattle.gather_license.specs.files.Calls.{IsFront}
@@ -7,7 +7,7 @@ use Rattle.gather_license.specs.files.Steps.{with_path}
 use Rattle.gather_license.specs.files.View.{paths_read}
 use Rattle.gather_license.proofs.files.CallLemmas.{front_itself, front_looks, goes_itself, on_err, starves_as, starves_behind}
 use Rattle.gather_core.specs.Exceptions.{named_by_each, named_for}
-use Rattle.gather_core.proofs.ExceptionLemmas.{counted_each, counted_first, named_each, named_none}
+use Rattle.gather_core.proofs.ExceptionLemmas.{counted_first, named_each, named_none}
 use Rattle.gather_core.proofs.exceptions.ExceptionIndex.counted.Goals as goal
 
 pub returns-then-self-clause-no_memory : goal.returns-then-self-clause-no_memory
