@@ -1,9 +1,8 @@
 -- A file of exceptions with an empty `clarify` is read as one without it.
-use Rattle.std.proofs.Common.{◌≡◌, ◌∙◌, ℕ, Bool, true, false, cond, List, [], ◌∷◌, ◌++◌, Option, Some, None, Ok, Err, codes, refl, sym, ap}
+use Rattle.std.proofs.Common.{◌≡◌, ◌∙◌, ℕ, true, false, cond, List, [], ◌∷◌, ◌++◌, Option, Ok, Err, codes, refl, sym, ap}
 use Rattle.std.specs.Prelude.{option_map, unwrap_or}
 use Rattle.std.specs.Str.{bytes_eq}
 use Rattle.std.proofs.lemmas.Slice.Eq.{bytes_eq-Decides}
-use Rattle.spdx_terms.specs.catalog.Catalog.{CatalogLists}
 use Rattle.deny_text.specs.declared.span.Span.{Span}
 use Rattle.toml_subset.specs.Data.{Entries, Toml, no_entry, entry}
 use Rattle.toml_subset.specs.shapes.Shaped.{ShapeReading, shaped_of, shaped_then}
