@@ -78,6 +78,7 @@ fn with_manifest(
     match manifest {
         Some(read) => {
             let mut all = reads.into_vec();
+            all.reserve_exact(1)?;
             all.insert(place, read)?;
             Ok(Reads::from(all))
         }

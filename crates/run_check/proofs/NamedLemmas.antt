@@ -18,7 +18,7 @@ use Rattle.run_command.proofs.RiseLemmas.{reads_rise_between}
 use Rattle.check_core.specs.declared.report.CrateReport.{CrateReport}
 use Rattle.run_check.specs.declared.report.Report.{Report}
 use Rattle.run_check.specs.Found.{all_gathered}
-use Rattle.run_check.specs.Named.{FailedReadsRise, ReportsCertificates, ReportsFindings, ReportsOwnReads, ReportsPolicy, ReportsUnneeded, reads_in}
+use Rattle.run_check.specs.Named.{FailedReadsRise, ReportsCertificates, ReportsFindings, ReportsOwnReads, ReportsPolicy, ReportsUnneeded}
 use Rattle.run_check.specs.Report.{IsReport, IsReportOf, verdicts_in}
 
 -- the reads that reports list

@@ -29,7 +29,7 @@ use Rattle.gather_license.specs.location.Location.{located_by, manifest_record}
 use Rattle.gather_license.specs.expression.Scanned.{Scanner}
 use Rattle.gather_license.specs.Clarification.{ClarificationView, named_files, named_in}
 use Rattle.gather_license.specs.Priority.{folder_of, holding_clarification, is_nothing, looks_at_files, records_of, records_with}
-use Rattle.gather_core.specs.Exceptions.{ExceptionEntry, ExceptionRules, further_paths, is_for, looked_for}
+use Rattle.gather_core.specs.Exceptions.{ExceptionEntry, ExceptionRules, further_paths, is_for, looked_for, named_for}
 use Rattle.gather_core.specs.Taken.{turn_with}
 use Rattle.gather_core.specs.Turns.{asks_manifest, field_text, in_order, not_asked, records_in}
 use Rattle.run_found.specs.Hearing.{TellsContent}
@@ -250,14 +250,14 @@ module _ (one other : FolderReads) where
       ap₂ (λ paths others. paths ++ others) (looked_alike entry.files (agree_front (looked_of one entry.files) behind agree)).0
       (each_looked entries (agree_back (looked_of one entry.files) behind agree))
 
-  looked_where : (each_counts : Bool) (entries : List ExceptionEntry) → AllAgree (cond each_counts (first_spellings (flat_map (λ (entry : ExceptionEntry). looked_of one entry.files) entries)) [])
-      → cond each_counts (first_spellings (flat_map (λ (entry : ExceptionEntry). looked_of one entry.files) entries)) []
-      ≡ cond each_counts (first_spellings (flat_map (λ (entry : ExceptionEntry). looked_of other entry.files) entries)) []
-  looked_where true entries agree = ap first_spellings (each_looked entries (respelled (flat_map (λ (entry : ExceptionEntry). looked_of one entry.files) entries) agree))
-  looked_where false entries agree = refl
+  named_where : (each_counts : Bool) (entries : List ExceptionEntry) → AllAgree (cond each_counts (flat_map (λ (entry : ExceptionEntry). looked_of one entry.files) entries) [])
+      → cond each_counts (flat_map (λ (entry : ExceptionEntry). looked_of one entry.files) entries) []
+      ≡ cond each_counts (flat_map (λ (entry : ExceptionEntry). looked_of other entry.files) entries) []
+  named_where true entries agree = each_looked entries agree
+  named_where false entries agree = refl
 
   looked_for_alike : (rules : ExceptionRules) (krate : CrateRecord) → AllAgree (looked_for rules krate one) → looked_for rules krate one ≡ looked_for rules krate other
-  looked_for_alike rules krate agree = looked_where rules.each_counts (filter (is_for krate) rules.entries) agree
+  looked_for_alike rules krate agree = ap first_spellings (named_where rules.each_counts (filter (is_for krate) rules.entries) (respelled (named_for rules krate one) agree))
 
   agree_kept : (test : List ℕ → Bool) (paths : List (List ℕ)) → AllAgree paths → AllAgree (filter test paths)
   agree_kept test [] all = tt

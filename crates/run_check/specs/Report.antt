@@ -38,8 +38,8 @@ source_in answer = option_map (λ own. own.source) answer
 
 -- The report on a crate, by a valid policy: it lists the crate's reads; it tells the expression that has priority, by
 -- what their answers say, where that comes from and what is noted of it, of which there is nothing where there is no
--- expression; and the verdict on that, by the exceptions that count by what the answers say, with what shows it. Where a
--- field is in its manifest is left out here.
+-- expression; and the verdict on that, by the exceptions that count by what the answers say, with what shows it. Where
+-- a field is in its manifest is left out here.
 pub record IsReportOf (given : CommandArguments) (policy : ValidConfig) (one : ReadsOfCrate)
     (report : CrateReport) : Type 0 where
   pub id : report.id ≡ one.krate.id

@@ -33,8 +33,9 @@ pub record IsSettled (given : CommandArguments) (hearing : RequestHearing) (poli
   pub records : AreReads (count_metadata given.request hearing) (reads_of_all hearing.crates)
   pub turns : AreTurnsBy (files_loaded given.request hearing) (turns_in given hearing policy) licenses last
 
--- The licence of a crate is the one that has priority by what the answers to its own reads say, the exceptions are those
--- that count by these answers, and its reads are kept as they were made. Of all crates this follows from their turns.
+-- The licence of a crate is the one that has priority by what the answers to its own reads say, the exceptions are
+-- those that count by these answers, and its reads are kept as they were made. Of all crates this follows from their
+-- turns.
 pub record IsLicenseHeard (scanner : Scanner) (policy : ValidConfig) (one : ReadsOfCrate)
     (license : KrateLicense) : Type 0 where
   pub krate : krate_of license ≡ one.krate

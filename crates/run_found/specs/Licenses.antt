@@ -45,8 +45,8 @@ abbrev pub priority_heard : Scanner → ValidConfig → ReadsOfCrate → Option 
 priority_heard scanner policy one =
     priority_of scanner (clarifications_of one.krate (entries_of policy)) one.krate (known_reads_by one.reads)
 
--- The exceptions of the policy that count for a crate, as their places in its list, by what the answers to its own reads
--- say.
+-- The exceptions of the policy that count for a crate, as their places in its list, by what the answers to its own
+-- reads say.
 abbrev pub counted_heard : ValidConfig → ReadsOfCrate → List ℕ
 counted_heard policy one = counted_of (exception_rules policy) one.krate (known_reads_by one.reads)
 

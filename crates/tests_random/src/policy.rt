@@ -25,7 +25,13 @@ fn put_files(out: &mut AnswerText, numbers: &mut Numbers) {
         if step > 0 {
             out.put(", ");
         }
-        let path = numbers.pick(&["LICENSE", "LICENSE", "./LICENSE", "s/../LICENSE", "Cargo.toml"]);
+        let path = numbers.pick(&[
+            "LICENSE",
+            "LICENSE",
+            "./LICENSE",
+            "s/../LICENSE",
+            "Cargo.toml",
+        ]);
         let hash = numbers.pick(&HASHES);
         write!(out, "{{ path = \"{path}\", hash = {hash} }}");
     }

@@ -127,7 +127,8 @@ needs_version_3 file exception =
 -- an exception that has the key, also with no file, under another version than 3
 abbrev pub version_finding : ℤ → ℕ → Exception → Option Diagnostic
 version_finding version file exception =
-    if not (is_version_3 version) && is_some exception.license_files then Some (needs_version_3 file exception) else None
+    if not (is_version_3 version) && is_some exception.license_files then Some (needs_version_3 file exception)
+    else None
 
 -- one for each such exception, in order
 abbrev pub version_findings : ℤ → ℕ → List Exception → List Diagnostic

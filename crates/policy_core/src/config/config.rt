@@ -14,7 +14,7 @@ use std::alloc::Global;
 /// What a policy says of licences.
 #[derive(Drop)]
 pub struct Config {
-    /// Which rules the policy goes by: with version 3 each exception that matches a crate counts, and may name
+    /// Which rules the policy goes by: with version 3 each exception that holds for a crate counts, and may name
     /// files; with any other one the first that matches does.
     pub version: i32,
     pub private: Private,

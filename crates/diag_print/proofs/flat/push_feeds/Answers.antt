@@ -1,7 +1,7 @@
 use Rattle.std.proofs.Common.{rules, ◌∙◌, ap, ◌++◌, sym, Some, None, string_bytes, lit<}
 use Rattle.std.proofs.lemmas.Str.Pattern.{split_parts}
 use Rattle.diag_print.proofs.FlatLemmas.{flat-plain, flat_step, OnOk-appended}
-use Rattle.refusal_help.proofs.flat.push_flat.Goals as goal
+use Rattle.diag_print.proofs.flat.push_feeds.Goals as goal
 
 pub lines-preserved : goal.lines-preserved
 lines-preserved c =

@@ -2,7 +2,7 @@ use Rattle.std.proofs.Common.{◌≡◌, ◌++◌, string_bytes, length}
 use denote.Text.{Utf8}
 use denote.Shadow.{shadow}
 use Rattle.diag_print.specs.Human.{flat_text}
-use Rattle.diag_print.proofs.flat.push_flat.Given as goal
+use Rattle.diag_print.proofs.flat.push_feeds.Given as goal
 
 -- what was written, and the rest on one line, are the whole
 abbrev pub invariant-lines : goal.invariant-lines
