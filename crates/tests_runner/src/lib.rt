@@ -14,7 +14,8 @@ pub use lines::put_run;
 
 /// Files of cases: of the first path and failures, of what words ask for and how they are refused, of metadata, of
 /// policies, of what is found, of what is read of each crate, of the calls of the tree, of licence families, of
-/// listings, of the sample, of own catalogues and texts, of verdict files, and of policies by their version.
+/// listings, of the sample, of own catalogues and texts, of verdict files, of policies by their version, and of
+/// clarifications of the exceptions file.
 const FILES: [&str; 15] = [
     "run/gate.txt",
     "run/command.txt",
