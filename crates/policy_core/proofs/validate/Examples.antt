@@ -64,12 +64,12 @@ one_of_three : findings_by_each (clarification_judged lists 3 false)
 one_of_three = refl
 
 -- those that are kept have their file, and whether that is the exceptions file
-overlays_kept : map (λ one. (one.file_id, one.overlay, one.expr_offset, one.whole))
+overlays_kept : map {B = ℕ × Bool × ℕ × Option Span} (λ one. (one.file_id, one.overlay, one.expr_offset, one.whole))
     (kept_by (clarification_judged lists 4 true) (clarification [] false ∷ clarification (codes "ISC") false ∷ clarification (codes "MIT") true ∷ []))
     ≡ (4, true, 10, None) ∷ (4, true, 10, Some (at 10 13)) ∷ []
 overlays_kept = refl
 
-own_kept : map (λ one. (one.file_id, one.overlay)) (kept_by (clarification_judged lists 3 false) (clarification (codes "ISC") false ∷ [])) ≡ (3, false) ∷ []
+own_kept : map {B = ℕ × Bool} (λ one. (one.file_id, one.overlay)) (kept_by (clarification_judged lists 3 false) (clarification (codes "ISC") false ∷ [])) ≡ (3, false) ∷ []
 own_kept = refl
 
 -- an exception for `a` that allows nothing, by the files that it names
