@@ -90,7 +90,8 @@ reads_of_holds = refl
 
 -- a clarification of the exceptions file, number 1, behind one of the policy
 abbrev laid_over : List ℕ → List ℕ → List ClarificationView
-laid_over own path = clarified own ++ map (λ one. record one { file = 1; overlay = true }) (clarified path)
+laid_over own path =
+    clarified own ++ map {A = ClarificationView} {B = ClarificationView} (λ one. record one { file = 1; overlay = true }) (clarified path)
 
 -- it settles where the policy's does not hold, and is told as what it is; where the policy's holds, that does
 by_overlay : (priority_of scanner (laid_over (codes "COPYING") (codes "LICENSE")) (krate None) (known_reads listed (codes "LICENSE") (text (10 ∷ [])))
