@@ -61,6 +61,7 @@ metadata "$top/examples/rejected"
 compare rejected-json "$top/examples/rejected" "'$program' deny --metadata-path '$room/metadata.json' -f json check licenses"
 metadata "$top/examples/policy"
 compare policy-old "$top/examples/policy" "'$program' deny --metadata-path '$room/metadata.json' --config old.toml check licenses"
+compare policy-info "$top/examples/policy" "'$program' deny -L info --metadata-path '$room/metadata.json' check licenses"
 
 # An exception that is tied to a file: a record that was right before a word of the file changed, and a check behind that.
 folder="$room/reviewed"

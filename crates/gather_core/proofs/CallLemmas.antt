@@ -215,26 +215,26 @@ abbrev manifest_asked : Bool → CrateRecord → List File → ReadResult → Li
 manifest_asked asks krate files manifest = option_to_list (located_where asks krate files manifest).read
 
 -- the records of a turn before the files of exceptions are looked at, by what is read
-abbrev pub wanted : Scanner → ℕ → List ClarificationView → ExceptionRules → CrateRecord → List File → FolderReads → ReadResult → List ReadRecord
-wanted scanner policy clarifications exceptions krate files known_reads manifest = records_before (turn_with scanner policy clarifications exceptions krate known_reads manifest files)
+abbrev pub wanted : Scanner → List ClarificationView → ExceptionRules → CrateRecord → List File → FolderReads → ReadResult → List ReadRecord
+wanted scanner clarifications exceptions krate files known_reads manifest = records_before (turn_with scanner clarifications exceptions krate known_reads manifest files)
 
 -- the manifest first
-wanted_first : (scanner : Scanner) (policy : ℕ) (clarifications : List ClarificationView) (exceptions : ExceptionRules) (krate : CrateRecord) (files : List File) (known_reads : FolderReads) (manifest : ReadResult) → is_nothing clarifications ≡ true
-    → wanted scanner policy clarifications exceptions krate files known_reads manifest ≡ manifest_asked (is_some krate.license) krate files manifest ++ records_of scanner clarifications krate known_reads
-wanted_first scanner policy [] exceptions krate files known_reads manifest none = refl
-wanted_first scanner policy (one ∷ more) exceptions krate files known_reads manifest none = cc
+wanted_first : (scanner : Scanner) (clarifications : List ClarificationView) (exceptions : ExceptionRules) (krate : CrateRecord) (files : List File) (known_reads : FolderReads) (manifest : ReadResult) → is_nothing clarifications ≡ true
+    → wanted scanner clarifications exceptions krate files known_reads manifest ≡ manifest_asked (is_some krate.license) krate files manifest ++ records_of scanner clarifications krate known_reads
+wanted_first scanner [] exceptions krate files known_reads manifest none = refl
+wanted_first scanner (one ∷ more) exceptions krate files known_reads manifest none = cc
 
 -- the files first
-wanted_last : (scanner : Scanner) (policy : ℕ) (clarifications : List ClarificationView) (exceptions : ExceptionRules) (krate : CrateRecord) (files : List File) (known_reads : FolderReads) (manifest : ReadResult) → is_nothing clarifications ≡ false
-    → wanted scanner policy clarifications exceptions krate files known_reads manifest ≡ records_of scanner clarifications krate known_reads ++ manifest_asked (asks_manifest clarifications krate known_reads) krate files manifest
-wanted_last scanner policy clarifications exceptions krate files known_reads manifest some =
+wanted_last : (scanner : Scanner) (clarifications : List ClarificationView) (exceptions : ExceptionRules) (krate : CrateRecord) (files : List File) (known_reads : FolderReads) (manifest : ReadResult) → is_nothing clarifications ≡ false
+    → wanted scanner clarifications exceptions krate files known_reads manifest ≡ records_of scanner clarifications krate known_reads ++ manifest_asked (asks_manifest clarifications krate known_reads) krate files manifest
+wanted_last scanner clarifications exceptions krate files known_reads manifest some =
     ap (λ b. in_order b (located_where (asks_manifest clarifications krate known_reads) krate files manifest).read (records_of scanner clarifications krate known_reads)) some
 
 -- ---- what the turn begins with
 
-module _ (scanner : Scanner) (policy : ℕ) (clarifications : List ClarificationView) (exceptions : ExceptionRules) (krate : CrateRecord) (files : List File) (located : LocatedField) (settled : SettledLicense) (left : List File) where
+module _ (scanner : Scanner) (clarifications : List ClarificationView) (exceptions : ExceptionRules) (krate : CrateRecord) (files : List File) (located : LocatedField) (settled : SettledLicense) (left : List File) where
   abbrev pub IsBegunSo : FolderReads → ReadResult → Type 0
-  IsBegunSo known_reads manifest = IsBegunFrom (turn_with scanner policy clarifications exceptions krate known_reads manifest files) (begun_of located settled) left
+  IsBegunSo known_reads manifest = IsBegunFrom (turn_with scanner clarifications exceptions krate known_reads manifest files) (begun_of located settled) left
 
   abbrev pub reads_begun : List ReadRecord
   reads_begun = in_order (is_nothing clarifications) located.read settled.pack.reads
@@ -260,7 +260,7 @@ module _ (scanner : Scanner) (policy : ℕ) (clarifications : List Clarification
           folder = from.folder;
           made = from.made;
           agrees = from.agrees;
-          by_any = λ other agrees. begun_first scanner policy clarifications exceptions krate other manifest files located settled left none here.is_so (from.by_any other agrees);
+          by_any = λ other agrees. begun_first scanner clarifications exceptions krate other manifest files located settled left none here.is_so (from.by_any other agrees);
         } in
         record {
           reads = here.reads ++ then.reads;
@@ -294,7 +294,7 @@ module _ (scanner : Scanner) (policy : ℕ) (clarifications : List Clarification
           folder = from.folder;
           made = from.made;
           agrees = from.agrees;
-          by_any = λ other agrees. begun_last scanner policy clarifications exceptions krate other manifest files located settled left (from.by_any other agrees) then.is_so;
+          by_any = λ other agrees. begun_last scanner clarifications exceptions krate other manifest files located settled left (from.by_any other agrees) then.is_so;
         } in
         record {
           reads = here.reads ++ then.reads;
@@ -309,28 +309,28 @@ module _ (scanner : Scanner) (policy : ℕ) (clarifications : List Clarification
 
 -- ---- for want of memory
 
-module _ {told tells : Option Content} {before after : ℕ} {old new : List Call} (scanner : Scanner) (policy : ℕ) (clarifications : List ClarificationView) (exceptions : ExceptionRules) (krate : CrateRecord) (files : List File) where
+module _ {told tells : Option Content} {before after : ℕ} {old new : List Call} (scanner : Scanner) (clarifications : List ClarificationView) (exceptions : ExceptionRules) (krate : CrateRecord) (files : List File) where
   -- as the manifest was read before the files
   pub starves_first : is_nothing clarifications ≡ true → StarvesTaking told tells before after old new (folder_of krate) (λ known_reads manifest. option_to_list (located_where (is_some krate.license) krate files manifest).read)
-      → StarvesTaking told tells before after old new (folder_of krate) (wanted scanner policy clarifications exceptions krate files)
+      → StarvesTaking told tells before after old new (folder_of krate) (wanted scanner clarifications exceptions krate files)
   starves_first none starves =
-      starves_wider (folder_of krate) (λ known_reads manifest. manifest_asked (is_some krate.license) krate files manifest) (wanted scanner policy clarifications exceptions krate files)
-      (λ known_reads manifest. (records_of scanner clarifications krate known_reads, wanted_first scanner policy clarifications exceptions krate files known_reads manifest none)) starves
+      starves_wider (folder_of krate) (λ known_reads manifest. manifest_asked (is_some krate.license) krate files manifest) (wanted scanner clarifications exceptions krate files)
+      (λ known_reads manifest. (records_of scanner clarifications krate known_reads, wanted_first scanner clarifications exceptions krate files known_reads manifest none)) starves
 
   -- as the files were read before the manifest
   pub starves_last : is_nothing clarifications ≡ false → StarvesAmong told tells before after old new (folder_of krate) (records_of scanner clarifications krate)
-      → StarvesTaking told tells before after old new (folder_of krate) (wanted scanner policy clarifications exceptions krate files)
+      → StarvesTaking told tells before after old new (folder_of krate) (wanted scanner clarifications exceptions krate files)
   starves_last some starves =
-      starves_wider (folder_of krate) (λ known_reads manifest. records_of scanner clarifications krate known_reads) (wanted scanner policy clarifications exceptions krate files)
-      (λ known_reads manifest. (manifest_asked (asks_manifest clarifications krate known_reads) krate files manifest, wanted_last scanner policy clarifications exceptions krate files known_reads manifest some))
+      starves_wider (folder_of krate) (λ known_reads manifest. records_of scanner clarifications krate known_reads) (wanted scanner clarifications exceptions krate files)
+      (λ known_reads manifest. (manifest_asked (asks_manifest clarifications krate known_reads) krate files manifest, wanted_last scanner clarifications exceptions krate files known_reads manifest some))
       (record { reads = starves.reads; next = starves.next; made = starves.made; front = starves.front })
 
-module _ {told mid tells : Option Content} {before middle after : ℕ} {old between new : List Call} (scanner : Scanner) (policy : ℕ) (clarifications : List ClarificationView) (exceptions : ExceptionRules) (krate : CrateRecord) (files : List File) where
+module _ {told mid tells : Option Content} {before middle after : ℕ} {old between new : List Call} (scanner : Scanner) (clarifications : List ClarificationView) (exceptions : ExceptionRules) (krate : CrateRecord) (files : List File) where
   -- as the files were read behind the manifest
   pub starves_first_settling : (located : LocatedField) (left : List File) → is_nothing clarifications ≡ true
       → IsByOwnReads told mid before middle old between (folder_of krate) (option_to_list located.read) (λ known_reads manifest. IsLocatedWhere (is_some krate.license) krate files manifest located left)
       → StarvesAmong mid tells middle after between new (folder_of krate) (records_of scanner clarifications krate)
-      → StarvesTaking told tells before after old new (folder_of krate) (wanted scanner policy clarifications exceptions krate files)
+      → StarvesTaking told tells before after old new (folder_of krate) (wanted scanner clarifications exceptions krate files)
   starves_first_settling located left none here then =
       let asks = is_some krate.license in
       let manifest = manifest_by here.reads in
@@ -347,10 +347,10 @@ module _ {told mid tells : Option Content} {before middle after : ℕ} {old betw
         next = then.next;
         made = reads_lacking (folder_of krate) here.reads then.reads then.next here.made then.made;
         front =
-            subst (λ (heard : FolderReads). IsFront (records_of_reads (here.reads ++ then.reads) ++ next) (wanted scanner policy clarifications exceptions krate files heard (manifest_by (here.reads ++ then.reads)))) (sym all_known_reads)
-            (subst (λ (heard : ReadResult). IsFront (records_of_reads (here.reads ++ then.reads) ++ next) (wanted scanner policy clarifications exceptions krate files known_reads heard)) (sym all_manifest)
+            subst (λ (heard : FolderReads). IsFront (records_of_reads (here.reads ++ then.reads) ++ next) (wanted scanner clarifications exceptions krate files heard (manifest_by (here.reads ++ then.reads)))) (sym all_known_reads)
+            (subst (λ (heard : ReadResult). IsFront (records_of_reads (here.reads ++ then.reads) ++ next) (wanted scanner clarifications exceptions krate files known_reads heard)) (sym all_manifest)
             (subst (IsFront (records_of_reads (here.reads ++ then.reads) ++ next))
-            (sym (wanted_first scanner policy clarifications exceptions krate files known_reads manifest none ∙ ap (λ (front : List ReadRecord). front ++ records_of scanner clarifications krate known_reads) (sym asked)))
+            (sym (wanted_first scanner clarifications exceptions krate files known_reads manifest none ∙ ap (λ (front : List ReadRecord). front ++ records_of scanner clarifications krate known_reads) (sym asked)))
             (subst (λ (front : List ReadRecord). IsFront front (records_of_reads here.reads ++ records_of scanner clarifications krate known_reads)) (sym (with_next here.reads then.reads next))
             (front_under (records_of_reads here.reads) (records_of_reads then.reads ++ next) (records_of scanner clarifications krate known_reads) then.front))));
       }
@@ -359,7 +359,7 @@ module _ {told mid tells : Option Content} {before middle after : ℕ} {old betw
   pub starves_last_locating : (settled : SettledLicense) → is_nothing clarifications ≡ false
       → IsByReads told mid before middle old between (folder_of krate) settled.pack.reads (λ known_reads. IsSettledFrom scanner clarifications krate known_reads settled)
       → StarvesTaking mid tells middle after between new (folder_of krate) (λ known_reads manifest. option_to_list (located_where (not (is_clarified settled.by) && is_some krate.license) krate files manifest).read)
-      → StarvesTaking told tells before after old new (folder_of krate) (wanted scanner policy clarifications exceptions krate files)
+      → StarvesTaking told tells before after old new (folder_of krate) (wanted scanner clarifications exceptions krate files)
   starves_last_locating settled some here then =
       let asks = not (is_clarified settled.by) && is_some krate.license in
       let known_reads = known_reads_by here.reads in
@@ -377,10 +377,10 @@ module _ {told mid tells : Option Content} {before middle after : ℕ} {old betw
         next = then.next;
         made = reads_lacking (folder_of krate) here.reads then.reads then.next here.made then.made;
         front =
-            subst (λ (heard : FolderReads). IsFront (records_of_reads (here.reads ++ then.reads) ++ next) (wanted scanner policy clarifications exceptions krate files heard (manifest_by (here.reads ++ then.reads)))) (sym all_known_reads)
-            (subst (λ (heard : ReadResult). IsFront (records_of_reads (here.reads ++ then.reads) ++ next) (wanted scanner policy clarifications exceptions krate files known_reads heard)) (sym all_manifest)
+            subst (λ (heard : FolderReads). IsFront (records_of_reads (here.reads ++ then.reads) ++ next) (wanted scanner clarifications exceptions krate files heard (manifest_by (here.reads ++ then.reads)))) (sym all_known_reads)
+            (subst (λ (heard : ReadResult). IsFront (records_of_reads (here.reads ++ then.reads) ++ next) (wanted scanner clarifications exceptions krate files known_reads heard)) (sym all_manifest)
             (subst (IsFront (records_of_reads (here.reads ++ then.reads) ++ next))
-            (sym (wanted_last scanner policy clarifications exceptions krate files known_reads manifest some
+            (sym (wanted_last scanner clarifications exceptions krate files known_reads manifest some
             ∙ ap₂ (λ (front back : List ReadRecord). front ++ back) (sym settled_are)
             (ap (λ b. manifest_asked b krate files manifest) (sym (asked_where scanner clarifications krate known_reads settled.by (here.is_so.by_any known_reads here.is_so.agrees).by_is)))))
             (subst (λ (front : List ReadRecord). IsFront front (records_of_reads here.reads ++ manifest_asked asks krate files manifest)) (sym (with_next here.reads then.reads next))

@@ -94,9 +94,9 @@ paths_in_order false manifest reads none =
 
 -- ---- one turn
 
-module _ (scanner : Scanner) (policy : ℕ) (clarifications : List ClarificationView) (rules : ExceptionRules) (krate : CrateRecord) (files : List File) (located : LocatedLicense) (left : List File) where
+module _ (scanner : Scanner) (clarifications : List ClarificationView) (rules : ExceptionRules) (krate : CrateRecord) (files : List File) (located : LocatedLicense) (left : List File) where
   abbrev turn_at : FolderReads → ReadResult → TurnInput
-  turn_at known_reads manifest = turn_with scanner policy clarifications rules krate known_reads manifest files
+  turn_at known_reads manifest = turn_with scanner clarifications rules krate known_reads manifest files
 
   abbrev begun_records : List ReadRecord
   begun_records = in_order (is_nothing clarifications) located.manifest located.pack.reads
@@ -221,30 +221,30 @@ module _ (scanner : Scanner) (policy : ℕ) (clarifications : List Clarification
 
 -- ---- the turn as a whole
 
-module _ {told mid : Option Content} {before middle : ℕ} {old between : List Call} (scanner : Scanner) (policy : ℕ) (clarifications : List ClarificationView) (rules : ExceptionRules) (krate : CrateRecord) (files : List File) (located : LocatedLicense) (left : List File)
+module _ {told mid : Option Content} {before middle : ℕ} {old between : List Call} (scanner : Scanner) (clarifications : List ClarificationView) (rules : ExceptionRules) (krate : CrateRecord) (files : List File) (located : LocatedLicense) (left : List File)
     (tells : Option Content) (after : ℕ) (new : List Call)
-    (by : IsByOwnReads told mid before middle old between (folder_of krate) (begun_records scanner policy clarifications rules krate files located left) (IsBegunAt scanner policy clarifications rules krate files located left)) where
+    (by : IsByOwnReads told mid before middle old between (folder_of krate) (begun_records scanner clarifications rules krate files located left) (IsBegunAt scanner clarifications rules krate files located left)) where
   pub own_taken : (result : Result TakenLicense AllocError) (manifest_first : Bool) → manifest_first ≡ is_nothing clarifications → IfOk result (λ taken. Keeps located taken)
       → IfOk result (λ taken. CountsBy mid tells middle after between new rules krate manifest_first located taken)
-      → IfOk result (λ taken. IsByOwnReads told tells before after old new (folder_of krate) taken.reads (λ known_reads manifest. IsTaken (turn_with scanner policy clarifications rules krate known_reads manifest files) taken left))
+      → IfOk result (λ taken. IsByOwnReads told tells before after old new (folder_of krate) taken.reads (λ known_reads manifest. IsTaken (turn_with scanner clarifications rules krate known_reads manifest files) taken left))
   own_taken (Ok taken) manifest_first is keeps counts =
-      own_counted scanner policy clarifications rules krate files located left by taken keeps (subst (λ (b : Bool). CountsBy mid tells middle after between new rules krate b located taken) is counts)
+      own_counted scanner clarifications rules krate files located left by taken keeps (subst (λ (b : Bool). CountsBy mid tells middle after between new rules krate b located taken) is counts)
   own_taken (Err error) manifest_first is keeps counts = tt
 
   pub starves_taken : (result : Result TakenLicense AllocError)
       → OnErr result (Starves mid tells middle after between new located.pack (λ known_reads. fold with_path (paths_read located.pack.reads) (named_for rules krate known_reads)))
-      → OnErr result (StarvesTaking told tells before after old new (folder_of krate) (λ known_reads manifest. records_in (turn_with scanner policy clarifications rules krate known_reads manifest files)))
+      → OnErr result (StarvesTaking told tells before after old new (folder_of krate) (λ known_reads manifest. records_in (turn_with scanner clarifications rules krate known_reads manifest files)))
   starves_taken (Ok taken) starves = tt
-  starves_taken (Err error) starves = starves_counting scanner policy clarifications rules krate files located left by starves
+  starves_taken (Err error) starves = starves_counting scanner clarifications rules krate files located left by starves
 
 -- memory was wanting before the files of exceptions were looked at
-pub starves_behind_begun : {told tells : Option Content} {before after : ℕ} {old new : List Call} (scanner : Scanner) (policy : ℕ) (clarifications : List ClarificationView) (rules : ExceptionRules) (krate : CrateRecord) (files : List File)
-    → StarvesTaking told tells before after old new (folder_of krate) (λ known_reads manifest. records_before (turn_with scanner policy clarifications rules krate known_reads manifest files))
-    → StarvesTaking told tells before after old new (folder_of krate) (λ known_reads manifest. records_in (turn_with scanner policy clarifications rules krate known_reads manifest files))
-starves_behind_begun scanner policy clarifications rules krate files starves =
-    starves_wider (folder_of krate) (λ known_reads manifest. records_before (turn_with scanner policy clarifications rules krate known_reads manifest files))
-    (λ known_reads manifest. records_in (turn_with scanner policy clarifications rules krate known_reads manifest files))
-    (λ known_reads manifest. (map (file_record known_reads) (paths_behind (turn_with scanner policy clarifications rules krate known_reads manifest files)), refl)) starves
+pub starves_behind_begun : {told tells : Option Content} {before after : ℕ} {old new : List Call} (scanner : Scanner) (clarifications : List ClarificationView) (rules : ExceptionRules) (krate : CrateRecord) (files : List File)
+    → StarvesTaking told tells before after old new (folder_of krate) (λ known_reads manifest. records_before (turn_with scanner clarifications rules krate known_reads manifest files))
+    → StarvesTaking told tells before after old new (folder_of krate) (λ known_reads manifest. records_in (turn_with scanner clarifications rules krate known_reads manifest files))
+starves_behind_begun scanner clarifications rules krate files starves =
+    starves_wider (folder_of krate) (λ known_reads manifest. records_before (turn_with scanner clarifications rules krate known_reads manifest files))
+    (λ known_reads manifest. records_in (turn_with scanner clarifications rules krate known_reads manifest files))
+    (λ known_reads manifest. (map (file_record known_reads) (paths_behind (turn_with scanner clarifications rules krate known_reads manifest files)), refl)) starves
 
 -- the field's place is kept
 pub points_taken : (located : LocatedLicense) (files : List File) (words : List ℕ) (result : Result TakenLicense AllocError) → IfOk result (λ taken. Keeps located taken)

@@ -4,6 +4,7 @@ pub mod CrateTurns
 mod Examples
 pub mod ExceptionLemmas
 pub mod GatheredLemmas
+mod OverlayLemmas
 pub mod PickLemmas
 pub mod PlacedLemmas
 pub mod RisingLemmas

@@ -16,7 +16,7 @@ use Rattle.graph_core.specs.Krate.{CrateRecord}
 use Rattle.tree_core.specs.file_reads.Heard.{ReadResult, failed, absent, wrong_kind, not_utf8, text, entries}
 use Rattle.gather_license.specs.files.KnownReads.{FolderReads, holds, missing_from}
 use Rattle.policy_parts.specs.spec.Matching.{spec_matches}
-use Rattle.gather_license.specs.location.Location.{files_by, files_with_manifest, joined_by, span_in}
+use Rattle.gather_license.specs.location.Location.{coord_at, files_by, files_with_manifest, joined_by, span_in}
 use Rattle.diag_core.specs.texts.Synthetic.{text_at}
 use Rattle.gather_core.specs.findings.Cuts.{LabelLies, labels_of, text_under}
 use Rattle.gather_core.proofs.findings.GrowLemmas.{grows_itself}
@@ -24,13 +24,13 @@ use Rattle.gather_core.proofs.findings.LicenseLemmas.{info_grown, place_grown, s
 use Rattle.gather_license.specs.declared.settling.FilesSeen.{FilesSeen}
 use Rattle.gather_license.specs.declared.settling.LicenseBasis.{LicenseBasis}
 use Rattle.gather_license.specs.declared.settling.LicenseBasis.TheVariants.{Clarified, Field, Files}
-use Rattle.gather_license.specs.Clarification.{ClarificationView, PlacedFile, held_in, named_in}
+use Rattle.gather_license.specs.Clarification.{ClarificationView, PlacedFile, held_in, named_in, place_of, span_at}
 use Rattle.gather_license.specs.Priority.{by_seen, field_of, files_scanned, holding_clarification, seen_by, settling_by}
-use Rattle.gather_license.specs.Settled.{missing_in, missing_of, span_at}
+use Rattle.gather_license.specs.Settled.{missing_in, missing_of}
 use Rattle.gather_core.specs.declared.summary.KrateLicense.{KrateLicense}
 use Rattle.gather_core.specs.declared.turn.TakenLicense.{TakenLicense}
 use Rattle.gather_core.specs.Entries.{ClarificationEntry, clarifications_of}
-use Rattle.gather_core.specs.Premises.{ArePlacedIn, ByStands, Grows, IsPlacedAt, IsClarificationPlaced, PlaceLies}
+use Rattle.gather_core.specs.Premises.{ArePlacedIn, ByStands, CoordLies, Grows, IsPlacedAt, IsClarificationPlaced, PlaceLies}
 use Rattle.gather_core.specs.Taken.{IsTaken}
 use Rattle.gather_core.specs.Turns.{IsCutOut, TurnInput, asks_manifest, faults_in, field_text, files_behind, files_left, files_located, files_where, located_in, points_in, basis_in}
 
@@ -59,18 +59,18 @@ label_grown files more label lies =
       ends = subst (λ (o : Option (List ℕ)). IsCharBoundary (unwrap_or o []) label.range.end) (sym same) lies.ends;
     }
 
-clarification_grown : (files more : List File) (policy : ℕ) (one : ClarificationView) → IsClarificationPlaced files policy one → IsClarificationPlaced (files ++ more) policy one
-clarification_grown files more policy one placed = record {
-  expression = stands_grown files more policy one.offset one.whole one.expression.text placed.expression;
-  paths = All-weaker (λ (file : PlacedFile). PlaceLies files policy file.span) (λ (file : PlacedFile). PlaceLies (files ++ more) policy file.span)
-      (λ file lies. place_grown files more policy file.span lies) one.files placed.paths;
+clarification_grown : (files more : List File) (one : ClarificationView) → IsClarificationPlaced files one → IsClarificationPlaced (files ++ more) one
+clarification_grown files more one placed = record {
+  expression = stands_grown files more one.file one.offset one.whole one.expression.text placed.expression;
+  paths = All-weaker (λ (file : PlacedFile). PlaceLies files one.file file.span) (λ (file : PlacedFile). PlaceLies (files ++ more) one.file file.span)
+      (λ file lies. place_grown files more one.file file.span lies) one.files placed.paths;
 }
 
-pub entries_grown : (files new : List File) (policy : ℕ) (all : List ClarificationEntry) → Grows files new → ArePlacedIn files policy all → ArePlacedIn new policy all
-entries_grown files new policy all grows placed =
-    subst (λ (new : List File). ArePlacedIn new policy all) (sym grows.1)
-    (All-weaker (λ (entry : ClarificationEntry). IsClarificationPlaced files policy entry.clarification) (λ (entry : ClarificationEntry). IsClarificationPlaced (files ++ grows.0) policy entry.clarification)
-    (λ entry placed. clarification_grown files grows.0 policy entry.clarification placed) all placed)
+pub entries_grown : (files new : List File) (all : List ClarificationEntry) → Grows files new → ArePlacedIn files all → ArePlacedIn new all
+entries_grown files new all grows placed =
+    subst (λ (new : List File). ArePlacedIn new all) (sym grows.1)
+    (All-weaker (λ (entry : ClarificationEntry). IsClarificationPlaced files entry.clarification) (λ (entry : ClarificationEntry). IsClarificationPlaced (files ++ grows.0) entry.clarification)
+    (λ entry placed. clarification_grown files grows.0 entry.clarification placed) all placed)
 
 license_grown : (files more : List File) (license : KrateLicense) → IsPlacedAt files license → IsPlacedAt (files ++ more) license
 license_grown files more license placed = record {
@@ -143,79 +143,80 @@ grows_behind turn =
     grows_then turn.files (files_located turn) (files_behind turn) (grows_located turn)
     (grows_left turn.krate (faults_in turn.scanner turn.krate) (located_in turn).location (files_located turn) (basis_in turn))
 
--- ---- what is taken is in the policy's file
+-- ---- what is taken is in the files of clarifications
 
-module _ (files : List File) (policy : ℕ) where
-  span_lies : (placed : List PlacedFile) (number : ℕ) → All (λ (file : PlacedFile). PlaceLies files policy file.span) placed → All (PlaceLies files policy) (option_to_list (span_at placed number))
-  span_lies [] zero lie = All-nil (PlaceLies files policy)
-  span_lies [] (suc number) lie = All-nil (PlaceLies files policy)
-  span_lies (file ∷ placed) zero lie =
-      All-cons (PlaceLies files policy) file.span [] (All-head (λ (one : PlacedFile). PlaceLies files policy one.span) file placed lie) (All-nil (PlaceLies files policy))
-  span_lies (file ∷ placed) (suc number) lie = span_lies placed number (All-tail (λ (one : PlacedFile). PlaceLies files policy one.span) file placed lie)
+module _ (files : List File) where
+  span_lies : (file : ℕ) (placed : List PlacedFile) (number : ℕ) → All (λ (one : PlacedFile). PlaceLies files file one.span) placed
+      → All (CoordLies files) (option_to_list (option_map (coord_at file) (span_at placed number)))
+  span_lies file [] zero lie = All-nil (CoordLies files)
+  span_lies file [] (suc number) lie = All-nil (CoordLies files)
+  span_lies file (one ∷ placed) zero lie =
+      All-cons (CoordLies files) (coord_at file one.span) [] (All-head (λ (one : PlacedFile). PlaceLies files file one.span) one placed lie) (All-nil (CoordLies files))
+  span_lies file (one ∷ placed) (suc number) lie = span_lies file placed number (All-tail (λ (one : PlacedFile). PlaceLies files file one.span) one placed lie)
 
-  place_lies : (placed : List PlacedFile) (number : Option ℕ) → All (λ (file : PlacedFile). PlaceLies files policy file.span) placed
-      → All (PlaceLies files policy) (option_to_list (option_and_then (span_at placed) number))
-  place_lies placed None lie = All-nil (PlaceLies files policy)
-  place_lies placed (Some number) lie = span_lies placed number lie
+  place_lies : (one : ClarificationView) (number : Option ℕ) → All (λ (file : PlacedFile). PlaceLies files one.file file.span) one.files
+      → All (CoordLies files) (option_to_list (place_of one number))
+  place_lies one None lie = All-nil (CoordLies files)
+  place_lies one (Some number) lie = span_lies one.file one.files number lie
 
-  missing_lies : (known_reads : FolderReads) (clarifications : List ClarificationView) → All (IsClarificationPlaced files policy) clarifications → All (PlaceLies files policy) (missing_of known_reads clarifications)
-  missing_lies known_reads [] placed = All-nil (PlaceLies files policy)
+  missing_lies : (known_reads : FolderReads) (clarifications : List ClarificationView) → All (IsClarificationPlaced files) clarifications → All (CoordLies files) (missing_of known_reads clarifications)
+  missing_lies known_reads [] placed = All-nil (CoordLies files)
   missing_lies known_reads (one ∷ more) placed =
-      let here = All-head (IsClarificationPlaced files policy) one more placed in
-      let rest = missing_lies known_reads more (All-tail (IsClarificationPlaced files policy) one more placed) in
-      All-append (PlaceLies files policy) (option_to_list (missing_in known_reads one)) (cond (holds known_reads (named_in one)) [] (missing_of known_reads more))
-      (place_lies one.files (missing_from known_reads 0 (named_in one)) here.paths)
-      (elim (holds known_reads (named_in one)) as (λ b. All (PlaceLies files policy) (cond b [] (missing_of known_reads more))) [ true ↦ All-nil (PlaceLies files policy) | false ↦ rest ])
+      let here = All-head (IsClarificationPlaced files) one more placed in
+      let rest = missing_lies known_reads more (All-tail (IsClarificationPlaced files) one more placed) in
+      All-append (CoordLies files) (option_to_list (missing_in known_reads one)) (cond (holds known_reads (named_in one)) [] (missing_of known_reads more))
+      (place_lies one (missing_from known_reads 0 (named_in one)) here.paths)
+      (elim (holds known_reads (named_in one)) as (λ b. All (CoordLies files) (cond b [] (missing_of known_reads more))) [ true ↦ All-nil (CoordLies files) | false ↦ rest ])
 
   abbrev OneStands : Option ClarificationView → Type 0
   OneStands None = Unit {0}
-  OneStands (Some one) = IsClarificationPlaced files policy one
+  OneStands (Some one) = IsClarificationPlaced files one
 
-  holding_stands : (known_reads : FolderReads) (clarifications : List ClarificationView) → All (IsClarificationPlaced files policy) clarifications → OneStands (holding_clarification known_reads clarifications)
+  holding_stands : (known_reads : FolderReads) (clarifications : List ClarificationView) → All (IsClarificationPlaced files) clarifications → OneStands (holding_clarification known_reads clarifications)
   holding_stands known_reads [] placed = tt
   holding_stands known_reads (one ∷ more) placed =
       elim (holds known_reads (named_in one)) as (λ b. OneStands (cond b (Some one) (holding_clarification known_reads more))) [
-        | true ↦ All-head (IsClarificationPlaced files policy) one more placed
-        | false ↦ holding_stands known_reads more (All-tail (IsClarificationPlaced files policy) one more placed)
+        | true ↦ All-head (IsClarificationPlaced files) one more placed
+        | false ↦ holding_stands known_reads more (All-tail (IsClarificationPlaced files) one more placed)
       ]
 
   by_stands : (one : Option ClarificationView) (field : Option ExpressionView) (lists : CatalogLists) (seen : FilesSeen) → OneStands one
-      → ByStands files policy (settling_by (option_map held_in one) field (by_seen lists seen))
+      → ByStands files (settling_by (option_map held_in one) field (by_seen lists seen))
   by_stands (Some one) field lists seen placed = placed.expression
   by_stands None (Some expression) lists seen placed = tt
   by_stands None None lists seen placed = tt
 
-pub places_grown : (files new : List File) (policy : ℕ) (spans : List Span) → Grows files new → All (PlaceLies files policy) spans → All (PlaceLies new policy) spans
-places_grown files new policy spans grows lie =
-    subst (λ (files : List File). All (PlaceLies files policy) spans) (sym grows.1)
-    (All-weaker (PlaceLies files policy) (PlaceLies (files ++ grows.0) policy) (λ span lies. place_grown files grows.0 policy span lies) spans lie)
+pub places_grown : (files new : List File) (places : List Coord) → Grows files new → All (CoordLies files) places → All (CoordLies new) places
+places_grown files new places grows lie =
+    subst (λ (files : List File). All (CoordLies files) places) (sym grows.1)
+    (All-weaker (CoordLies files) (CoordLies (files ++ grows.0)) (λ at lies. place_grown files grows.0 at.file at.span lies) places lie)
 
-held_grown : (files more : List File) (policy : ℕ) (by : LicenseBasis) → ByStands files policy by → ByStands (files ++ more) policy by
-held_grown files more policy (Clarified held) stands = stands_grown files more policy held.offset held.whole held.expression.text stands
-held_grown files more policy (Field expression) stands = tt
-held_grown files more policy (Files seen joined) stands = tt
+held_grown : (files more : List File) (by : LicenseBasis) → ByStands files by → ByStands (files ++ more) by
+held_grown files more (Clarified held) stands = stands_grown files more held.file held.offset held.whole held.expression.text stands
+held_grown files more (Field expression) stands = tt
+held_grown files more (Files seen joined) stands = tt
 
-pub by_grown : (files new : List File) (policy : ℕ) (by : LicenseBasis) → Grows files new → ByStands files policy by → ByStands new policy by
-by_grown files new policy by grows stands = subst (λ (files : List File). ByStands files policy by) (sym grows.1) (held_grown files grows.0 policy by stands)
+pub by_grown : (files new : List File) (by : LicenseBasis) → Grows files new → ByStands files by → ByStands new by
+by_grown files new by grows stands = subst (λ (files : List File). ByStands files by) (sym grows.1) (held_grown files grows.0 by stands)
 
--- of a turn over a policy whose places are in the table
-pub missing_taken : (turn : TurnInput) (taken : TakenLicense) (new : List File) → IsTaken turn taken new → All (IsClarificationPlaced turn.files turn.policy) turn.clarifications → All (PlaceLies new turn.policy) taken.missing
+-- of a turn over clarifications whose places are in the table
+pub missing_taken : (turn : TurnInput) (taken : TakenLicense) (new : List File) → IsTaken turn taken new → All (IsClarificationPlaced turn.files) turn.clarifications → All (CoordLies new) taken.missing
 missing_taken turn taken new is placed =
-    subst (λ (missing : List Span). All (PlaceLies new turn.policy) missing) (sym is.missing)
-    (subst (λ (files : List File). All (PlaceLies files turn.policy) (missing_of turn.known_reads turn.clarifications)) (sym is.table)
-    (places_grown turn.files (files_located turn) turn.policy (missing_of turn.known_reads turn.clarifications) (grows_located turn)
-    (missing_lies turn.files turn.policy turn.known_reads turn.clarifications placed)))
+    subst (λ (missing : List Coord). All (CoordLies new) missing) (sym is.missing)
+    (subst (λ (files : List File). All (CoordLies files) (missing_of turn.known_reads turn.clarifications)) (sym is.table)
+    (places_grown turn.files (files_located turn) (missing_of turn.known_reads turn.clarifications) (grows_located turn)
+    (missing_lies turn.files turn.known_reads turn.clarifications placed)))
 
-pub held_taken : (turn : TurnInput) (taken : TakenLicense) (new : List File) → IsTaken turn taken new → All (IsClarificationPlaced turn.files turn.policy) turn.clarifications → ByStands new turn.policy taken.by
+pub held_taken : (turn : TurnInput) (taken : TakenLicense) (new : List File) → IsTaken turn taken new → All (IsClarificationPlaced turn.files) turn.clarifications → ByStands new taken.by
 held_taken turn taken new is placed =
-    let stands = by_stands turn.files turn.policy (holding_clarification turn.known_reads turn.clarifications) (field_of turn.scanner.lists turn.krate) turn.scanner.lists
-    (seen_by turn.known_reads.listing (files_scanned turn.scanner turn.clarifications turn.krate turn.known_reads)) (holding_stands turn.files turn.policy turn.known_reads turn.clarifications placed) in
-    subst (λ (by : LicenseBasis). ByStands new turn.policy by) (sym is.by)
-    (subst (λ (files : List File). ByStands files turn.policy (basis_in turn)) (sym is.table)
-    (by_grown turn.files (files_located turn) turn.policy (basis_in turn) (grows_located turn) stands))
+    let stands = by_stands turn.files (holding_clarification turn.known_reads turn.clarifications) (field_of turn.scanner.lists turn.krate) turn.scanner.lists
+    (seen_by turn.known_reads.listing (files_scanned turn.scanner turn.clarifications turn.krate turn.known_reads)) (holding_stands turn.files turn.known_reads turn.clarifications placed) in
+    subst (λ (by : LicenseBasis). ByStands new by) (sym is.by)
+    (subst (λ (files : List File). ByStands files (basis_in turn)) (sym is.table)
+    (by_grown turn.files (files_located turn) (basis_in turn) (grows_located turn) stands))
 
--- those that are for a crate are where all do
-pub for_krate : (files : List File) (policy : ℕ) (krate : CrateRecord) (all : List ClarificationEntry) → ArePlacedIn files policy all → All (IsClarificationPlaced files policy) (clarifications_of krate all)
-for_krate files policy krate all placed =
-    All-map (IsClarificationPlaced files policy) (λ (entry : ClarificationEntry). entry.clarification) _
-    (All-filter (λ (entry : ClarificationEntry). spec_matches entry.spec krate) (λ (entry : ClarificationEntry). IsClarificationPlaced files policy entry.clarification) all placed)
+-- those that are for a crate are where all are
+pub for_krate : (files : List File) (krate : CrateRecord) (all : List ClarificationEntry) → ArePlacedIn files all → All (IsClarificationPlaced files) (clarifications_of krate all)
+for_krate files krate all placed =
+    All-map (IsClarificationPlaced files) (λ (entry : ClarificationEntry). entry.clarification) _
+    (All-filter (λ (entry : ClarificationEntry). spec_matches entry.spec krate) (λ (entry : ClarificationEntry). IsClarificationPlaced files entry.clarification) all placed)

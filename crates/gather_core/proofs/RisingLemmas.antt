@@ -26,11 +26,11 @@ records_told (own ∷ turns) (license ∷ licenses) last each =
     records_in-append own.reads (flat_map (λ (own : CrateTurn). own.reads) turns)
     ∙ ap₂ (λ (front back : List ReadRecord). front ++ back) each.0.recorded_are (records_told turns licenses last each.1)
 
-module _ {told tells : Option Content} {before after : ℕ} {old new : List Call} (scanner : Scanner) (policy : ℕ) (all : GatherRules) (files : List File) (licenses : List KrateLicense) (last : List File)
-    (by : AreTurnsByReads told tells before after old new scanner policy all files licenses last) where
+module _ {told tells : Option Content} {before after : ℕ} {old new : List Call} (scanner : Scanner) (all : GatherRules) (files : List File) (licenses : List KrateLicense) (last : List File)
+    (by : AreTurnsByReads told tells before after old new scanner all files licenses last) where
   pub rises_by_reads : RiseInOrder before (all_reads licenses) after
   rises_by_reads =
-      let turns = turns_of scanner policy all files by.crates in
-      subst (λ (records : List ReadRecord). RiseInOrder before records after) (ap records_of_reads (sym (reads_turned scanner policy all files by.crates)) ∙ records_told turns licenses last by.turns.each)
+      let turns = turns_of scanner all files by.crates in
+      subst (λ (records : List ReadRecord). RiseInOrder before records after) (ap records_of_reads (sym (reads_turned scanner all files by.crates)) ∙ records_told turns licenses last by.turns.each)
       (subst (λ (high : ℕ). RiseInOrder before (records_of_reads (reads_of_all by.crates)) high) (sym (by.made.counts ∙ counts_of_all before by.crates))
       (reads_rise [] before (reads_of_all by.crates) by.are))

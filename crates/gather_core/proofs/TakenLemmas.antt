@@ -47,10 +47,10 @@ begun_of located settled = record {
   reads_made = settled.reads_made;
 }
 
-pub begun_first : (scanner : Scanner) (policy : ℕ) (clarifications : List ClarificationView) (exceptions : ExceptionRules) (krate : CrateRecord) (known_reads : FolderReads) (manifest : ReadResult) (old : List File) (located : LocatedField) (settled : SettledLicense) (new : List File)
+pub begun_first : (scanner : Scanner) (clarifications : List ClarificationView) (exceptions : ExceptionRules) (krate : CrateRecord) (known_reads : FolderReads) (manifest : ReadResult) (old : List File) (located : LocatedField) (settled : SettledLicense) (new : List File)
     → is_nothing clarifications ≡ true → IsLocatedWhere (is_some krate.license) krate old manifest located new → IsSettledBy scanner clarifications krate known_reads settled
-    → IsBegun (turn_with scanner policy clarifications exceptions krate known_reads manifest old) (begun_of located settled) new
-begun_first scanner policy [] exceptions krate known_reads manifest old located settled new none here is = record {
+    → IsBegun (turn_with scanner clarifications exceptions krate known_reads manifest old) (begun_of located settled) new
+begun_first scanner [] exceptions krate known_reads manifest old located settled new none here is = record {
   by = is.by_is;
   missing = is.missing_is;
   location = ap (λ (l : LocatedField). l.location) here.located_is;
@@ -58,7 +58,7 @@ begun_first scanner policy [] exceptions krate known_reads manifest old located 
   reads = is.reads_are;
   table = here.files_are;
 }
-begun_first scanner policy (one ∷ more) exceptions krate known_reads manifest old located settled new none here is = cc
+begun_first scanner (one ∷ more) exceptions krate known_reads manifest old located settled new none here is = cc
 
 -- ---- where a clarification is for the crate
 
@@ -75,10 +75,10 @@ asked_where scanner clarifications krate known_reads by is =
     ∙ ap (λ b. b && is_some krate.license)
     (not_clarified (holding_clarification known_reads clarifications) (field_of scanner.lists krate) scanner.lists (seen_by known_reads.listing (files_scanned scanner clarifications krate known_reads)))
 
-pub begun_last : (scanner : Scanner) (policy : ℕ) (clarifications : List ClarificationView) (exceptions : ExceptionRules) (krate : CrateRecord) (known_reads : FolderReads) (manifest : ReadResult) (old : List File) (located : LocatedField) (settled : SettledLicense) (new : List File)
+pub begun_last : (scanner : Scanner) (clarifications : List ClarificationView) (exceptions : ExceptionRules) (krate : CrateRecord) (known_reads : FolderReads) (manifest : ReadResult) (old : List File) (located : LocatedField) (settled : SettledLicense) (new : List File)
     → IsSettledBy scanner clarifications krate known_reads settled → IsLocatedWhere (not (is_clarified settled.by) && is_some krate.license) krate old manifest located new
-    → IsBegun (turn_with scanner policy clarifications exceptions krate known_reads manifest old) (begun_of located settled) new
-begun_last scanner policy clarifications exceptions krate known_reads manifest old located settled new is here =
+    → IsBegun (turn_with scanner clarifications exceptions krate known_reads manifest old) (begun_of located settled) new
+begun_last scanner clarifications exceptions krate known_reads manifest old located settled new is here =
     let asks = asked_where scanner clarifications krate known_reads settled.by is.by_is in
     let located_is : located ≡ located_where (asks_manifest clarifications krate known_reads) krate old manifest = here.located_is ∙ ap (λ b. located_where b krate old manifest) asks in
     record {

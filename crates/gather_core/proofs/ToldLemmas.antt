@@ -6,7 +6,6 @@ use Rattle.std.specs.Option.{option_map_or, option_or}
 use Rattle.std.specs.Str.{IsCharBoundary}
 use Rattle.std.proofs.lemmas.List.{length-take-le}
 use Rattle.std.proofs.lemmas.List.Elements.{All-cons, All-head, All-nil, All-tail}
-use Rattle.deny_text.specs.declared.span.Span.{Span}
 use Rattle.spdx_terms.specs.catalog.Catalog.{CatalogLists}
 use Rattle.spdx_terms.specs.declared.mode.ParseMode.{ParseMode}
 use Rattle.spdx_terms.specs.Faults.{first_fault}
@@ -24,7 +23,7 @@ use Rattle.gather_license.specs.declared.settling.LicenseBasis.{LicenseBasis}
 use Rattle.gather_license.specs.declared.settling.LicenseBasis.TheVariants.{Clarified, Field, Files}
 use Rattle.gather_license.specs.Clarification.{ClarificationView, held_in}
 use Rattle.gather_license.specs.Priority.{by_seen, field_of, files_scanned, holding_clarification, seen_by, settling_by}
-use Rattle.gather_core.specs.Premises.{ByStands, InfoStands, PlaceLies, StandsIn, TextIs}
+use Rattle.gather_core.specs.Premises.{ByStands, CoordLies, InfoStands, PlaceLies, StandsIn, TextIs}
 use Rattle.gather_core.specs.Told.{info_by, no_place}
 use Rattle.gather_core.specs.Turns.{TurnInput, field_text, missing_findings, basis_in, text_settled}
 
@@ -91,14 +90,14 @@ at_place : (files : List File) (place : Option Coord) (words : List ℕ) → Sta
 at_place files None words stands fits = absurd stands
 at_place files (Some at) words stands fits = points_from files at words stands fits
 
-pub info_stands : (files : List File) (policy : ℕ) (krate : CrateRecord) (location place : Option Coord) (by : LicenseBasis)
-    → ByStands files policy by → TextIs (field_text krate) by → StandsAtCoord files place (text_settled krate by) → (unwrap_or place no_place).span.end < 2 ^ 64
-    → InfoStands files (info_by policy location (unwrap_or place no_place) by)
-info_stands files policy krate location place (Clarified held) held_stands words stands fits = held_stands
-info_stands files policy krate location place (Field expression) held_stands words stands fits =
+pub info_stands : (files : List File) (krate : CrateRecord) (location place : Option Coord) (by : LicenseBasis)
+    → ByStands files by → TextIs (field_text krate) by → StandsAtCoord files place (text_settled krate by) → (unwrap_or place no_place).span.end < 2 ^ 64
+    → InfoStands files (info_by location (unwrap_or place no_place) by)
+info_stands files krate location place (Clarified held) held_stands words stands fits = held_stands
+info_stands files krate location place (Field expression) held_stands words stands fits =
     at_place files place expression.text (subst (λ (words : List ℕ). StandsAtCoord files place (Some words)) (sym words) stands) fits
-info_stands files policy krate location place (Files seen None) held_stands words stands fits = tt
-info_stands files policy krate location place (Files seen (Some joined)) held_stands words stands fits = at_place files place joined.expression.text stands fits
+info_stands files krate location place (Files seen None) held_stands words stands fits = tt
+info_stands files krate location place (Files seen (Some joined)) held_stands words stands fits = at_place files place joined.expression.text stands fits
 
 -- ---- labels of files that are not there
 
@@ -110,15 +109,15 @@ live_by (file ∷ files) (suc id) source is =
     let rest : id < length files = live_by files id source is in
     omega arith
 
-pub missing_labels : (files : List File) (policy : ℕ) (missing : List Span) → All (PlaceLies files policy) missing → All (LabelLies files) (labels_of (missing_findings policy missing))
-missing_labels files policy [] lie = All-nil (LabelLies files)
-missing_labels files policy (span ∷ missing) lie =
-    let here = All-head (PlaceLies files policy) span missing lie in
-    All-cons (LabelLies files) _ (labels_of (missing_findings policy missing))
+pub missing_labels : (files : List File) (missing : List Coord) → All (CoordLies files) missing → All (LabelLies files) (labels_of (missing_findings missing))
+missing_labels files [] lie = All-nil (LabelLies files)
+missing_labels files (at ∷ missing) lie =
+    let here = All-head (CoordLies files) at missing lie in
+    All-cons (LabelLies files) _ (labels_of (missing_findings missing))
     (record {
-      live = live_by files policy here.source here.is_source;
+      live = live_by files at.file here.source here.is_source;
       ordered = here.ordered;
-      starts = subst (λ (o : Option (List ℕ)). IsCharBoundary (unwrap_or o []) span.start) (sym here.is_source) here.starts;
-      ends = subst (λ (o : Option (List ℕ)). IsCharBoundary (unwrap_or o []) span.end) (sym here.is_source) here.ends;
+      starts = subst (λ (o : Option (List ℕ)). IsCharBoundary (unwrap_or o []) at.span.start) (sym here.is_source) here.starts;
+      ends = subst (λ (o : Option (List ℕ)). IsCharBoundary (unwrap_or o []) at.span.end) (sym here.is_source) here.ends;
     })
-    (missing_labels files policy missing (All-tail (PlaceLies files policy) span missing lie))
+    (missing_labels files missing (All-tail (CoordLies files) at missing lie))

@@ -36,30 +36,30 @@ use Rattle.gather_core.proofs.GatheredLemmas.{map_push, priority_turn}
 -- ---- one crate
 
 -- what is reported of a crate is what its turn says by its own reads
-pub license_answered : {told tells : Option Content} {before after : ℕ} {old new : List Call} (scanner : Scanner) (policy : ℕ) (all : GatherRules) (files last : List File) (krate : CrateRecord)
+pub license_answered : {told tells : Option Content} {before after : ℕ} {old new : List Call} (scanner : Scanner) (all : GatherRules) (files last : List File) (krate : CrateRecord)
     (records : List ReadRecord) (reads : List AnsweredRead) (result : Result KrateLicense AllocError) → records_of_reads reads ≡ records → MadeReads told tells before after old new (folder_of krate) reads
     → IfOk result (λ license. krate_of license ≡ krate) → IfOk result (λ license. license.reads ≡ records)
-    → IfOk result (λ license. IsTurn (turn_with scanner policy (clarifications_of krate all.clarifications) all.exceptions krate (known_reads_by reads) (manifest_by reads) files) license last)
-    → OnOk result (IsCutOut last (turn_with scanner policy (clarifications_of krate all.clarifications) all.exceptions krate (known_reads_by reads) (manifest_by reads) files))
-    → IfOk result (λ license. IsByOwnReads told tells before after old new (folder_of (krate_of license)) license.reads (IsTurnHeard scanner policy all files license last))
-license_answered {told} {tells} {before} {after} {old} {new} scanner policy all files last krate records reads (Ok license) recorded_are made krate_is reads_are is cut = record {
+    → IfOk result (λ license. IsTurn (turn_with scanner (clarifications_of krate all.clarifications) all.exceptions krate (known_reads_by reads) (manifest_by reads) files) license last)
+    → OnOk result (IsCutOut last (turn_with scanner (clarifications_of krate all.clarifications) all.exceptions krate (known_reads_by reads) (manifest_by reads) files))
+    → IfOk result (λ license. IsByOwnReads told tells before after old new (folder_of (krate_of license)) license.reads (IsTurnHeard scanner all files license last))
+license_answered {told} {tells} {before} {after} {old} {new} scanner all files last krate records reads (Ok license) recorded_are made krate_is reads_are is cut = record {
   reads = reads;
   recorded_are = recorded_are ∙ sym reads_are;
   made = subst (λ (krate : CrateRecord). MadeReads told tells before after old new (folder_of krate) reads) (sym krate_is) made;
   is_so = (
-    subst (λ (krate : CrateRecord). IsTurn (turn_with scanner policy (clarifications_of krate all.clarifications) all.exceptions krate (known_reads_by reads) (manifest_by reads) files) license last) (sym krate_is) is,
-    subst (λ (krate : CrateRecord). IsCutOut last (turn_with scanner policy (clarifications_of krate all.clarifications) all.exceptions krate (known_reads_by reads) (manifest_by reads) files)) (sym krate_is) cut,
+    subst (λ (krate : CrateRecord). IsTurn (turn_with scanner (clarifications_of krate all.clarifications) all.exceptions krate (known_reads_by reads) (manifest_by reads) files) license last) (sym krate_is) is,
+    subst (λ (krate : CrateRecord). IsCutOut last (turn_with scanner (clarifications_of krate all.clarifications) all.exceptions krate (known_reads_by reads) (manifest_by reads) files)) (sym krate_is) cut,
   );
 }
-license_answered scanner policy all files last krate records reads (Err error) recorded_are made krate_is reads_are is cut = tt
+license_answered scanner all files last krate records reads (Err error) recorded_are made krate_is reads_are is cut = tt
 
 -- memory was wanting behind a crate's turn
-pub starves_told : {told tells : Option Content} {before after : ℕ} {old new : List Call} (scanner : Scanner) (policy : ℕ) (all : GatherRules) (files last : List File) (license : KrateLicense)
-    → IsByOwnReads told tells before after old new (folder_of (krate_of license)) license.reads (IsTurnHeard scanner policy all files license last)
-    → StarvesTaking told tells before after old new (folder_of (krate_of license)) (λ known_reads manifest. records_in (turn_of scanner policy all known_reads manifest files license))
-starves_told scanner policy all files last license by =
-    starves_behind (folder_of (krate_of license)) license.reads (IsTurnHeard scanner policy all files license last)
-    (λ known_reads manifest. records_in (turn_of scanner policy all known_reads manifest files license)) (λ known_reads manifest is. is.0.read) by
+pub starves_told : {told tells : Option Content} {before after : ℕ} {old new : List Call} (scanner : Scanner) (all : GatherRules) (files last : List File) (license : KrateLicense)
+    → IsByOwnReads told tells before after old new (folder_of (krate_of license)) license.reads (IsTurnHeard scanner all files license last)
+    → StarvesTaking told tells before after old new (folder_of (krate_of license)) (λ known_reads manifest. records_in (turn_of scanner all known_reads manifest files license))
+starves_told scanner all files last license by =
+    starves_behind (folder_of (krate_of license)) license.reads (IsTurnHeard scanner all files license last)
+    (λ known_reads manifest. records_in (turn_of scanner all known_reads manifest files license)) (λ known_reads manifest is. is.0.read) by
 
 -- ---- the calls of crates, one after another
 
@@ -95,24 +95,24 @@ are_then {told} {mid} {before} {middle} crates more made first then =
 
 -- ---- turn after turn
 
-pub no_turns : (told : Option Content) (count : ℕ) (calls : List Call) (scanner : Scanner) (policy : ℕ) (all : GatherRules) (files : List File)
-    → AreTurnsByReads told told count count calls calls scanner policy all files [] files
-no_turns told count calls scanner policy all files = record { crates = []; made = made_none told count calls; are = tt; turns = record { each = tt; left = refl } }
+pub no_turns : (told : Option Content) (count : ℕ) (calls : List Call) (scanner : Scanner) (all : GatherRules) (files : List File)
+    → AreTurnsByReads told told count count calls calls scanner all files [] files
+no_turns told count calls scanner all files = record { crates = []; made = made_none told count calls; are = tt; turns = record { each = tt; left = refl } }
 
-module _ {told mid tells : Option Content} {before between_count after : ℕ} {old between new : List Call} (scanner : Scanner) (policy : ℕ) (all : GatherRules) (files : List File) (licenses : List KrateLicense) where
+module _ {told mid tells : Option Content} {before between_count after : ℕ} {old between new : List Call} (scanner : Scanner) (all : GatherRules) (files : List File) (licenses : List KrateLicense) where
   -- one more crate
-  pub turns_then : (license : KrateLicense) (middle last : List File) → AreTurnsByReads told mid before between_count old between scanner policy all files licenses middle → Grows middle last
-      → IsByOwnReads mid tells between_count after between new (folder_of (krate_of license)) license.reads (IsTurnHeard scanner policy all middle license last)
-      → AreTurnsByReads told tells before after old new scanner policy all files (licenses ++ license ∷ []) last
+  pub turns_then : (license : KrateLicense) (middle last : List File) → AreTurnsByReads told mid before between_count old between scanner all files licenses middle → Grows middle last
+      → IsByOwnReads mid tells between_count after between new (folder_of (krate_of license)) license.reads (IsTurnHeard scanner all middle license last)
+      → AreTurnsByReads told tells before after old new scanner all files (licenses ++ license ∷ []) last
   turns_then license middle last first grows by =
       let one : ReadsOfCrate = record { krate = krate_of license; reads = by.reads } in
-      let turn = (turn_by scanner policy all middle one).turn in
+      let turn = (turn_by scanner all middle one).turn in
       record {
         crates = first.crates ++ one ∷ [];
         made = made_as (sym (calls_push first.crates one)) (made_joined first.made by.made.made);
         are = subst (AreReads before) (sym (reads_push first.crates one)) (are_then first.crates by.reads first.made first.are by.made.are);
         turns =
-            turns_more scanner policy all one files first.crates licenses license middle last first.turns grows
+            turns_more scanner all one files first.crates licenses license middle last first.turns grows
             (record {
               krate = refl;
               recorded_are = by.recorded_are;
@@ -126,12 +126,12 @@ module _ {told mid tells : Option Content} {before between_count after : ℕ} {o
 -- ---- for want of memory
 
 -- memory was wanting at the turn of the next crate
-pub starves_next : {told mid tells : Option Content} {before between_count after : ℕ} {old between new : List Call} (scanner : Scanner) (policy : ℕ) (all : GatherRules) (files : List File)
-    (licenses : List KrateLicense) (middle : List File) (krate : CrateRecord) (krates : List CrateRecord) → AreTurnsByReads told mid before between_count old between scanner policy all files licenses middle
-    → StarvesTaking mid tells between_count after between new (folder_of krate) (λ known_reads manifest. records_in (turn_with scanner policy (clarifications_of krate all.clarifications) all.exceptions krate known_reads manifest middle))
+pub starves_next : {told mid tells : Option Content} {before between_count after : ℕ} {old between new : List Call} (scanner : Scanner) (all : GatherRules) (files : List File)
+    (licenses : List KrateLicense) (middle : List File) (krate : CrateRecord) (krates : List CrateRecord) → AreTurnsByReads told mid before between_count old between scanner all files licenses middle
+    → StarvesTaking mid tells between_count after between new (folder_of krate) (λ known_reads manifest. records_in (turn_with scanner (clarifications_of krate all.clarifications) all.exceptions krate known_reads manifest middle))
     → IsFront (map krate_of licenses ++ krate ∷ []) krates
-    → StarvesGathering told tells before after old new scanner policy all files krates
-starves_next scanner policy all files licenses middle krate krates first starves among =
+    → StarvesGathering told tells before after old new scanner all files krates
+starves_next scanner all files licenses middle krate krates first starves among =
     let begun : ReadsOfCrate = record { krate = krate; reads = starves.reads } in
     record {
       crates = first.crates;
@@ -139,11 +139,11 @@ starves_next scanner policy all files licenses middle krate krates first starves
       next = starves.next;
       made = made_joined first.made starves.made.made;
       are = are_then first.crates starves.reads first.made first.are starves.made.are;
-      own = own_turns files (turns_of scanner policy all files first.crates) licenses middle first.turns;
+      own = own_turns files (turns_of scanner all files first.crates) licenses middle first.turns;
       front =
-          subst (λ (files : List File). IsFront (records_of_reads starves.reads ++ option_to_list starves.next) (records_in (turn_by scanner policy all files begun).turn)) first.turns.left starves.front;
+          subst (λ (files : List File). IsFront (records_of_reads starves.reads ++ option_to_list starves.next) (records_in (turn_by scanner all files begun).turn)) first.turns.left starves.front;
       among =
-          subst (λ (those : List CrateRecord). IsFront (those ++ krate ∷ []) krates) (sym (krates_told scanner policy all files first.crates licenses middle first.turns)) among;
+          subst (λ (those : List CrateRecord). IsFront (those ++ krate ∷ []) krates) (sym (krates_told scanner all files first.crates licenses middle first.turns)) among;
     }
 
 -- the first ones of a list, with the next one

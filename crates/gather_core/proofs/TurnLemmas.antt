@@ -2,7 +2,6 @@
 use Rattle.std.proofs.Common.{◌≡◌, ◌∙◌, List, ◌++◌, map, Option, sym, ap, subst}
 use Rattle.std.specs.List.{All}
 use Rattle.std.specs.Prelude.{unwrap_or}
-use Rattle.deny_text.specs.declared.span.Span.{Span}
 use Rattle.spdx_terms.specs.declared.error.ParseError.{ParseError}
 use Rattle.diag_core.specs.declared.label.Coord.{Coord}
 use Rattle.diag_core.specs.File.{File}
@@ -44,22 +43,22 @@ found_turn turn faults taken points old new faults_are is found lie cuts =
 pub told_turn : (turn : TurnInput) (license : KrateLicense) (faults : List ParseError) (taken : TakenLicense) (points : PlacedFindings) (old new : List File)
     → faults ≡ faults_in turn.scanner turn.krate → IsTaken turn taken old
     → points ≡ points_for turn.krate faults taken.location old taken.by → new ≡ files_left turn.krate faults taken.location old taken.by
-    → license.lic_info ≡ info_by turn.policy taken.location (unwrap_or points.expression no_place) taken.by → license.notes ≡ notes_of (answer_in taken.by)
-    → license.diags ≡ missing_findings turn.policy taken.missing ++ points.findings → license.exceptions ≡ taken.exceptions → license.reads ≡ taken.reads
+    → license.lic_info ≡ info_by taken.location (unwrap_or points.expression no_place) taken.by → license.notes ≡ notes_of (answer_in taken.by)
+    → license.diags ≡ missing_findings taken.missing ++ points.findings → license.exceptions ≡ taken.exceptions → license.reads ≡ taken.reads
     → IsTurn turn license new
 told_turn turn license faults taken points old new faults_are is found files_are info notes diags exceptions reads =
     let all_points : points ≡ points_in turn = points_are turn faults taken points old faults_are is found in
     record {
       info =
           info
-          ∙ ap (λ (at : Option Coord). info_by turn.policy at (unwrap_or points.expression no_place) taken.by) is.location
-          ∙ ap (λ (points : PlacedFindings). info_by turn.policy (located_in turn).location (unwrap_or points.expression no_place) taken.by) all_points
-          ∙ ap (λ (by : LicenseBasis). info_by turn.policy (located_in turn).location (unwrap_or (points_in turn).expression no_place) by) is.by;
+          ∙ ap (λ (at : Option Coord). info_by at (unwrap_or points.expression no_place) taken.by) is.location
+          ∙ ap (λ (points : PlacedFindings). info_by (located_in turn).location (unwrap_or points.expression no_place) taken.by) all_points
+          ∙ ap (λ (by : LicenseBasis). info_by (located_in turn).location (unwrap_or (points_in turn).expression no_place) by) is.by;
       noted = notes ∙ ap (λ (by : LicenseBasis). notes_of (answer_in by)) is.by;
       found =
           diags
-          ∙ ap (λ (missing : List Span). missing_findings turn.policy missing ++ points.findings) is.missing
-          ∙ ap (λ (points : PlacedFindings). missing_findings turn.policy (missing_of turn.known_reads turn.clarifications) ++ points.findings) all_points;
+          ∙ ap (λ (missing : List Coord). missing_findings missing ++ points.findings) is.missing
+          ∙ ap (λ (points : PlacedFindings). missing_findings (missing_of turn.known_reads turn.clarifications) ++ points.findings) all_points;
       counted = exceptions ∙ is.counted;
       read = reads ∙ is.reads;
       table =

@@ -48,11 +48,11 @@ pub record StarvesTaking (told tells : Option Content) (before after : ℕ) (old
 
 -- what is reported of a crate is what its turn says by what is read, and the labels of what is found cut out what they
 -- say
-abbrev pub IsTurnHeard : Scanner → ℕ → GatherRules → List File → KrateLicense → List File → FolderReads
+abbrev pub IsTurnHeard : Scanner → GatherRules → List File → KrateLicense → List File → FolderReads
     → ReadResult → Type 0
-IsTurnHeard scanner policy all files license last known_reads manifest =
-    IsTurn (turn_of scanner policy all known_reads manifest files license) license last
-    × IsCutOut last (turn_of scanner policy all known_reads manifest files license)
+IsTurnHeard scanner all files license last known_reads manifest =
+    IsTurn (turn_of scanner all known_reads manifest files license) license last
+    × IsCutOut last (turn_of scanner all known_reads manifest files license)
 
 -- ---- several crates
 
@@ -67,19 +67,19 @@ pub record CrateTurn : Type 0 where
   pub turn : TurnInput
 
 -- the turn of a crate among all, by what its own reads say, with the table that the crates before have left
-abbrev pub turn_by : Scanner → ℕ → GatherRules → List File → ReadsOfCrate → CrateTurn
-turn_by scanner policy all files one = record {
+abbrev pub turn_by : Scanner → GatherRules → List File → ReadsOfCrate → CrateTurn
+turn_by scanner all files one = record {
   reads = one.reads;
-  turn = turn_with scanner policy (clarifications_of one.krate all.clarifications) all.exceptions one.krate
+  turn = turn_with scanner (clarifications_of one.krate all.clarifications) all.exceptions one.krate
       (known_reads_by one.reads) (manifest_by one.reads) files;
 }
 
 -- the turns of crates, one after another, each with the table that the one before has left
-abbrev pub turns_of : Scanner → ℕ → GatherRules → List File → List ReadsOfCrate → List CrateTurn
-turns_of scanner policy all files [] = []
-turns_of scanner policy all files (one ∷ crates) =
-    turn_by scanner policy all files one
-    ∷ turns_of scanner policy all (files_behind (turn_by scanner policy all files one).turn) crates
+abbrev pub turns_of : Scanner → GatherRules → List File → List ReadsOfCrate → List CrateTurn
+turns_of scanner all files [] = []
+turns_of scanner all files (one ∷ crates) =
+    turn_by scanner all files one
+    ∷ turns_of scanner all (files_behind (turn_by scanner all files one).turn) crates
 
 -- the table that turns leave, where it was this one before them
 abbrev pub files_behind_all : List File → List CrateTurn → List File
@@ -115,12 +115,12 @@ pub record AreTurnsBy (files : List File) (turns : List CrateTurn) (licenses : L
 -- Crates had their turns over a tree, each by its own reads: the calls of these were made, one crate after another, and
 -- no other; their records tell what the answers say; and what is reported of each crate is what its turn says by them.
 pub record AreTurnsByReads (told tells : Option Content) (before after : ℕ) (old new : List Call) (scanner : Scanner)
-    (policy : ℕ) (all : GatherRules) (files : List File) (licenses : List KrateLicense)
+    (all : GatherRules) (files : List File) (licenses : List KrateLicense)
     (last : List File) : Type 0 where
   pub crates : List ReadsOfCrate
   pub made : Made told tells before after old new (calls_of_all crates)
   pub are : AreReads before (reads_of_all crates)
-  pub turns : AreTurnsBy files (turns_of scanner policy all files crates) licenses last
+  pub turns : AreTurnsBy files (turns_of scanner all files crates) licenses last
 
 -- ---- for want of memory
 
@@ -128,15 +128,15 @@ pub record AreTurnsByReads (told tells : Option Content) (before after : ℕ) (o
 -- one, perhaps in a call. Its reads, and that call's, are the first ones of those that its turn asks for by what they
 -- say.
 pub record StarvesGathering (told tells : Option Content) (before after : ℕ) (old new : List Call) (scanner : Scanner)
-    (policy : ℕ) (all : GatherRules) (files : List File) (krates : List CrateRecord) : Type 0 where
+    (all : GatherRules) (files : List File) (krates : List CrateRecord) : Type 0 where
   pub crates : List ReadsOfCrate
   pub begun : ReadsOfCrate
   pub next : Option ReadRecord
   pub made : Made told tells before after old new
       (calls_of_all crates ++ (calls_in (folder_of begun.krate) begun.reads ++ call_lost (folder_of begun.krate) next))
   pub are : AreReads before (reads_of_all crates ++ begun.reads)
-  pub own : All HasOwnReads (turns_of scanner policy all files crates)
+  pub own : All HasOwnReads (turns_of scanner all files crates)
   pub front : IsFront (records_of_reads begun.reads ++ option_to_list next)
       (records_in
-      (turn_by scanner policy all (files_behind_all files (turns_of scanner policy all files crates)) begun).turn)
+      (turn_by scanner all (files_behind_all files (turns_of scanner all files crates)) begun).turn)
   pub among : IsFront (map (λ (one : ReadsOfCrate). one.krate) crates ++ begun.krate ∷ []) krates

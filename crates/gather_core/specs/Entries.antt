@@ -1,4 +1,4 @@
--- The clarifications of a policy, and those that are for a crate.
+-- The clarifications of a policy and of its exceptions file, and those that are for a crate.
 use Rattle.std.specs.Prelude.{ℕ, List, map, filter, slice_get, Option, option_map}
 use Rattle.std.specs.List.{filter_map}
 use Rattle.graph_core.specs.Krate.{CrateRecord}
@@ -20,6 +20,8 @@ placed_of file = record { named = record { path = file.path.value; hash = file.h
 abbrev pub clarification_view : ValidClarification → ClarificationView
 clarification_view entry = record {
   expression = entry.expression;
+  file = entry.file_id;
+  overlay = entry.overlay;
   offset = entry.expr_offset;
   whole = entry.whole;
   files = map placed_of entry.license_files;
@@ -28,7 +30,7 @@ clarification_view entry = record {
 abbrev pub clarification_entry : ValidClarification → ClarificationEntry
 clarification_entry entry = record { spec = entry.spec; clarification = clarification_view entry }
 
--- all clarifications of a policy, in its order
+-- all clarifications of a policy, in its order, those of its exceptions file last
 abbrev pub entries_of : ValidConfig → List ClarificationEntry
 entries_of policy = map clarification_entry policy.clarifications
 

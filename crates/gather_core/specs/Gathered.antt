@@ -48,10 +48,10 @@ krate_of license = record_of license.krate.now
 -- ---- turn after turn
 
 -- the turn of a crate among all, with the table that the crates before have left
-abbrev pub turn_of : Scanner → ℕ → GatherRules → FolderReads → ReadResult → List File → KrateLicense
+abbrev pub turn_of : Scanner → GatherRules → FolderReads → ReadResult → List File → KrateLicense
     → TurnInput
-turn_of scanner policy all known_reads manifest files license =
-    turn_with scanner policy (clarifications_of (krate_of license) all.clarifications) all.exceptions (krate_of license)
+turn_of scanner all known_reads manifest files license =
+    turn_with scanner (clarifications_of (krate_of license) all.clarifications) all.exceptions (krate_of license)
     known_reads manifest files
 
 -- the reads of all crates, in the order of the calls

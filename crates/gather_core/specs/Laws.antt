@@ -1,5 +1,6 @@
--- What follows from the calls that are made at the turns of crates, and which exceptions count.
-use Rattle.std.specs.Prelude.{◌≡◌, ℕ, false, List, [], Option}
+-- What follows from the calls that are made at the turns of crates, which clarification settles a licence, and which
+-- exceptions count.
+use Rattle.std.specs.Prelude.{◌≡◌, ℕ, false, List, [], ◌++◌, Option, Some}
 use Rattle.std.specs.Option.{option_to_list}
 use Rattle.tree_core.specs.Call.{Call}
 use Rattle.tree_core.specs.Content.{Content}
@@ -8,10 +9,14 @@ use Rattle.graph_core.specs.Krate.{CrateRecord}
 use Rattle.policy_parts.specs.spec.Index.{first_of, places_from}
 use Rattle.gather_license.specs.files.Calls.{IsFront}
 use Rattle.gather_license.specs.files.KnownReads.{FolderReads}
+use Rattle.gather_license.specs.Clarification.{ClarificationView, held_in}
+use Rattle.gather_license.specs.Priority.{basis_of, holding_clarification}
+use Rattle.gather_license.specs.declared.settling.LicenseBasis.TheVariants.{Clarified}
 use Rattle.gather_license.specs.expression.Scanned.{Scanner}
 use Rattle.diag_core.specs.File.{File}
 use Rattle.gather_core.specs.declared.summary.KrateLicense.{KrateLicense}
 use Rattle.gather_core.specs.Calls.{AreTurnsByReads}
+use Rattle.gather_core.specs.Entries.{ClarificationEntry, clarifications_of}
 use Rattle.gather_core.specs.Rules.{GatherRules}
 use Rattle.gather_core.specs.Exceptions.{ExceptionEntry, ExceptionRules, counted_of, is_for, looked_for, with_exception}
 use Rattle.gather_core.specs.Gathered.{all_reads}
@@ -19,10 +24,19 @@ use Rattle.gather_core.specs.Gathered.{all_reads}
 -- the records of all crates that had their turns, each by its own reads, rise one after the other
 abbrev pub RecordsRise : Type 0
 RecordsRise =
-    (told tells : Option Content) (before after : ℕ) (old new : List Call) (scanner : Scanner) (policy : ℕ)
+    (told tells : Option Content) (before after : ℕ) (old new : List Call) (scanner : Scanner)
     (all : GatherRules) (files : List File) (licenses : List KrateLicense) (last : List File)
-    → AreTurnsByReads told tells before after old new scanner policy all files licenses last
+    → AreTurnsByReads told tells before after old new scanner all files licenses last
     → RiseInOrder before (all_reads licenses) after
+
+-- A clarification of the policy that holds for a crate, the first, settles its licence, whatever clarifications the
+-- exceptions file has.
+abbrev pub OwnClarificationsSettle : Type 0
+OwnClarificationsSettle =
+    (scanner : Scanner) (own overlays : List ClarificationEntry) (krate : CrateRecord) (known_reads : FolderReads)
+    (one : ClarificationView)
+    → holding_clarification known_reads (clarifications_of krate own) ≡ Some one
+    → basis_of scanner (clarifications_of krate (own ++ overlays)) krate known_reads ≡ Clarified (held_in one)
 
 -- Unless each exception counts, the first that is for a crate does, whatever is read, and no file is looked at for it.
 abbrev pub OneExceptionCounts : Type 0

@@ -1,5 +1,6 @@
--- Where a policy's places are, and where the places of what was gathered do.
+-- Where a policy's places are, and where the places of what was gathered are.
 use Rattle.std.specs.Prelude.{◌≡◌, ℕ, List, All, ⊤}
+use Rattle.diag_core.specs.declared.label.Coord.{Coord}
 use Rattle.diag_core.specs.File.{File}
 pub use Rattle.diag_core.specs.File.{Grows}
 use Rattle.gather_core.specs.findings.Cuts.{LabelLies, labels_of}
@@ -12,22 +13,25 @@ use Rattle.gather_core.specs.Entries.{ClarificationEntry}
 
 -- ---- what is asked of a policy
 
--- the paths of its files lie in the policy's file, and its expression is there
-pub record IsClarificationPlaced (files : List File) (policy : ℕ) (one : ClarificationView) : Type 0 where
-  pub expression : StandsIn files policy one.offset one.whole one.expression.text
-  pub paths : All (λ (file : PlacedFile). PlaceLies files policy file.span) one.files
+-- the paths of a clarification's files lie in its own file, and its expression is there
+pub record IsClarificationPlaced (files : List File) (one : ClarificationView) : Type 0 where
+  pub expression : StandsIn files one.file one.offset one.whole one.expression.text
+  pub paths : All (λ (file : PlacedFile). PlaceLies files one.file file.span) one.files
 
-abbrev pub ArePlacedIn : List File → ℕ → List ClarificationEntry → Type 0
-ArePlacedIn files policy entries =
-    All (λ (entry : ClarificationEntry). IsClarificationPlaced files policy entry.clarification) entries
+abbrev pub ArePlacedIn : List File → List ClarificationEntry → Type 0
+ArePlacedIn files entries =
+    All (λ (entry : ClarificationEntry). IsClarificationPlaced files entry.clarification) entries
 
 -- ---- what was taken
 
--- an expression of a clarification that settles the licence is in the policy's file
-abbrev pub ByStands : List File → ℕ → LicenseBasis → Type 0
-ByStands files policy (Clarified held) = StandsIn files policy held.offset held.whole held.expression.text
-ByStands files policy (Field expression) = ⊤
-ByStands files policy (Files seen joined) = ⊤
+abbrev pub CoordLies : List File → Coord → Type 0
+CoordLies files at = PlaceLies files at.file at.span
+
+-- an expression of a clarification that settles the licence is in the clarification's file
+abbrev pub ByStands : List File → LicenseBasis → Type 0
+ByStands files (Clarified held) = StandsIn files held.file held.offset held.whole held.expression.text
+ByStands files (Field expression) = ⊤
+ByStands files (Files seen joined) = ⊤
 
 -- the expression of a field is its text
 abbrev pub TextIs : List ℕ → LicenseBasis → Type 0

@@ -35,11 +35,10 @@ pub record IsLocatedWhere (asks : Bool) (krate : CrateRecord) (old : List File) 
   pub located_is : located ≡ located_where asks krate old manifest
   pub files_are : new ≡ files_where asks krate old manifest
 
-abbrev pub turn_with : Scanner → ℕ → List ClarificationView → ExceptionRules → CrateRecord → FolderReads → ReadResult
+abbrev pub turn_with : Scanner → List ClarificationView → ExceptionRules → CrateRecord → FolderReads → ReadResult
     → List File → TurnInput
-turn_with scanner policy clarifications exceptions krate known_reads manifest files = record {
+turn_with scanner clarifications exceptions krate known_reads manifest files = record {
   scanner = scanner;
-  policy = policy;
   clarifications = clarifications;
   exceptions = exceptions;
   krate = krate;
@@ -62,7 +61,7 @@ pub record IsBegun (turn : TurnInput) (located : LocatedLicense) (files : List F
 -- the turn, where this is read of its folder and its files
 abbrev pub with_known : TurnInput → FolderReads → TurnInput
 with_known turn other =
-    turn_with turn.scanner turn.policy turn.clarifications turn.exceptions turn.krate other turn.manifest turn.files
+    turn_with turn.scanner turn.clarifications turn.exceptions turn.krate other turn.manifest turn.files
 
 -- The turn's reads agree with what was read of the crate's folder, and the turn is begun so by whatever agrees with
 -- that.

@@ -4,7 +4,6 @@ use Rattle.std.specs.Prelude.{unwrap_or, if◌then◌else◌}
 use Rattle.std.specs.List.{All}
 use Rattle.std.specs.Option.{option_map_or, option_to_list}
 use Rattle.tree_core.specs.declared.reads.ReadRecord.{ReadRecord}
-use Rattle.deny_text.specs.declared.span.Span.{Span}
 use Rattle.spdx_terms.specs.declared.error.ParseError.{ParseError}
 use Rattle.graph_core.specs.Krate.{CrateRecord}
 use Rattle.tree_core.specs.file_reads.Heard.{ReadResult}
@@ -36,12 +35,10 @@ use Rattle.gather_core.specs.declared.summary.KrateLicense.{KrateLicense}
 use Rattle.gather_core.specs.Exceptions.{ExceptionRules, counted_of, further_paths, looked_for}
 use Rattle.gather_core.specs.Told.{info_by, notes_of, no_place}
 
--- What texts are identified by; the number of the policy's file; the clarifications that are for the crate; the
--- policy's exceptions; the crate; what is read of its folder and its files, and of its manifest; and the file table as
--- the turn begins.
+-- What texts are identified by; the clarifications that are for the crate; the policy's exceptions; the crate; what is
+-- read of its folder and its files, and of its manifest; and the file table as the turn begins.
 pub record TurnInput : Type 0 where
   pub scanner : Scanner
-  pub policy : ℕ
   pub clarifications : List ClarificationView
   pub exceptions : ExceptionRules
   pub krate : CrateRecord
@@ -151,9 +148,9 @@ abbrev pub files_left : CrateRecord → List ParseError → Option Coord → Lis
 files_left krate faults location files by =
     option_map_or (λ outcome. files_with (case_with krate faults location outcome) files) (outcome_in by) files
 
--- where the policy's file writes what is not there
-abbrev pub missing_findings : ℕ → List Span → List Diag
-missing_findings policy missing = map (λ span. missing_file (record { file = policy; span = span })) missing
+-- where the clarifications' files write what is not there
+abbrev pub missing_findings : List Coord → List Diag
+missing_findings missing = map missing_file missing
 
 abbrev pub points_in : TurnInput → PlacedFindings
 points_in turn =
@@ -164,13 +161,13 @@ points_in turn =
 -- field, of its files, and that there is no expression.
 abbrev pub findings_in : TurnInput → List Diag
 findings_in turn =
-    missing_findings turn.policy (missing_of turn.known_reads turn.clarifications) ++ (points_in turn).findings
+    missing_findings (missing_of turn.known_reads turn.clarifications) ++ (points_in turn).findings
 
 -- ---- what is reported, and what is left
 
 abbrev pub info_in : TurnInput → LicenseInfo
 info_in turn =
-    info_by turn.policy (located_in turn).location (unwrap_or (points_in turn).expression no_place) (basis_in turn)
+    info_by (located_in turn).location (unwrap_or (points_in turn).expression no_place) (basis_in turn)
 
 abbrev pub notes_in : TurnInput → List (List ℕ)
 notes_in turn = notes_of (answer_in (basis_in turn))

@@ -1,4 +1,4 @@
-//! The clarifications of a policy, found by the crates that they are for.
+//! The clarifications of a policy and of its exceptions file, found by the crates that they are for.
 ghost use Rattle.std.specs.Prelude.{◌≡◌, ◌++◌, map, option_map, IfOk, OnOk};
 ghost use Rattle.std.specs.Option.{option_to_list};
 ghost use Rattle.graph_core.specs.Krate.{record_of};
@@ -13,7 +13,7 @@ use policy_parts::spec::{HasSpec, PackageSpec, SpecIndex};
 use std::alloc::{AllocError, Global};
 use std::marker::Model;
 
-/// A clarification of a policy, and the crates that it is for.
+/// A clarification, and the crates that it is for.
 #[derive(Drop)]
 struct EntryRef<'p> {
     spec: &'p PackageSpec,
@@ -40,10 +40,10 @@ impl<'p> HasSpec for EntryRef<'p> {
     }
 }
 
-/// Some clarifications of a policy, in its order.
+/// Some clarifications of a policy, in its order, those of its exceptions file last.
 pub(crate) type ClarificationRefs<'a, 'p> = Vec<&'a ClarificationRef<'p>>;
 
-/// All clarifications of a policy, found by the names of crates.
+/// All clarifications of a policy and of its exceptions file, found by the names of crates.
 #[derive(Drop)]
 pub(crate) struct ClarificationIndex<'p> {
     entries: Vec<EntryRef<'p>>,
@@ -84,6 +84,8 @@ fn entry_ref(alloc: Global, entry: &ValidClarification) -> Result<EntryRef<'_>, 
     let files = file_refs(alloc, entry.license_files.items())?;
     let clarification = ClarificationRef::new(
         &entry.expression,
+        entry.file_id,
+        entry.overlay,
         entry.expr_offset,
         entry.whole,
         files,
@@ -151,7 +153,7 @@ fn at_places<'a, 'p>(
 }
 
 impl<'p> ClarificationIndex<'p> {
-    /// The clarifications of a policy, in its order.
+    /// The clarifications of a policy, in its order, those of its exceptions file last.
     pub(crate) fn of(
         alloc: Global,
         entries: &'p [ValidClarification],

@@ -24,7 +24,7 @@ use crate::rules::RuleIndex;
 use crate::summary::{KrateLicense, KrateLicenses, Summary};
 use crate::tell::tell;
 use crate::turn::take;
-use diag_core::{FileId, Files};
+use diag_core::Files;
 use gather_license::Scan;
 use graph_core::Krate;
 use graph_core::selection::{Include, Krates};
@@ -80,7 +80,6 @@ fn license_of<'k, T: Tree, I: Identifier, C: Catalog>(
     tree: &mut T,
     files: &mut Files,
     scan: &Scan<'_, I, C>,
-    policy: FileId,
     rules: &RuleIndex<'_>,
     krate: &'k Krate,
 ) -> Result<KrateLicense<'k>, AllocError>
@@ -90,15 +89,15 @@ fn license_of<'k, T: Tree, I: Identifier, C: Catalog>(
         IsByOwnReads (T.content tree.old) (T.content tree.new) (T.fault_count tree.old)
         (T.fault_count tree.new) (T.trace tree.old) (T.trace tree.new)
         (folder_of (krate_of license)) license.reads (IsTurnHeard
-        (scanner_of_scan C.lists I.match_of scan.now) policy rules.now files.old license files.new)) }
+        (scanner_of_scan C.lists I.match_of scan.now) rules.now files.old license files.new)) }
     ensures no_memory { let krate = record_of krate.now in OnErr result (
         StarvesTaking (T.content tree.old) (T.content tree.new) (T.fault_count tree.old)
         (T.fault_count tree.new) (T.trace tree.old) (T.trace tree.new)
         (folder_of krate) (λ known_reads manifest. records_in (turn_with
-        (scanner_of_scan C.lists I.match_of scan.now) policy (clarifications_of krate rules.now.clarifications)
+        (scanner_of_scan C.lists I.match_of scan.now) (clarifications_of krate rules.now.clarifications)
         rules.now.exceptions krate known_reads manifest files.old))) }
     ensures grows { Grows files.old files.new }
-    ensures placed { ArePlacedIn files.old policy rules.now.clarifications
+    ensures placed { ArePlacedIn files.old rules.now.clarifications
         → IfOk result (λ license. IsPlacedAt files.new license) }
 {
     let matching = rules.matching(alloc, krate)?;
@@ -114,7 +113,7 @@ fn license_of<'k, T: Tree, I: Identifier, C: Catalog>(
         exceptions,
         field.expression,
     )?;
-    tell(alloc, files, policy, krate, &field.faults, taken)
+    tell(alloc, files, krate, &field.faults, taken)
 }
 
 /// The licences of crates, in order.
@@ -123,7 +122,6 @@ fn gather_all<'k, T: Tree, I: Identifier, C: Catalog>(
     tree: &mut T,
     files: &mut Files,
     scan: &Scan<'_, I, C>,
-    policy: FileId,
     rules: &RuleIndex<'_>,
     krates: &[&'k Krate],
 ) -> Result<KrateLicenses<'k>, AllocError>
@@ -132,19 +130,19 @@ fn gather_all<'k, T: Tree, I: Identifier, C: Catalog>(
     ensures answered { IfOk result (λ licenses.
         AreTurnsByReads (T.content tree.old) (T.content tree.new) (T.fault_count tree.old)
         (T.fault_count tree.new) (T.trace tree.old) (T.trace tree.new)
-        (scanner_of_scan C.lists I.match_of scan.now) policy rules.now files.old licenses files.new) }
+        (scanner_of_scan C.lists I.match_of scan.now) rules.now files.old licenses files.new) }
     ensures no_memory { OnErr result (
         StarvesGathering (T.content tree.old) (T.content tree.new) (T.fault_count tree.old)
         (T.fault_count tree.new) (T.trace tree.old) (T.trace tree.new)
-        (scanner_of_scan C.lists I.match_of scan.now) policy rules.now files.old
+        (scanner_of_scan C.lists I.match_of scan.now) rules.now files.old
         (map record_behind krates.now)) }
     ensures grows { Grows files.old files.new }
-    ensures placed { ArePlacedIn files.old policy rules.now.clarifications
+    ensures placed { ArePlacedIn files.old rules.now.clarifications
         → IfOk result (λ licenses. All (IsPlacedAt files.new) licenses) }
 {
     let mut licenses = KrateLicenses::new(alloc);
     'krates: for krate in krates {
-        let license = license_of(alloc, tree, files, scan, policy, rules, krate)?;
+        let license = license_of(alloc, tree, files, scan, rules, krate)?;
         licenses.push(license)?;
     }
     Ok(licenses)
@@ -198,7 +196,7 @@ impl<'i, I: Identifier> Gatherer<'i, I> {
         ensures answered { IfOk result (λ summary.
             AreTurnsByReads (T.content tree.old) (T.content tree.new) (T.fault_count tree.old)
             (T.fault_count tree.new) (T.trace tree.old) (T.trace tree.new)
-            (scanner_of_gatherer (C.lists catalog.now) I.match_of self.entry) policy.now.file_id (rules_of policy.now)
+            (scanner_of_gatherer (C.lists catalog.now) I.match_of self.entry) (rules_of policy.now)
             files.old summary.nfos files.new) }
         // for want of memory no call was made, or those of the first crates and the first ones of the next crate
         ensures no_memory { OnErr result (
@@ -206,11 +204,11 @@ impl<'i, I: Identifier> Gatherer<'i, I> {
             (T.fault_count tree.new) (T.trace tree.old) (T.trace tree.new) []
             ⊎ StarvesGathering (T.content tree.old) (T.content tree.new) (T.fault_count tree.old)
             (T.fault_count tree.new) (T.trace tree.old) (T.trace tree.new)
-            (scanner_of_gatherer (C.lists catalog.now) I.match_of self.entry) policy.now.file_id (rules_of policy.now)
+            (scanner_of_gatherer (C.lists catalog.now) I.match_of self.entry) (rules_of policy.now)
             files.old (selected_in (include_of policy.now) krates.entry.now)) }
-        // where the policy's places are in its file, each label and each expression is in its own, in the
+        // where each clarification's places are in its file, each label and each expression is in its own, in the
         // table that is left
-        ensures placed { ArePlacedIn files.old policy.now.file_id (entries_of policy.now)
+        ensures placed { ArePlacedIn files.old (entries_of policy.now)
             → IfOk result (λ summary. All (IsPlacedAt files.new) summary.nfos) }
         // files that were there are as they were, also where memory is refused
         ensures grows { Grows files.old files.new }
@@ -226,15 +224,7 @@ impl<'i, I: Identifier> Gatherer<'i, I> {
             threshold: self.threshold,
             catalog,
         };
-        let nfos = gather_all(
-            alloc,
-            tree,
-            files,
-            &scan,
-            policy.file_id,
-            &rules,
-            selected.items(),
-        )?;
+        let nfos = gather_all(alloc, tree, files, &scan, &rules, selected.items())?;
         Ok(Summary { nfos })
     }
 }

@@ -1,9 +1,16 @@
 //! Laws of gathering. The functions do nothing: their contracts are the laws.
-ghost use Rattle.gather_core.specs.Laws.{FurtherExceptionsCountLast, OneExceptionCounts, RecordsRise};
+ghost use Rattle.gather_core.specs.Laws.{FurtherExceptionsCountLast, OneExceptionCounts};
+ghost use Rattle.gather_core.specs.Laws.{OwnClarificationsSettle, RecordsRise};
 
 /// The records of the reads of all crates rise, one after the other, up to the count behind their calls.
 pub fn records_rise()
     ensures { RecordsRise }
+{}
+
+/// A clarification of the policy that holds for a crate settles its licence, whatever clarifications the
+/// exceptions file has.
+pub fn own_clarifications_settle()
+    ensures { OwnClarificationsSettle }
 {}
 
 /// Unless a policy has version 3, one exception counts for a crate, the first that matches it, and no file is

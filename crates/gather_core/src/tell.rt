@@ -7,7 +7,7 @@ ghost use Rattle.gather_core.specs.findings.Cuts.{LabelLies, StandsAtCoord, labe
 ghost use Rattle.gather_core.specs.findings.Premises.{FaultsLie};
 ghost use Rattle.gather_core.specs.findings.Views.{outcome_view, seen_view};
 ghost use Rattle.gather_core.specs.Gathered.{krate_of};
-ghost use Rattle.gather_core.specs.Premises.{ByStands, Grows, IsPlacedAt, PlaceLies, TextIs};
+ghost use Rattle.gather_core.specs.Premises.{ByStands, CoordLies, Grows, IsPlacedAt, TextIs};
 ghost use Rattle.gather_core.specs.Taken.{IsTaken};
 ghost use Rattle.gather_core.specs.Turns as spec;
 ghost use Rattle.gather_core.specs.Turns.{IsCutOut, IsTurn, TurnInput, faults_in, field_text, files_left};
@@ -21,25 +21,18 @@ use crate::findings::{
 use crate::summary::KrateLicense;
 use crate::told::told_by;
 use crate::turn::{TakenLicense, joined};
-use deny_text::Span;
-use diag_core::{Coord, FileId, Files};
+use diag_core::{Coord, Files};
 use gather_license::{FilesSeen, JoinedNames, LicenseBasis, folder};
 use graph_core::Krate;
 use std::alloc::{AllocError, Global};
 
-/// Findings of files of clarifications that are not there, by their places in the policy's file.
-fn missing_findings(alloc: Global, policy: FileId, missing: &[Span]) -> Result<Diags, AllocError>
-    ensures { IfOk result (λ diags. diags ≡ spec.missing_findings policy missing.now) }
+/// Findings of files of clarifications that are not there, by the places of their paths.
+fn missing_findings(alloc: Global, missing: &[Coord]) -> Result<Diags, AllocError>
+    ensures { IfOk result (λ diags. diags ≡ spec.missing_findings missing.now) }
 {
     let mut diags = Diags::new(alloc);
-    'places: for span in missing {
-        let finding = missing_file(
-            alloc,
-            Coord {
-                file: policy,
-                span: *span,
-            },
-        )?;
+    'places: for place in missing {
+        let finding = missing_file(alloc, *place)?;
         diags.push(finding)?;
     }
     Ok(diags)
@@ -124,7 +117,6 @@ fn find_points(
 pub(crate) fn tell<'k>(
     alloc: Global,
     files: &mut Files,
-    policy: FileId,
     krate: &'k Krate,
     faults: &ParseErrors,
     taken: TakenLicense,
@@ -134,22 +126,22 @@ pub(crate) fn tell<'k>(
         PointsAt files.old at (field_text (record_of krate.now))) }
     ensures krate { IfOk result (λ license. krate_of license ≡ record_of krate.now) }
     ensures reads { IfOk result (λ license. license.reads ≡ taken.reads) }
-    ensures turn { (turn : TurnInput) → turn.krate ≡ record_of krate.now → turn.policy ≡ policy
+    ensures turn { (turn : TurnInput) → turn.krate ≡ record_of krate.now
         → faults.now ≡ faults_in turn.scanner turn.krate → IsTaken turn taken files.old
         → IfOk result (λ license. IsTurn turn license files.new) }
     ensures found { (turn : TurnInput) → turn.krate ≡ record_of krate.now
         → faults.now ≡ faults_in turn.scanner turn.krate → IsTaken turn taken files.old
         → OnOk result (IsCutOut files.new turn) }
-    // where the policy's places are in its file
-    ensures placed { All (PlaceLies files.old policy) taken.missing → ByStands files.old policy taken.by
+    // where the places of clarifications are in their files
+    ensures placed { All (CoordLies files.old) taken.missing → ByStands files.old taken.by
         → TextIs (field_text (record_of krate.now)) taken.by
         → IfOk result (λ license. IsPlacedAt files.new license) }
     ensures grows { Grows files.old files.new }
 {
-    let missing = missing_findings(alloc, policy, taken.missing.items())?;
+    let missing = missing_findings(alloc, taken.missing.items())?;
     let points = find_points(alloc, files, krate, faults, &taken)?;
     let diags = joined(missing, points.findings)?;
-    let told = told_by(alloc, policy, taken.location, points.expression, taken.by);
+    let told = told_by(alloc, taken.location, points.expression, taken.by);
     Ok(KrateLicense {
         krate,
         lic_info: told.info,

@@ -1,12 +1,13 @@
 //! What is reported of a crate's licence, by what settles it.
 ghost use Rattle.std.specs.Prelude.{◌≡◌, ◌^◌, ◌<◌, None, unwrap_or};
 ghost use Rattle.gather_license.specs.Priority.{answer_in};
+ghost use Rattle.gather_core.specs.Told as spec;
 ghost use Rattle.gather_core.specs.Told.{field_source, info_at, info_by, joined_info, joined_notes, notes_of};
 ghost use Rattle.gather_core.specs.Told.{no_place};
 
 use crate::findings::{LicenseExprInfo, LicenseExprSource, LicenseInfo};
 use deny_text::Span;
-use diag_core::{Coord, FileId, Notes};
+use diag_core::{Coord, Notes};
 use gather_license::{HeldClarification, JoinedNames, LicenseBasis};
 use spdx_core::Expression;
 use std::alloc::Global;
@@ -55,15 +56,26 @@ fn source_of(location: Option<Coord>) -> LicenseExprSource
     }
 }
 
+/// The source of a clarification, by whether it is one of the exceptions file.
+fn clarified_source(overlay: bool) -> LicenseExprSource
+    ensures { result ≡ spec.clarified_source overlay }
+{
+    if overlay {
+        LicenseExprSource::OverlayOverride
+    } else {
+        LicenseExprSource::UserOverride
+    }
+}
+
 /// By a clarification.
-fn told_by_policy(policy: FileId, held: HeldClarification) -> LicenseInfo
-    ensures { result ≡ info_by policy None no_place (LicenseBasis.Clarified held) }
+fn told_by_clarification(held: HeldClarification) -> LicenseInfo
+    ensures { result ≡ info_by None no_place (LicenseBasis.Clarified held) }
 {
     let nfo = LicenseExprInfo {
-        file_id: policy,
+        file_id: held.file,
         offset: held.offset,
         whole: held.whole,
-        source: LicenseExprSource::UserOverride,
+        source: clarified_source(held.overlay),
     };
     LicenseInfo::SpdxExpression {
         expr: held.expression,
@@ -98,19 +110,18 @@ fn told_by_files(alloc: Global, place: Coord, joined: Option<JoinedNames>) -> No
 /// By what settles the licence, the location of the field and the place of the expression.
 pub(crate) fn told_by(
     alloc: Global,
-    policy: FileId,
     location: Option<Coord>,
     place: Option<Coord>,
     by: LicenseBasis,
 ) -> NotedLicense
-    ensures info { result.info ≡ info_by policy location (unwrap_or place no_place) by }
+    ensures info { result.info ≡ info_by location (unwrap_or place no_place) by }
     ensures notes { result.notes ≡ notes_of (answer_in by) }
     ensures fits { let place = unwrap_or place no_place in place.span.end < 2 ^ 64 }
 {
     let place = place_or_nowhere(place);
     match by {
         LicenseBasis::Clarified(held) => NotedLicense {
-            info: told_by_policy(policy, held),
+            info: told_by_clarification(held),
             notes: Notes::new(alloc),
         },
         LicenseBasis::Field(expression) => NotedLicense {

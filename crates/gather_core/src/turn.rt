@@ -23,7 +23,7 @@ use deny_text::ListOf;
 use diag_core::{Coord, Files};
 use gather_license::files::LicensePack;
 use gather_license::location::{LocatedField, locate};
-use gather_license::{ClarificationRef, LicenseBasis, Scan, Spans, settle_license};
+use gather_license::{ClarificationRef, Coords, LicenseBasis, Scan, settle_license};
 use graph_core::Krate;
 use policy_parts::spec::Places;
 use spdx_core::{Catalog, Expression};
@@ -35,7 +35,7 @@ use tree_core::{ReadRecord, Reads, Tree};
 #[derive(Drop)]
 pub(crate) struct LocatedLicense {
     pub(crate) by: LicenseBasis,
-    pub(crate) missing: Spans,
+    pub(crate) missing: Coords,
     pub(crate) location: Option<Coord>,
     /// The record of the manifest's read.
     pub(crate) manifest: Option<ReadRecord>,
@@ -50,7 +50,7 @@ pub(crate) struct LocatedLicense {
 #[derive(Drop)]
 pub(crate) struct TakenLicense {
     pub(crate) by: LicenseBasis,
-    pub(crate) missing: Spans,
+    pub(crate) missing: Coords,
     pub(crate) location: Option<Coord>,
     pub(crate) exceptions: Places,
     pub(crate) reads: Reads,
@@ -184,18 +184,18 @@ fn take_manifest_first<T: Tree, I: Identifier, C: Catalog>(
     // over any tree, by the answers to the reads that are made, which are all the calls, and by whatever else agrees
     // with these
     ensures answered { let krate = record_of krate.now in let all = map lent_clarification clarifications.now in
-        (policy : ℕ) (exceptions : ExceptionRules) → IfOk result (λ located.
+        (exceptions : ExceptionRules) → IfOk result (λ located.
         IsByOwnReads (T.content tree.old) (T.content tree.new) (T.fault_count tree.old)
         (T.fault_count tree.new) (T.trace tree.old) (T.trace tree.new)
         (folder_of krate) (in_order (spec.is_nothing all) located.manifest located.pack.reads) (λ known_reads manifest.
-        IsBegunFrom (turn_with (scanner_of_scan C.lists I.match_of scan.now) policy all exceptions krate known_reads
+        IsBegunFrom (turn_with (scanner_of_scan C.lists I.match_of scan.now) all exceptions krate known_reads
         manifest files.old) located files.new)) }
     ensures no_memory { let krate = record_of krate.now in let all = map lent_clarification clarifications.now in
-        (policy : ℕ) (exceptions : ExceptionRules) → OnErr result (
+        (exceptions : ExceptionRules) → OnErr result (
         StarvesTaking (T.content tree.old) (T.content tree.new) (T.fault_count tree.old)
         (T.fault_count tree.new) (T.trace tree.old) (T.trace tree.new)
         (folder_of krate) (λ known_reads manifest. records_before (turn_with
-        (scanner_of_scan C.lists I.match_of scan.now) policy all exceptions krate known_reads manifest files.old))) }
+        (scanner_of_scan C.lists I.match_of scan.now) all exceptions krate known_reads manifest files.old))) }
     ensures points { IfOk result (λ located. IfSome located.location (λ at.
         PointsAt files.new at (field_text (record_of krate.now)))) }
     ensures grows { Grows files.old files.new }
@@ -228,18 +228,18 @@ fn take_files_first<T: Tree, I: Identifier, C: Catalog>(
     // over any tree, by the answers to the reads that are made, which are all the calls, and by whatever else agrees
     // with these
     ensures answered { let krate = record_of krate.now in let all = map lent_clarification clarifications.now in
-        (policy : ℕ) (exceptions : ExceptionRules) → IfOk result (λ located.
+        (exceptions : ExceptionRules) → IfOk result (λ located.
         IsByOwnReads (T.content tree.old) (T.content tree.new) (T.fault_count tree.old)
         (T.fault_count tree.new) (T.trace tree.old) (T.trace tree.new)
         (folder_of krate) (in_order (spec.is_nothing all) located.manifest located.pack.reads) (λ known_reads manifest.
-        IsBegunFrom (turn_with (scanner_of_scan C.lists I.match_of scan.now) policy all exceptions krate known_reads
+        IsBegunFrom (turn_with (scanner_of_scan C.lists I.match_of scan.now) all exceptions krate known_reads
         manifest files.old) located files.new)) }
     ensures no_memory { let krate = record_of krate.now in let all = map lent_clarification clarifications.now in
-        (policy : ℕ) (exceptions : ExceptionRules) → OnErr result (
+        (exceptions : ExceptionRules) → OnErr result (
         StarvesTaking (T.content tree.old) (T.content tree.new) (T.fault_count tree.old)
         (T.fault_count tree.new) (T.trace tree.old) (T.trace tree.new)
         (folder_of krate) (λ known_reads manifest. records_before (turn_with
-        (scanner_of_scan C.lists I.match_of scan.now) policy all exceptions krate known_reads manifest files.old))) }
+        (scanner_of_scan C.lists I.match_of scan.now) all exceptions krate known_reads manifest files.old))) }
     ensures points { IfOk result (λ located. IfSome located.location (λ at.
         PointsAt files.new at (field_text (record_of krate.now)))) }
     ensures grows { Grows files.old files.new }
@@ -278,18 +278,18 @@ fn take_located<T: Tree, I: Identifier, C: Catalog>(
     // over any tree, by the answers to the reads that are made, which are all the calls, and by whatever else agrees
     // with these
     ensures answered { let krate = record_of krate.now in let all = map lent_clarification clarifications.now in
-        (policy : ℕ) (exceptions : ExceptionRules) → IfOk result (λ located.
+        (exceptions : ExceptionRules) → IfOk result (λ located.
         IsByOwnReads (T.content tree.old) (T.content tree.new) (T.fault_count tree.old)
         (T.fault_count tree.new) (T.trace tree.old) (T.trace tree.new)
         (folder_of krate) (in_order (spec.is_nothing all) located.manifest located.pack.reads) (λ known_reads manifest.
-        IsBegunFrom (turn_with (scanner_of_scan C.lists I.match_of scan.now) policy all exceptions krate known_reads
+        IsBegunFrom (turn_with (scanner_of_scan C.lists I.match_of scan.now) all exceptions krate known_reads
         manifest files.old) located files.new)) }
     ensures no_memory { let krate = record_of krate.now in let all = map lent_clarification clarifications.now in
-        (policy : ℕ) (exceptions : ExceptionRules) → OnErr result (
+        (exceptions : ExceptionRules) → OnErr result (
         StarvesTaking (T.content tree.old) (T.content tree.new) (T.fault_count tree.old)
         (T.fault_count tree.new) (T.trace tree.old) (T.trace tree.new)
         (folder_of krate) (λ known_reads manifest. records_before (turn_with
-        (scanner_of_scan C.lists I.match_of scan.now) policy all exceptions krate known_reads manifest files.old))) }
+        (scanner_of_scan C.lists I.match_of scan.now) all exceptions krate known_reads manifest files.old))) }
     ensures points { IfOk result (λ located. IfSome located.location (λ at.
         PointsAt files.new at (field_text (record_of krate.now)))) }
     ensures grows { Grows files.old files.new }
@@ -348,17 +348,17 @@ pub(crate) fn take<T: Tree, I: Identifier, C: Catalog>(
 ) -> Result<TakenLicense, AllocError>
     requires { field ≡ field_of (C.lists scan.now.catalog.now) (record_of krate.now) }
     // over any tree, by the answers to the turn's own reads, which are all the calls
-    ensures answered { let krate = record_of krate.now in (policy : ℕ) → IfOk result (λ taken.
+    ensures answered { let krate = record_of krate.now in IfOk result (λ taken.
         IsByOwnReads (T.content tree.old) (T.content tree.new) (T.fault_count tree.old)
         (T.fault_count tree.new) (T.trace tree.old) (T.trace tree.new)
         (folder_of krate) taken.reads (λ known_reads manifest. IsTaken (turn_with
-        (scanner_of_scan C.lists I.match_of scan.now) policy (map lent_clarification clarifications.now) exceptions.now krate
+        (scanner_of_scan C.lists I.match_of scan.now) (map lent_clarification clarifications.now) exceptions.now krate
         known_reads manifest files.old) taken files.new)) }
-    ensures no_memory { let krate = record_of krate.now in (policy : ℕ) → OnErr result (
+    ensures no_memory { let krate = record_of krate.now in OnErr result (
         StarvesTaking (T.content tree.old) (T.content tree.new) (T.fault_count tree.old)
         (T.fault_count tree.new) (T.trace tree.old) (T.trace tree.new)
         (folder_of krate) (λ known_reads manifest. records_in (turn_with
-        (scanner_of_scan C.lists I.match_of scan.now) policy (map lent_clarification clarifications.now) exceptions.now krate
+        (scanner_of_scan C.lists I.match_of scan.now) (map lent_clarification clarifications.now) exceptions.now krate
         known_reads manifest files.old))) }
     ensures points { IfOk result (λ taken. IfSome taken.location (λ at.
         PointsAt files.new at (field_text (record_of krate.now)))) }

@@ -21,7 +21,7 @@ use Rattle.gather_license.proofs.files.CallLemmas.{agrees_before, front_itself, 
 use Rattle.gather_license.proofs.files.PathLemmas.{look_ups_keep_first_spellings}
 use Rattle.gather_license.specs.expression.Scanned.{Scanner}
 use Rattle.gather_license.specs.declared.clarification.HeldClarification.{HeldClarification}
-use Rattle.deny_text.specs.declared.span.Span.{Span}
+use Rattle.diag_core.specs.declared.label.Coord.{Coord}
 use Rattle.gather_license.specs.Clarification.{ClarificationView, named_files, named_in}
 use Rattle.gather_license.specs.Priority.{folder_of, looks_at_files, records_of, records_with}
 use Rattle.gather_license.specs.Steps.{IsLooked}
@@ -114,7 +114,7 @@ starves_looking krate clarifications begun begins made starves =
     (front_itself (looks known_reads (paths_read begun.reads) clarifications)))
 
 -- memory was wanting behind them
-pub starves_looked : {told tells : Option Content} {before after : ℕ} {old new : List Call} (krate : CrateRecord) (clarifications : List ClarificationView) (pack : PackView) (held : Option HeldClarification) (missing : List Span)
+pub starves_looked : {told tells : Option Content} {before after : ℕ} {old new : List Call} (krate : CrateRecord) (clarifications : List ClarificationView) (pack : PackView) (held : Option HeldClarification) (missing : List Coord)
     → IsLooked krate clarifications pack held missing → IsMadeBy told tells before after old new (folder_of krate) pack
     → StarvesAmong told tells before after old new (folder_of krate) (records_with clarifications krate)
 starves_looked krate clarifications pack held missing looked made =

@@ -1,5 +1,5 @@
 -- Crates and where their licences come from, worked out by hand from the rules.
-use Rattle.std.proofs.Common.{◌≡◌, ℕ, true, cond, List, [], ◌∷◌, ◌++◌, Option, Some, None, codes, refl}
+use Rattle.std.proofs.Common.{◌≡◌, ℕ, true, false, cond, List, [], ◌∷◌, ◌++◌, map, Option, Some, None, codes, refl}
 use Rattle.std.specs.Path.{path_components, path_join, path_names, path_parent, rsplit_once, split_last_component, trim_trailing}
 use Rattle.std.specs.Str.{bytes_eq, chars, is_utf8}
 use lib.Utf8.{encode}
@@ -22,7 +22,7 @@ use Rattle.tree_core.specs.file_reads.Read.{AreReads, AnsweredRead, call_lost, c
 use Rattle.gather_license.specs.files.KnownReads.{FolderReads, known_reads_by}
 use Rattle.gather_license.specs.expression.Scanned.{Scanner}
 use Rattle.gather_license.specs.Clarification.{ClarificationView}
-use Rattle.gather_license.specs.Priority.{LicenseAnswer, folder_of, user_override, priority_of, records_of}
+use Rattle.gather_license.specs.Priority.{LicenseAnswer, folder_of, overlay_override, user_override, priority_of, records_of}
 use Rattle.gather_license.specs.Settled.{missing_of}
 
 -- no text is identified
@@ -67,7 +67,7 @@ at_path = record { start = 7; end = 9 }
 
 -- a clarification of a file that is to have the hash of one LF, as `xxhsum -H0` has it
 abbrev clarified : List ℕ → List ClarificationView
-clarified path = record { expression = isc; offset = 0; whole = None; files = record { named = record { path = path; hash = 0x81c9d352 }; span = at_path } ∷ [] } ∷ []
+clarified path = record { expression = isc; file = 0; overlay = false; offset = 0; whole = None; files = record { named = record { path = path; hash = 0x81c9d352 }; span = at_path } ∷ [] } ∷ []
 
 abbrev by_policy : Option LicenseAnswer
 by_policy = Some (record { expression = isc; source = user_override; notes = [] })
@@ -87,6 +87,23 @@ reads_of_holds : records_of scanner (clarified (codes "LICENSE")) (krate None) (
     ≡ listing_read answer.Got ∷ license_read answer.Got ∷ []
 unfolding path_components path_names path_parent split_last_component trim_trailing rsplit_once xxh32_of mixed_hash of_groups with_word with_byte normal_of
 reads_of_holds = refl
+
+-- a clarification of the exceptions file, number 1, behind one of the policy
+abbrev laid_over : List ℕ → List ℕ → List ClarificationView
+laid_over own path =
+    clarified own ++ map {A = ClarificationView} {B = ClarificationView} (λ one. record one { file = 1; overlay = true }) (clarified path)
+
+-- it settles where the policy's does not hold, and is told as what it is; where the policy's holds, that does
+by_overlay : (priority_of scanner (laid_over (codes "COPYING") (codes "LICENSE")) (krate None) (known_reads listed (codes "LICENSE") (text (10 ∷ [])))
+    ≡ Some (record { expression = isc; source = overlay_override; notes = [] }))
+    × (priority_of scanner (laid_over (codes "LICENSE") (codes "LICENSE")) (krate None) (known_reads listed (codes "LICENSE") (text (10 ∷ []))) ≡ by_policy)
+unfolding path_components path_names xxh32_of mixed_hash of_groups with_word with_byte normal_of
+by_overlay = (refl, refl)
+
+-- what is not there is told in the file of each
+both_missing : missing_of (known_reads listed (codes "x") (text [])) (laid_over (codes "A") (codes "B")) ≡ record { file = 0; span = at_path } ∷ record { file = 1; span = at_path } ∷ []
+unfolding path_components path_names
+both_missing = refl
 
 -- it has it, and the listing failed
 holds_unlisted : priority_of scanner (clarified (codes "LICENSE")) (krate (Some (codes "COPYING"))) (known_reads (failed 0 1) (codes "LICENSE") (text (10 ∷ []))) ≡ by_policy
@@ -114,7 +131,7 @@ reads_no_listing = refl
 -- ---- files that are not there
 
 -- nothing is there, and the place of the path is reported
-not_there : missing_of (known_reads listed (codes "COPYING") (text [])) (clarified (codes "LICENSE")) ≡ at_path ∷ []
+not_there : missing_of (known_reads listed (codes "COPYING") (text [])) (clarified (codes "LICENSE")) ≡ record { file = 0; span = at_path } ∷ []
 unfolding path_components path_names
 not_there = refl
 

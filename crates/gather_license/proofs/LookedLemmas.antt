@@ -3,7 +3,7 @@ use Rattle.std.proofs.Common.{◌≡◌, ◌∙◌, ℕ, length, ◌++◌, true,
 use Rattle.std.specs.Prelude.{option_map}
 use Rattle.std.specs.List.{flat_map, fold}
 use Rattle.std.proofs.lemmas.List.Sums.{fold-append}
-use Rattle.deny_text.specs.declared.span.Span.{Span}
+use Rattle.diag_core.specs.declared.label.Coord.{Coord}
 use Rattle.spdx_core.specs.Reading.{ExpressionView}
 use Rattle.graph_core.specs.Krate.{CrateRecord}
 use Rattle.tree_core.specs.file_reads.Heard.{ReadResult}
@@ -39,7 +39,7 @@ paths_looked known_reads license_file clarifications listing begun last same beg
     ∙ ap (λ heard. fold with_path [] (license_files_in heard license_file ++ more)) (sym same)
     ∙ look_ups_keep_first_spellings (license_files_in known_reads.listing license_file ++ more)
 
-pub looked : (krate : CrateRecord) (clarifications : List ClarificationView) (reads : List AnsweredRead) (begun new : PackView) (held : Option HeldClarification) (missing : List Span)
+pub looked : (krate : CrateRecord) (clarifications : List ClarificationView) (reads : List AnsweredRead) (begun new : PackView) (held : Option HeldClarification) (missing : List Coord)
     → BeginsPack (folder_of krate) krate.license_file begun
     → TakesIn reads begun new
     → ((known_reads : FolderReads) → Agrees known_reads new → paths_read new.reads ≡ fold with_path (paths_read begun.reads) (flat_map (looked_of known_reads) (tried_of known_reads (named_files clarifications))))
@@ -68,7 +68,7 @@ files_looked known_reads pack paths agrees sorted apart =
     sym (heard_at_paths known_reads.file pack.files (subst AreApart (sym sorted) (apart_in_order paths apart)) agrees.files) ∙ ap (files_heard known_reads) sorted
 
 pub ordered : (scanner : Scanner) (krate : CrateRecord) (clarifications : List ClarificationView)
-    → (held : Option HeldClarification) (missing : List Span) (field : Option ExpressionView) (settled : SettledLicense) → IsLooked krate clarifications settled.pack held missing
+    → (held : Option HeldClarification) (missing : List Coord) (field : Option ExpressionView) (settled : SettledLicense) → IsLooked krate clarifications settled.pack held missing
     → paths_of settled.pack.files ≡ in_path_order (paths_read settled.pack.reads) → field ≡ field_of scanner.lists krate
     → settled.by ≡ settling_by held field (by_seen scanner.lists (seen_in scanner settled.pack)) → settled.missing ≡ missing
     → (known_reads : FolderReads) → Agrees known_reads settled.pack → IsOrderedBy scanner clarifications krate known_reads settled

@@ -4,7 +4,7 @@ use Rattle.std.specs.Prelude.{option_map}
 use Rattle.std.specs.List.{flat_map, fold}
 use Rattle.std.specs.Option.{option_to_list}
 use Rattle.std.proofs.lemmas.List.Sums.{fold-append}
-use Rattle.deny_text.specs.declared.span.Span.{Span}
+use Rattle.diag_core.specs.declared.label.Coord.{Coord}
 use Rattle.gather_license.specs.files.KnownReads.{FolderReads, holds, looked_of, tried_of}
 use Rattle.gather_license.specs.files.Steps.{with_path}
 use Rattle.gather_license.specs.Clarification.{ClarificationView, named_files, held_in, named_in}
@@ -28,7 +28,7 @@ pub held_on : (known_reads : FolderReads) (one : ClarificationView) (rest : List
     → option_map held_in (holding_clarification known_reads (one ∷ rest)) ≡ option_map held_in (holding_clarification known_reads rest)
 held_on known_reads one rest here is differs = ap (λ b. option_map held_in (cond b (Some one) (holding_clarification known_reads rest))) (sym is ∙ differs)
 
-pub missing_on : (known_reads : FolderReads) (front : List Span) (one : ClarificationView) (rest : List ClarificationView) (here : Bool) → here ≡ holds known_reads (named_in one) → here ≡ false
+pub missing_on : (known_reads : FolderReads) (front : List Coord) (one : ClarificationView) (rest : List ClarificationView) (here : Bool) → here ≡ holds known_reads (named_in one) → here ≡ false
     → front ++ missing_of known_reads (one ∷ rest) ≡ (front ++ option_to_list (missing_in known_reads one)) ++ missing_of known_reads rest
 missing_on known_reads front one rest here is differs =
     ap (λ b. front ++ (option_to_list (missing_in known_reads one) ++ cond b [] (missing_of known_reads rest))) (sym is ∙ differs)
@@ -46,8 +46,8 @@ pub held_here : (known_reads : FolderReads) (one : ClarificationView) (rest : Li
     → option_map held_in (holding_clarification known_reads (one ∷ rest)) ≡ Some (held_in one)
 held_here known_reads one rest here is passed = ap (λ b. option_map held_in (cond b (Some one) (holding_clarification known_reads rest))) (sym is ∙ passed)
 
-pub missing_last : (known_reads : FolderReads) (front : List Span) (one : ClarificationView) (rest : List ClarificationView) (here : Bool) → here ≡ holds known_reads (named_in one) → here ≡ true
+pub missing_last : (known_reads : FolderReads) (front : List Coord) (one : ClarificationView) (rest : List ClarificationView) (here : Bool) → here ≡ holds known_reads (named_in one) → here ≡ true
     → front ++ missing_of known_reads (one ∷ rest) ≡ front ++ option_to_list (missing_in known_reads one)
 missing_last known_reads front one rest here is passed =
     ap (λ b. front ++ (option_to_list (missing_in known_reads one) ++ cond b [] (missing_of known_reads rest))) (sym is ∙ passed)
-    ∙ ap (λ (last : List Span). front ++ last) (append-nil (option_to_list (missing_in known_reads one)))
+    ∙ ap (λ (last : List Coord). front ++ last) (append-nil (option_to_list (missing_in known_reads one)))

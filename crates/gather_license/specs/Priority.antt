@@ -1,5 +1,6 @@
--- Which licence a crate is under, in one fixed order: a clarification of the policy whose files have the stated hashes,
--- else the crate's own field, else what its licence files are identified as, else nothing.
+-- Which licence a crate is under, in one fixed order: a clarification of the policy, then of its exceptions file, whose
+-- files have the stated hashes, else the crate's own field, else what its licence files are identified as, else
+-- nothing.
 use Rattle.std.specs.Prelude.{ℕ, Bool, true, false, ◌||◌, not, List, [], ◌∷◌, map, find, Option, Some, None, is_none}
 use Rattle.std.specs.Prelude.{unwrap_or, if◌then◌else◌}
 use Rattle.std.specs.Prelude.{option_map, option_and_then}
@@ -75,8 +76,8 @@ settling_by (Some held) field files = Clarified held
 settling_by None (Some expression) files = Field expression
 settling_by None None files = files
 
--- what settles the licence of a crate, by the clarifications that are for it, in the policy's order, and what is read
--- of its files
+-- what settles the licence of a crate, by the clarifications that are for it, those of the policy first, and what is
+-- read of its files
 abbrev pub basis_of : Scanner → List ClarificationView → CrateRecord → FolderReads → LicenseBasis
 basis_of scanner clarifications krate known_reads =
     settling_by (option_map held_in (holding_clarification known_reads clarifications)) (field_of scanner.lists krate)
@@ -84,10 +85,12 @@ basis_of scanner clarifications krate known_reads =
 
 -- ---- the expression that it gives
 
--- where an expression comes from; licence files are reported by the paths of those that give a name
+-- where an expression comes from: the crate's field, the policy, its exceptions file, or licence files, which are
+-- reported by the paths of those that give a name
 pub data ExpressionSource : Type 0 where
   metadata : ExpressionSource
   user_override : ExpressionSource
+  overlay_override : ExpressionSource
   license_files : List (List ℕ) → ExpressionSource
 
 -- the expression of a crate, where it comes from, and what is noted of the files that it was made of
@@ -103,9 +106,13 @@ abbrev pub joined_answer : JoinedNames → LicenseAnswer
 joined_answer joined =
     record { expression = joined.expression; source = license_files joined.paths; notes = joined.notes }
 
--- a clarification's as it is in the policy, the field's, the names joined where a file gives one
+-- by whether the clarification is one of the exceptions file
+abbrev pub override_source : Bool → ExpressionSource
+override_source overlay = if overlay then overlay_override else user_override
+
+-- a clarification's as it is in its file, the field's, the names joined where a file gives one
 abbrev pub answer_in : LicenseBasis → Option LicenseAnswer
-answer_in (Clarified held) = Some (answer_without_notes user_override held.expression)
+answer_in (Clarified held) = Some (answer_without_notes (override_source held.overlay) held.expression)
 answer_in (Field expression) = Some (answer_without_notes metadata expression)
 answer_in (Files seen joined) = option_map joined_answer joined
 

@@ -1,8 +1,7 @@
 -- What the call that settles a crate's licence answers.
-use Rattle.std.specs.Prelude.{◌≡◌, ℕ, List, [], ◌∷◌, ◌++◌, length, slice_get, Option, option_copied, option_map}
-use Rattle.std.specs.Prelude.{option_and_then, if◌then◌else◌}
+use Rattle.std.specs.Prelude.{◌≡◌, ℕ, List, [], ◌∷◌, ◌++◌, length, Option, option_copied, if◌then◌else◌}
 use Rattle.std.specs.Option.{option_to_list}
-use Rattle.deny_text.specs.declared.span.Span.{Span}
+use Rattle.diag_core.specs.declared.label.Coord.{Coord}
 use Rattle.spdx_terms.specs.catalog.Catalog.{CatalogLists}
 use Rattle.spdx_terms.specs.declared.catalog.identifier.Match.{Match}
 use Rattle.graph_core.specs.Krate.{CrateRecord}
@@ -11,7 +10,7 @@ use Rattle.gather_license.specs.files.Steps.{Agrees}
 use Rattle.gather_license.specs.expression.Scanned.{Scanner, match_by}
 use Rattle.gather_license.specs.declared.scan.Scan.{Scan}
 use Rattle.gather_license.specs.declared.settle.SettledLicense.{SettledLicense}
-use Rattle.gather_license.specs.Clarification.{ClarificationView, PlacedFile, named_in}
+use Rattle.gather_license.specs.Clarification.{ClarificationView, named_in, place_of}
 use Rattle.gather_license.specs.Priority.{folder_of, records_of, basis_of}
 
 -- what texts are identified by, of what was handed in
@@ -24,15 +23,12 @@ scanner_of_scan lists_of match_of scan = record {
 
 -- ---- files of clarifications that are not there
 
-abbrev pub span_at : List PlacedFile → ℕ → Option Span
-span_at files number = option_map (λ file. file.span) (slice_get files number)
-
 -- the place of the first file that does not match, where nothing is there
-abbrev pub missing_in : FolderReads → ClarificationView → Option Span
-missing_in known_reads one = option_and_then (span_at one.files) (missing_from known_reads 0 (named_in one))
+abbrev pub missing_in : FolderReads → ClarificationView → Option Coord
+missing_in known_reads one = place_of one (missing_from known_reads 0 (named_in one))
 
--- of the clarifications that are tried, up to and with the first that holds
-abbrev pub missing_of : FolderReads → List ClarificationView → List Span
+-- of the clarifications that are tried, up to and with the first that holds, each in its own file
+abbrev pub missing_of : FolderReads → List ClarificationView → List Coord
 missing_of known_reads [] = []
 missing_of known_reads (one ∷ more) =
     option_to_list (missing_in known_reads one)

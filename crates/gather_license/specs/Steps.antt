@@ -1,6 +1,6 @@
 -- What the steps towards a crate's licence say, by whatever known reads agree with the pack that is left.
 use Rattle.std.specs.Prelude.{◌≡◌, List, length, map, Option, option_map}
-use Rattle.deny_text.specs.declared.span.Span.{Span}
+use Rattle.diag_core.specs.declared.label.Coord.{Coord}
 use Rattle.graph_core.specs.Krate.{CrateRecord}
 use Rattle.gather_license.specs.files.KnownReads.{FolderReads}
 use Rattle.gather_license.specs.files.Pack.{reads_of}
@@ -21,7 +21,7 @@ seen_in scanner pack = seen_by pack.listing (map (file_scanned scanner) pack.fil
 -- The clarifications of a crate were tried with its pack: the records, what is taken of the first that holds and what
 -- is not there are those by whatever known reads agree with the pack.
 pub record IsLooked (krate : CrateRecord) (clarifications : List ClarificationView) (pack : PackView)
-    (held : Option HeldClarification) (missing : List Span) : Type 0 where
+    (held : Option HeldClarification) (missing : List Coord) : Type 0 where
   pub folder : pack.folder ≡ folder_of krate
   pub paths : (known_reads : FolderReads) → Agrees known_reads pack
       → paths_read pack.reads ≡ reads_of known_reads krate.license_file (named_files clarifications)

@@ -1,9 +1,11 @@
 //! Clarifications as a crate's pack takes them.
 ghost use Rattle.std.specs.Prelude.{◌≡◌, IfOk};
+ghost use Rattle.gather_license.specs.Clarification as spec;
 ghost use Rattle.gather_license.specs.Clarification.{held_in};
 
 use crate::files::NamedFile;
 use deny_text::{PathBuf, Span};
+use diag_core::{Coord, FileId};
 use spdx_core::Expression;
 use std::alloc::{AllocError, Global};
 use std::marker::Model;
@@ -28,14 +30,14 @@ impl<'p> Model for FileRef<'p> {
 
 impl<'p> FileRef<'p> {
     /// A path from the crate's folder, the hash that the file's normal form is to have, and the place of the
-    /// path in the policy's file.
+    /// path in the clarification's file.
     pub fn new(path: &'p PathBuf, hash: u32, span: Span) -> FileRef<'p>
         ensures { result ≡ record { named = record { path = path.entry.now; hash = hash }; span = span } }
     {
         FileRef { path, hash, span }
     }
 
-    /// The place of the path in the policy's file.
+    /// The place of the path in the clarification's file.
     pub fn span(&self) -> Span
         ensures { result ≡ self.now.span }
     {
@@ -55,21 +57,27 @@ impl<'p> NamedFile for FileRef<'p> {
     }
 }
 
-/// The expression of a clarification that holds, and where it is in the policy's file.
+/// The expression of a clarification that holds, and where it is.
 #[derive(Drop)]
 pub struct HeldClarification {
     pub expression: Expression,
+    /// The file that it is in: the policy's, or that of its exceptions.
+    pub file: FileId,
+    /// Whether it is one of the exceptions file.
+    pub overlay: bool,
     /// Where the expression's text begins.
     pub offset: usize,
     /// The place of the expression's string, where that has escapes; the offset means nothing then.
     pub whole: Option<Span>,
 }
 
-/// A clarification: the expression that a policy gives a crate, where that is in the policy's file, and
-/// the files that it was read from.
+/// A clarification: the expression that a policy or its exceptions file gives a crate, where that is, and the
+/// files that it was read from.
 #[derive(Drop)]
 pub struct ClarificationRef<'p> {
     expression: &'p Expression,
+    file: FileId,
+    overlay: bool,
     offset: usize,
     whole: Option<Span>,
     files: Vec<FileRef<'p>>,
@@ -84,21 +92,37 @@ impl<'p> Model for ClarificationRef<'p> {
 
     ghost view = { λ c. record {
       expression = c.expression.now;
+      file = c.file;
+      overlay = c.overlay;
       offset = c.offset;
       whole = c.whole;
       files = c.files.items;
     } };
 }
 
+/// The place of a file's path, where there is a file of the number.
+fn span_at(files: &[FileRef<'_>], number: usize) -> Option<Span>
+    ensures { result ≡ spec.span_at files.now number }
+{
+    match files.get(number) {
+        Some(file) => Some(file.span()),
+        None => None,
+    }
+}
+
 impl<'p> ClarificationRef<'p> {
     pub fn new(
         expression: &'p Expression,
+        file: FileId,
+        overlay: bool,
         offset: usize,
         whole: Option<Span>,
         files: Vec<FileRef<'p>>,
     ) -> ClarificationRef<'p>
         ensures { result ≡ record {
           expression = expression.entry.now;
+          file = file;
+          overlay = overlay;
           offset = offset;
           whole = whole;
           files = files.entry.items;
@@ -106,6 +130,8 @@ impl<'p> ClarificationRef<'p> {
     {
         ClarificationRef {
             expression,
+            file,
+            overlay,
             offset,
             whole,
             files,
@@ -119,9 +145,27 @@ impl<'p> ClarificationRef<'p> {
         let expression = self.expression.copy(alloc)?;
         Ok(HeldClarification {
             expression,
+            file: self.file,
+            overlay: self.overlay,
             offset: self.offset,
             whole: self.whole,
         })
+    }
+
+    /// The place of the path of the file of a number, if there is one.
+    pub fn place_of(&self, number: Option<usize>) -> Option<Coord>
+        ensures { result ≡ spec.place_of self.now number }
+    {
+        let Some(number) = number else {
+            return None;
+        };
+        match span_at(&self.files, number) {
+            Some(span) => Some(Coord {
+                file: self.file,
+                span,
+            }),
+            None => None,
+        }
     }
 
     /// The files, in the order in which they are tried.

@@ -1,5 +1,5 @@
-//! What settles the licence that a crate is under: the policy's clarifications, its own field and its licence
-//! files.
+//! What settles the licence that a crate is under: the clarifications of the policy and of its exceptions
+//! file, its own field and its licence files.
 #![tactic(auto)]
 
 pub mod clarification;
@@ -13,5 +13,5 @@ pub mod settling;
 
 pub use clarification::{ClarificationRef, FileRef, HeldClarification};
 pub use scan::Scan;
-pub use settle::{SettledLicense, Spans, folder, settle_license};
+pub use settle::{Coords, SettledLicense, folder, settle_license};
 pub use settling::{FilesSeen, JoinedNames, LicenseBasis};

@@ -1,5 +1,5 @@
 //! The licence of one crate.
-ghost use Rattle.std.specs.Prelude.{◌≡◌, ◌++◌, IfOk, OnErr, OnOk, None, Some, [], map, option_map, option_and_then};
+ghost use Rattle.std.specs.Prelude.{◌≡◌, ◌++◌, IfOk, OnErr, OnOk, None, Some, [], map, option_map};
 ghost use Rattle.std.specs.List.{flat_map, fold};
 ghost use Rattle.std.specs.Option.{option_to_list};
 ghost use Rattle.graph_core.specs.Krate.{record_of};
@@ -11,31 +11,32 @@ ghost use Rattle.gather_license.specs.Calls.{IsByReads};
 ghost use Rattle.gather_license.specs.Clarification.{lent_clarification, named_files, held_in};
 ghost use Rattle.gather_license.specs.Priority as spec;
 ghost use Rattle.gather_license.specs.Priority.{field_of, folder_of, holding_clarification, records_of, records_with};
-ghost use Rattle.gather_license.specs.Settled.{IsSettledFrom, missing_of, scanner_of_scan, span_at};
+ghost use Rattle.gather_license.specs.Settled.{IsSettledFrom, missing_of, scanner_of_scan};
 ghost use Rattle.gather_license.specs.Steps.{IsLooked, IsOrderedFrom};
 
-use crate::clarification::{ClarificationRef, FileRef, HeldClarification};
+use crate::clarification::{ClarificationRef, HeldClarification};
 use crate::files::LicensePack;
 use crate::scan::Scan;
 use crate::settling::{LicenseBasis, settle_by_cases};
+use deny_text::ListOf;
 use deny_text::path::parent;
-use deny_text::{ListOf, Span};
+use diag_core::Coord;
 use graph_core::Krate;
 use spdx_core::{Catalog, Expression};
 use spdx_terms::catalog::Identifier;
 use std::alloc::{AllocError, Global};
 use tree_core::Tree;
 
-/// Places in order.
-pub type Spans = ListOf<Span>;
+/// Places in files, in order.
+pub type Coords = ListOf<Coord>;
 
 /// What settles a crate's licence, and what was read of its folder for that.
 #[derive(Drop)]
 pub struct SettledLicense {
     pub by: LicenseBasis,
-    /// The places, in the policy's file, of the paths of files that are not there: of each clarification that
-    /// was tried, that of the first file that does not match, where nothing is there.
-    pub missing: Spans,
+    /// The places of the paths of files that are not there: of each clarification that was tried, in its own
+    /// file, that of the first file that does not match, where nothing is there.
+    pub missing: Coords,
     /// The files that were read, by their paths, with the records of their reads. Further files can be looked
     /// up in it.
     pub pack: LicensePack,
@@ -48,7 +49,7 @@ pub struct SettledLicense {
 struct ClarifiedPack {
     pack: LicensePack,
     held: Option<HeldClarification>,
-    missing: Spans,
+    missing: Coords,
 }
 
 /// The folder of a crate's manifest.
@@ -58,30 +59,12 @@ pub fn folder(krate: &Krate) -> &str
     parent(krate.manifest_path.as_path()).unwrap_or("")
 }
 
-/// The place of a file's path, where there is a file of the number.
-fn span_at(files: &[FileRef<'_>], number: usize) -> Option<Span>
-    ensures { result ≡ span_at files.now number }
+/// Appends the place of a file that is not there, where there is one.
+fn push_missing(missing: &mut Coords, place: Option<Coord>) -> Result<(), AllocError>
+    ensures { OnOk result (missing.new ≡ missing.old ++ option_to_list place) }
 {
-    match files.get(number) {
-        Some(file) => Some(file.span()),
-        None => None,
-    }
-}
-
-/// Appends the place of the file that is not there, where there is one.
-fn push_missing(
-    missing: &mut Spans,
-    files: &[FileRef<'_>],
-    number: Option<usize>,
-) -> Result<(), AllocError>
-    ensures { OnOk result (missing.new
-        ≡ missing.old ++ option_to_list (option_and_then (span_at files.now) number)) }
-{
-    let Some(number) = number else {
-        return Ok(());
-    };
-    match span_at(files, number) {
-        Some(span) => missing.push(span),
+    match place {
+        Some(place) => missing.push(place),
         None => Ok(()),
     }
 }
@@ -110,11 +93,11 @@ fn try_all<T: Tree>(
         (flat_map (looked_of known_reads) (tried_of known_reads (named_files (map lent_clarification clarifications.now)))))) }
 {
     let mut pack = pack;
-    let mut missing = Spans::new(alloc);
+    let mut missing = Coords::new(alloc);
     'all: for clarification in clarifications {
         let tried = pack.tries(alloc, tree, clarification.files())?;
         pack = tried.pack;
-        push_missing(&mut missing, clarification.files(), tried.missing)?;
+        push_missing(&mut missing, clarification.place_of(tried.missing))?;
         if tried.holds {
             let held = clarification.held(alloc)?;
             return Ok(ClarifiedPack {
@@ -169,7 +152,7 @@ fn settle_by_field(
     let pack = LicensePack::unread(alloc, folder(krate))?;
     Ok(SettledLicense {
         by: LicenseBasis::Field(expression),
-        missing: Spans::new(alloc),
+        missing: Coords::new(alloc),
         pack,
         reads_made: 0,
     })

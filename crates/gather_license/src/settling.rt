@@ -38,7 +38,7 @@ pub struct JoinedNames {
 /// What settles a licence.
 #[derive(Drop)]
 pub enum LicenseBasis {
-    /// A clarification of the policy, which holds.
+    /// A clarification of the policy or of its exceptions file, which holds.
     Clarified(HeldClarification),
     /// The crate's own field.
     Field(Expression),

@@ -9,7 +9,7 @@ use Rattle.toml_subset.specs.shapes.Shaped.{ShapeReading, shaped_map}
 use Rattle.diag_core.specs.declared.diagnostic.Diagnostic.{Diagnostic}
 use Rattle.policy_core.specs.config.Config.{config_of}
 use Rattle.policy_core.specs.validate.Valid.{error_at, removed_key}
-use Rattle.policy_core.specs.Exceptions.{exceptions_findings, itself_finding, no_file, no_text, no_value, policy_itself, unread_finding, value}
+use Rattle.policy_core.specs.Exceptions.{exceptions_findings, itself_finding, no_file, no_text, no_value, overlay_findings, policy_itself, unread_finding, value}
 use Rattle.policy_core.specs.Findings.{absence_finding, moved_key_finding, target_finding}
 use Rattle.policy_core.specs.Policy.{FileNumbers, empty_table, policy_of_files}
 
@@ -83,6 +83,19 @@ by_version : (told_of (integer (pos 3)) ≡ Ok (others_first ++ others_last))
     × (told_of (integer (pos 2)) ≡ Ok (others_first ++ needs 0 (at 15 16) ∷ needs 1 (at 4 5) ∷ others_last))
     × (told_of (integer (negsuc 2)) ≡ Ok (others_first ++ needs 0 (at 15 16) ∷ needs 1 (at 4 5) ∷ others_last))
 by_version = (refl, refl, refl)
+
+-- a clarification whose expression, at this place, is no licence of the catalogue
+abbrev clarified : Span → TomlContent
+clarified place =
+    array (item (at 0 1) (table (row (codes "crate") (at 0 1) (at 0 1) (text (codes "a")) (row (codes "expression") (at 0 1) place (text (codes "x"))
+    (row (codes "license-files") (at 0 1) (at 0 1) (array no_item) no_entry)))) no_item)
+
+-- those of an exceptions file are told in front of its exceptions, and no other of a file whose shape is wrong
+overlays_told : (shaped_map (λ found. found.findings) (policy_of_files lists numbers (record { path = Some (codes "p"); value = Some (versioned (integer (pos 2))) })
+    (value (root (row (codes "exceptions") (at 0 1) (at 2 3) (excepting (at 4 5)) (row (codes "clarify") (at 6 7) (at 8 9) (clarified (at 10 11)) no_entry)))))
+    ≡ Ok (others_first ++ needs 0 (at 15 16) ∷ error_at 1 (codes "unable to parse license expression") (at 10 11) (codes "unknown term") ∷ needs 1 (at 4 5) ∷ others_last))
+    × (overlay_findings lists 1 (value (root (row (codes "clarify") (at 6 7) (at 8 9) (clarified (at 10 11)) no_entry))) ≡ [])
+overlays_told = (refl, refl)
 
 -- the version is 1 where it is left out, and any number of 32 bits with a sign
 version_of : (shaped_map (λ config. config.version) (config_of lists (root no_entry)) ≡ Ok (pos 1))

@@ -1,5 +1,5 @@
 -- Each place that a valid policy keeps lies in the text of its file.
-use Rattle.std.proofs.Common.{◌≡◌, ◌∙◌, refl, sym, ap, subst, ℕ, ◌+◌, ◌-◌, ◌^◌, ◌<◌, ◌≤◌, true, false, cond, List, [], ◌∷◌, ◌++◌, length, drop, Option, Some, None, Ok, Err, arith}
+use Rattle.std.proofs.Common.{◌≡◌, ◌∙◌, refl, sym, ap, subst, ℕ, ◌+◌, ◌-◌, ◌^◌, ◌<◌, ◌≤◌, Bool, true, false, cond, List, [], ◌∷◌, ◌++◌, length, drop, Option, Some, None, Ok, Err, arith}
 use Rattle.std.specs.Prelude.{⊤, slice_range, unwrap_or}
 use Rattle.std.specs.List.{AllByRecursion, AllZip, cons_option}
 use Rattle.std.specs.List.Sorted.{IsPermutation}
@@ -11,7 +11,7 @@ use Rattle.spdx_terms.specs.catalog.Catalog.{CatalogLists, IsCatalog}
 use Rattle.deny_text.specs.declared.span.Span.{Span}
 use Rattle.diag_core.specs.File.{File, source_of_file}
 use Rattle.policy_core.proofs.place_laws.EntryPlaces.{exceptions_file_stays}
-use Rattle.policy_core.specs.place_laws.Entries.{ClarificationKeeps, ExceptionKeeps, exceptions_file_keeps, licensee_keeps}
+use Rattle.policy_core.specs.place_laws.Entries.{ClarificationKeeps, ExceptionKeeps, ExceptionsFileKeeps, licensee_keeps}
 use Rattle.policy_core.specs.place_laws.Policies.{ConfigKeeps}
 use Rattle.policy_core.specs.declared.config.config.Config.{Config}
 use Rattle.policy_parts.specs.entries.Exceptions.{exceptions_file_of}
@@ -38,7 +38,7 @@ use Rattle.policy_core.specs.validate.Valid.{ItemOrFinding, clarification_judged
 use Rattle.policy_core.specs.declared.valid.policy.ValidClarification.{ValidClarification}
 use Rattle.policy_core.specs.declared.valid.policy.ValidConfig.{ValidConfig}
 use Rattle.policy_core.specs.declared.valid.policy.ValidException.{ValidException}
-use Rattle.policy_core.specs.Exceptions.{valid_exceptions_in, exceptions_kept, with_exceptions}
+use Rattle.policy_core.specs.Exceptions.{valid_exceptions_in, exceptions_kept, overlays_in, overlays_kept, with_entries}
 use Rattle.policy_core.specs.Heard.{IsFileText, IsTextHeard, LoadState, TakesExceptions, heard_file_of, exceptions_read_of, value_or_fault}
 use Rattle.policy_core.specs.Places.{ClarificationStands, ExceptionStands, ExpressionStands, FileStands, IsSpelledAt, LicenseeStands, LiesInFile, PolicyStands}
 use Rattle.policy_core.specs.declared.exceptions.ExceptionsHeard.{ExceptionsHeard}
@@ -92,21 +92,23 @@ licensees_more : (files more : List File) (file : ℕ) (licensees : List License
 licensees_more files more file =
     weaker (LicenseeStands files file) (LicenseeStands (files ++ more) file) (λ licensee stands. lies_more files more file licensee.0.span stands)
 
-clarification_more : (files more : List File) (file : ℕ) (one : ValidClarification) → ClarificationStands files file one → ClarificationStands (files ++ more) file one
-clarification_more files more file one stands = record {
-  spec = lies_more files more file one.spec.span stands.spec;
-  expression = expression_more files more file one.whole one.expr_offset one.expression.text stands.expression;
-  license_files =
-      weaker (FileStands files file) (FileStands (files ++ more) file) (λ source there. lies_more files more file source.path.span there) one.license_files stands.license_files;
+files_more : (files more : List File) (file : ℕ) (sources : List FileSource) → AllByRecursion (FileStands files file) sources
+    → AllByRecursion (FileStands (files ++ more) file) sources
+files_more files more file =
+    weaker (FileStands files file) (FileStands (files ++ more) file) (λ source there. lies_more files more file source.path.span there)
+
+clarification_more : (files more : List File) (one : ValidClarification) → ClarificationStands files one → ClarificationStands (files ++ more) one
+clarification_more files more one stands = record {
+  spec = lies_more files more one.file_id one.spec.span stands.spec;
+  expression = expression_more files more one.file_id one.whole one.expr_offset one.expression.text stands.expression;
+  license_files = files_more files more one.file_id one.license_files stands.license_files;
 }
 
 exception_more : (files more : List File) (one : ValidException) → ExceptionStands files one → ExceptionStands (files ++ more) one
 exception_more files more one stands = record {
   spec = lies_more files more one.file_id one.spec.span stands.spec;
   allowed = licensees_more files more one.file_id one.allowed stands.allowed;
-  license_files =
-      weaker (FileStands files one.file_id) (FileStands (files ++ more) one.file_id) (λ source there. lies_more files more one.file_id source.path.span there)
-      one.license_files stands.license_files;
+  license_files = files_more files more one.file_id one.license_files stands.license_files;
 }
 
 policy_more : (files more : List File) (policy : ValidConfig) → PolicyStands files policy → PolicyStands (files ++ more) policy
@@ -115,30 +117,28 @@ policy_more files more policy stands = record {
       weaker (λ string. LiesInFile files policy.file_id string.span) (λ string. LiesInFile (files ++ more) policy.file_id string.span)
       (λ string there. lies_more files more policy.file_id string.span there) policy.private.ignore_sources stands.ignore_sources;
   allowed = licensees_more files more policy.file_id policy.allowed stands.allowed;
-  clarifications =
-      weaker (ClarificationStands files policy.file_id) (ClarificationStands (files ++ more) policy.file_id) (clarification_more files more policy.file_id)
-      policy.clarifications stands.clarifications;
+  clarifications = weaker (ClarificationStands files) (ClarificationStands (files ++ more)) (clarification_more files more) policy.clarifications stands.clarifications;
   exceptions = weaker (ExceptionStands files) (ExceptionStands (files ++ more)) (exception_more files more) policy.exceptions stands.exceptions;
 }
 
 -- ---- in order
 
-files_in_order : (files : List File) (file : ℕ) (written sorted : ValidClarification) → PutsFilesInOrder written sorted → ClarificationStands files file written
-    → ClarificationStands files file sorted
-files_in_order files file written sorted puts stands =
-    subst (ClarificationStands files file) (sym puts.rest) (record {
+files_in_order : (files : List File) (written sorted : ValidClarification) → PutsFilesInOrder written sorted → ClarificationStands files written
+    → ClarificationStands files sorted
+files_in_order files written sorted puts stands =
+    subst (ClarificationStands files) (sym puts.rest) (record {
       spec = stands.spec;
       expression = stands.expression;
-      license_files = shuffled (FileStands files file) written.license_files sorted.license_files puts.files.same stands.license_files;
+      license_files = shuffled (FileStands files written.file_id) written.license_files sorted.license_files puts.files.same stands.license_files;
     })
 
-all_in_order : (files : List File) (file : ℕ) (written sorted : List ValidClarification) → AllZip PutsFilesInOrder written sorted
-    → AllByRecursion (ClarificationStands files file) written → AllByRecursion (ClarificationStands files file) sorted
-all_in_order files file [] [] puts stand = tt
-all_in_order files file [] (other ∷ sorted) puts stand = absurd puts
-all_in_order files file (one ∷ written) [] puts stand = absurd puts
-all_in_order files file (one ∷ written) (other ∷ sorted) puts stand =
-    (files_in_order files file one other puts.0 stand.0, all_in_order files file written sorted puts.1 stand.1)
+all_in_order : (files : List File) (written sorted : List ValidClarification) → AllZip PutsFilesInOrder written sorted
+    → AllByRecursion (ClarificationStands files) written → AllByRecursion (ClarificationStands files) sorted
+all_in_order files [] [] puts stand = tt
+all_in_order files [] (other ∷ sorted) puts stand = absurd puts
+all_in_order files (one ∷ written) [] puts stand = absurd puts
+all_in_order files (one ∷ written) (other ∷ sorted) puts stand =
+    (files_in_order files one other puts.0 stand.0, all_in_order files written sorted puts.1 stand.1)
 
 exception_in_order : (files : List File) (written sorted : ValidException) → PutsExceptionInOrder written sorted → ExceptionStands files written → ExceptionStands files sorted
 exception_in_order files written sorted puts stands =
@@ -161,7 +161,7 @@ policy_in_order files written sorted puts stands =
     subst (PolicyStands files) (sym puts.rest) (record {
       ignore_sources = stands.ignore_sources;
       allowed = shuffled (LicenseeStands files written.file_id) written.allowed sorted.allowed puts.allowed.same stands.allowed;
-      clarifications = all_in_order files written.file_id written.clarifications sorted.clarifications puts.clarifications stands.clarifications;
+      clarifications = all_in_order files written.clarifications sorted.clarifications puts.clarifications stands.clarifications;
       exceptions = exceptions_in_order files written.exceptions sorted.exceptions puts.exceptions stands.exceptions;
     })
 
@@ -209,11 +209,12 @@ module _ (files : List File) (file : ℕ) (text : List ℕ) (source : source_of_
         | false ↦ λ e. spelled_there one keeps e
       ] refl
 
-  clarification_stands : (lists : CatalogLists) (one : Clarification) (fault : Option ParseError) (expression : Option ExpressionView) → ClarificationKeeps text one
-      → expression_of_text strict_mode lists one.expression.value ≡ expression → IsKept (ClarificationStands files file) (clarification_judged_by file one fault expression)
-  clarification_stands lists one (Some fault) expression keeps is = tt
-  clarification_stands lists one None None keeps is = tt
-  clarification_stands lists one None (Some view) keeps is = record {
+  clarification_stands : (lists : CatalogLists) (overlay : Bool) (one : Clarification) (fault : Option ParseError) (expression : Option ExpressionView)
+      → ClarificationKeeps text one
+      → expression_of_text strict_mode lists one.expression.value ≡ expression → IsKept (ClarificationStands files) (clarification_judged_by file overlay one fault expression)
+  clarification_stands lists overlay one (Some fault) expression keeps is = tt
+  clarification_stands lists overlay one None None keeps is = tt
+  clarification_stands lists overlay one None (Some view) keeps is = record {
     spec = in_file files file text source one.spec.span keeps.spec;
     expression =
         subst (ExpressionStands files file (cond one.escapes (Some one.expression.span) None) one.expression.span.start)
@@ -221,22 +222,31 @@ module _ (files : List File) (file : ℕ) (text : List ℕ) (source : source_of_
     license_files = sources_stand one.license_files keeps.files;
   }
 
+  judged_stand : (lists : CatalogLists) (overlay : Bool) (clarifications : List Clarification) → keeps_each ClarificationKeeps text clarifications
+      → AllByRecursion (ClarificationStands files) (kept_by (clarification_judged lists file overlay) clarifications)
+  judged_stand lists overlay clarifications keeps =
+      kept_all (ClarificationKeeps text) (ClarificationStands files) (clarification_judged lists file overlay)
+      (λ one kept. clarification_stands lists overlay one (first_fault strict_mode lists one.expression.value) (expression_of_text strict_mode lists one.expression.value) kept refl)
+      clarifications keeps
+
   valid_stands : (lists : CatalogLists) (config : Config) → ConfigKeeps text config → PolicyStands files (valid_part lists file config)
   valid_stands lists config keeps = record {
     ignore_sources =
         weaker (keeps_its_span text) (λ string. LiesInFile files file string.span) (λ string lies. in_file files file text source string.span lies)
         config.private.ignore_sources keeps.private;
     allowed = licensees_stand config.allow keeps.allow;
-    clarifications =
-        kept_all (ClarificationKeeps text) (ClarificationStands files file) (clarification_judged lists file)
-        (λ one kept. clarification_stands lists one (first_fault strict_mode lists one.expression.value) (expression_of_text strict_mode lists one.expression.value) kept refl)
-        config.clarify keeps.clarify;
+    clarifications = judged_stand lists false config.clarify keeps.clarify;
     exceptions = map_all (ExceptionKeeps text) (ExceptionStands files) (exception_in file) exception_stands config.exceptions keeps.exceptions;
   }
 
-  held_stand : (shaped : ShapeReading ExceptionsFile) → StaysIn exceptions_file_keeps text shaped → AllByRecursion (ExceptionStands files) (valid_exceptions_in file shaped)
-  held_stand (Ok held) stays = map_all (ExceptionKeeps text) (ExceptionStands files) (exception_in file) exception_stands held.exceptions stays
+  held_stand : (shaped : ShapeReading ExceptionsFile) → StaysIn ExceptionsFileKeeps text shaped → AllByRecursion (ExceptionStands files) (valid_exceptions_in file shaped)
+  held_stand (Ok held) stays = map_all (ExceptionKeeps text) (ExceptionStands files) (exception_in file) exception_stands held.exceptions stays.exceptions
   held_stand (Err faults) stays = tt
+
+  overlays_stand : (lists : CatalogLists) (shaped : ShapeReading ExceptionsFile) → StaysIn ExceptionsFileKeeps text shaped
+      → AllByRecursion (ClarificationStands files) (overlays_in lists file shaped)
+  overlays_stand lists (Ok held) stays = judged_stand lists true held.clarify stays.clarify
+  overlays_stand lists (Err faults) stays = tt
 
 -- what is valid of a policy whose places lie in the text of a file, in order
 pub validated_stands : (lists : CatalogLists) (files : List File) (file : ℕ) (text : List ℕ) (config : Config) (valid : ValidConfig) → source_of_file files file ≡ Some text
@@ -261,12 +271,28 @@ exceptions_stand lists laws files (ThePolicy path) text = tt
 exceptions_stand lists laws files (Heard path (Ok content)) text = text_stands lists laws files path content text (read_text content) refl
 exceptions_stand lists laws files (Heard path (Err fault)) text = tt
 
-more_stand : (files : List File) (more : List ValidException) (policy : ValidConfig) → PolicyStands files policy → AllByRecursion (ExceptionStands files) more
-    → PolicyStands files (with_exceptions more policy)
-more_stand files more policy stands there = record {
+-- and its clarifications
+text_overlays_stand : (lists : CatalogLists) → IsCatalog lists → (files : List File) (path text : List ℕ) → IsFileText text → (read : TomlReading Toml) → read_text text ≡ read
+    → AllByRecursion (ClarificationStands (files ++ record { name = path; source = text; has_path = true } ∷ [])) (overlays_kept lists (length files) (value_or_fault read))
+text_overlays_stand lists laws files path text is_text (Ok toml) is =
+    let file : File = record { name = path; source = text; has_path = true } in
+    overlays_stand (files ++ file ∷ []) (length files) text (source_last files file) is_text.fits lists (exceptions_file_of lists toml)
+    (exceptions_file_stays text is_text.utf8 is_text.fits lists laws toml (text_placed text is_text.utf8 toml (text_sound text toml is)))
+text_overlays_stand lists laws files path text is_text (Err fault) is = tt
+
+clarifications_stand : (lists : CatalogLists) → IsCatalog lists → (files : List File) (hearing : ExceptionsHeard) → IsTextHeard hearing
+    → AllByRecursion (ClarificationStands (files ++ heard_file_of hearing)) (overlays_kept lists (length files) (exceptions_read_of hearing))
+clarifications_stand lists laws files NoPath text = tt
+clarifications_stand lists laws files (ThePolicy path) text = tt
+clarifications_stand lists laws files (Heard path (Ok content)) text = text_overlays_stand lists laws files path content text (read_text content) refl
+clarifications_stand lists laws files (Heard path (Err fault)) text = tt
+
+more_stand : (files : List File) (overlays : List ValidClarification) (more : List ValidException) (policy : ValidConfig) → PolicyStands files policy
+    → AllByRecursion (ClarificationStands files) overlays → AllByRecursion (ExceptionStands files) more → PolicyStands files (with_entries overlays more policy)
+more_stand files overlays more policy stands lie there = record {
   ignore_sources = stands.ignore_sources;
   allowed = stands.allowed;
-  clarifications = stands.clarifications;
+  clarifications = both (ClarificationStands files) policy.clarifications overlays stands.clarifications lie;
   exceptions = both (ExceptionStands files) policy.exceptions more stands.exceptions there;
 }
 
@@ -274,11 +300,16 @@ pub exceptions_places : (lists : CatalogLists) → IsCatalog lists → (hearing 
     → PolicyStands old.files old.policy → PolicyStands new.files new.policy
 exceptions_places lists laws hearing old new text takes stands =
     let all = old.files ++ heard_file_of hearing in
+    let read = exceptions_read_of hearing in
+    let overlays = takes.clarifications.0 in
     let more = takes.exceptions.0 in
-    let is : new.policy ≡ with_exceptions more old.policy =
-    takes.rest ∙ ap (λ (kept : List ValidException). let one : ValidConfig = record old.policy { exceptions = kept } in one) takes.exceptions.2 in
+    let is : new.policy ≡ with_entries overlays more old.policy =
+    takes.rest
+    ∙ ap (λ (kept : List ValidClarification). let one : ValidConfig = record old.policy { clarifications = kept; exceptions = new.policy.exceptions } in one) takes.clarifications.2
+    ∙ ap (λ (kept : List ValidException). let one : ValidConfig = record old.policy { clarifications = old.policy.clarifications ++ overlays; exceptions = kept } in one)
+    takes.exceptions.2 in
     subst (λ known. PolicyStands known new.policy) (sym takes.files)
     (subst (PolicyStands all) (sym is)
-    (more_stand all more old.policy (policy_more old.files (heard_file_of hearing) old.policy stands)
-    (exceptions_in_order all (exceptions_kept lists (length old.files) (exceptions_read_of hearing)) more takes.exceptions.1
-    (exceptions_stand lists laws old.files hearing text))))
+    (more_stand all overlays more old.policy (policy_more old.files (heard_file_of hearing) old.policy stands)
+    (all_in_order all (overlays_kept lists (length old.files) read) overlays takes.clarifications.1 (clarifications_stand lists laws old.files hearing text))
+    (exceptions_in_order all (exceptions_kept lists (length old.files) read) more takes.exceptions.1 (exceptions_stand lists laws old.files hearing text))))

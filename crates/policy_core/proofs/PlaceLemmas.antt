@@ -13,7 +13,7 @@ use Rattle.diag_core.specs.declared.diagnostic.Diagnostic.{Diagnostic}
 use Rattle.diag_core.specs.declared.label.Label.{Label}
 use Rattle.policy_core.proofs.place_laws.Borders.{part_is_text, moved_lies}
 use Rattle.policy_core.proofs.place_laws.EntryPlaces.{exceptions_file_stays}
-use Rattle.policy_core.specs.place_laws.Entries.{ClarificationKeeps, ExceptionKeeps, exceptions_file_keeps}
+use Rattle.policy_core.specs.place_laws.Entries.{ClarificationKeeps, ExceptionKeeps, ExceptionsFileKeeps}
 use Rattle.policy_core.specs.place_laws.Policies.{ConfigKeeps, RootKeeps}
 use Rattle.policy_core.specs.config.Config.{no_config}
 use Rattle.policy_core.specs.declared.config.config.Config.{Config}
@@ -41,7 +41,7 @@ use Rattle.toml_subset.specs.Reading.{read_text}
 use Rattle.url.specs.Parts.{Parts}
 use Rattle.policy_core.specs.validate.Valid.{ItemOrFinding, address_findings, address_judged, address_judged_by, clarification_findings, clarification_judged, clarification_judged_by, needs_version_3, place_in, removed_findings, removed_key, strict_mode, findings_by_each, validation_findings, version_findings}
 use Rattle.policy_core.specs.valid.Version.{is_version_3}
-use Rattle.policy_core.specs.Exceptions.{exceptions_findings, file_version_findings, shape_diagnostic, version_findings_in}
+use Rattle.policy_core.specs.Exceptions.{exceptions_findings, file_version_findings, overlay_findings, overlay_findings_in, shape_diagnostic, version_findings_in}
 use Rattle.policy_core.specs.Findings.{graph_key_findings, moved_key_finding, output_key_findings, target_finding, target_findings}
 use Rattle.policy_core.specs.Heard.{IsFileText, IsTextHeard, LoadState, TakesExceptions, heard_file_of, exceptions_read_of, value_or_fault}
 use Rattle.policy_core.specs.Places.{IsConfigPlaced, LabelPointsInFile, LiesInFile, PointInto, PointsInto}
@@ -139,8 +139,8 @@ module _ (files : List File) (file : ℕ) (text : List ℕ) (source : source_of_
       one_version (not (is_version_3 version) && is_some one.license_files) (needs_version_3 file one) (version_findings version file more) (in_file one.spec.span keeps.0.spec, tt)
       (versions_point version more keeps.1)
 
-  held_point : (version : ℤ) (shaped : ShapeReading ExceptionsFile) → StaysIn exceptions_file_keeps text shaped → PointInto files (version_findings_in version file shaped)
-  held_point version (Ok held) stays = versions_point version held.exceptions stays
+  held_point : (version : ℤ) (shaped : ShapeReading ExceptionsFile) → StaysIn ExceptionsFileKeeps text shaped → PointInto files (version_findings_in version file shaped)
+  held_point version (Ok held) stays = versions_point version held.exceptions stays.exceptions
   held_point version (Err faults) stays = tt
 
   moved_point : (table : List ℕ) (keys : List Span) → AllByRecursion (LiesBetween text) keys → PointInto files (map (moved_key_finding table file) keys)
@@ -171,17 +171,25 @@ module _ (files : List File) (file : ℕ) (text : List ℕ) (source : source_of_
           | false ↦ λ e. plain_place one fault keeps e is
         ] refl
 
-    clarification_points : (one : Clarification) (fault : Option ParseError) (expression : Option ExpressionView) → ClarificationKeeps text one
-        → first_fault strict_mode lists one.expression.value ≡ fault → IsTold (PointsInto files) (clarification_judged_by file one fault expression)
-    clarification_points one (Some fault) expression keeps is = (in_file (place_in one fault.span) (fault_place one fault keeps is), tt)
-    clarification_points one None (Some expression) keeps is = tt
-    clarification_points one None None keeps is = tt
+    clarification_points : (overlay : Bool) (one : Clarification) (fault : Option ParseError) (expression : Option ExpressionView) → ClarificationKeeps text one
+        → first_fault strict_mode lists one.expression.value ≡ fault → IsTold (PointsInto files) (clarification_judged_by file overlay one fault expression)
+    clarification_points overlay one (Some fault) expression keeps is = (in_file (place_in one fault.span) (fault_place one fault keeps is), tt)
+    clarification_points overlay one None (Some expression) keeps is = tt
+    clarification_points overlay one None None keeps is = tt
+
+    judged_point : (overlay : Bool) (clarifications : List Clarification) → keeps_each ClarificationKeeps text clarifications
+        → PointInto files (findings_by_each (clarification_judged lists file overlay) clarifications)
+    judged_point overlay clarifications keeps =
+        told_all (ClarificationKeeps text) (PointsInto files) (clarification_judged lists file overlay)
+        (λ one kept. clarification_points overlay one (first_fault strict_mode lists one.expression.value) (expression_of_text strict_mode lists one.expression.value) kept refl)
+        clarifications keeps
 
     clarifications_point : (config : Config) → ConfigKeeps text config → PointInto files (clarification_findings lists file config)
-    clarifications_point config keeps =
-        told_all (ClarificationKeeps text) (PointsInto files) (clarification_judged lists file)
-        (λ one kept. clarification_points one (first_fault strict_mode lists one.expression.value) (expression_of_text strict_mode lists one.expression.value) kept refl)
-        config.clarify keeps.clarify
+    clarifications_point config keeps = judged_point false config.clarify keeps.clarify
+
+    overlays_point : (shaped : ShapeReading ExceptionsFile) → StaysIn ExceptionsFileKeeps text shaped → PointInto files (overlay_findings_in lists file shaped)
+    overlays_point (Ok held) stays = judged_point true held.clarify stays.clarify
+    overlays_point (Err faults) stays = tt
 
 -- what is reported of a policy whose places lie in the text of a file
 pub validation_points : (lists : CatalogLists) → IsCatalog lists → (files : List File) (file : ℕ) (text : List ℕ) (config : Config) → source_of_file files file ≡ Some text
@@ -198,7 +206,7 @@ validation_points lists laws files file text config source is_text keeps =
 
 -- ---- an exceptions file, whose text goes behind the other files
 
-told_in : (text : List ℕ) (shaped : ShapeReading ExceptionsFile) → StaysIn exceptions_file_keeps text shaped → AllByRecursion (IsToldIn text) (faults_in shaped)
+told_in : (text : List ℕ) (shaped : ShapeReading ExceptionsFile) → StaysIn ExceptionsFileKeeps text shaped → AllByRecursion (IsToldIn text) (faults_in shaped)
 told_in text (Ok held) stays = tt
 told_in text (Err faults) stays = stays
 
@@ -228,7 +236,23 @@ exceptions_point lists laws files (ThePolicy path) text = (tt, tt)
 exceptions_point lists laws files (Heard path (Ok content)) text = text_points lists laws files path content text (read_text content) refl
 exceptions_point lists laws files (Heard path (Err fault)) text = (tt, tt)
 
--- and what is reported of its exceptions by the policy's version
+-- and what is reported of its clarifications
+text_overlays_point : (lists : CatalogLists) → IsCatalog lists → (files : List File) (path text : List ℕ) → IsFileText text → (read : TomlReading Toml) → read_text text ≡ read
+    → PointInto (files ++ record { name = path; source = text; has_path = true } ∷ []) (overlay_findings lists (length files) (value_or_fault read))
+text_overlays_point lists laws files path text is_text (Ok toml) is =
+    let all = files ++ record { name = path; source = text; has_path = true } ∷ [] in
+    overlays_point all (length files) text (source_last files (record { name = path; source = text; has_path = true })) is_text lists laws (exceptions_file_of lists toml)
+    (exceptions_file_stays text is_text.utf8 is_text.fits lists laws toml (text_placed text is_text.utf8 toml (text_sound text toml is)))
+text_overlays_point lists laws files path text is_text (Err fault) is = tt
+
+file_overlays_point : (lists : CatalogLists) → IsCatalog lists → (files : List File) (hearing : ExceptionsHeard) → IsTextHeard hearing
+    → PointInto (files ++ heard_file_of hearing) (overlay_findings lists (length files) (exceptions_read_of hearing))
+file_overlays_point lists laws files NoPath text = tt
+file_overlays_point lists laws files (ThePolicy path) text = tt
+file_overlays_point lists laws files (Heard path (Ok content)) text = text_overlays_point lists laws files path content text (read_text content) refl
+file_overlays_point lists laws files (Heard path (Err fault)) text = tt
+
+-- and of its exceptions by the policy's version
 text_versions_point : (lists : CatalogLists) → IsCatalog lists → (version : ℤ) (files : List File) (path text : List ℕ) → IsFileText text → (read : TomlReading Toml)
     → read_text text ≡ read
     → PointInto (files ++ record { name = path; source = text; has_path = true } ∷ []) (file_version_findings lists version (length files) (value_or_fault read))
@@ -252,11 +276,14 @@ exceptions_labels lists laws hearing old new text takes points =
     let version = old.policy.version in
     let file = length old.files in
     let tells = exceptions_findings lists file (exceptions_read_of hearing) in
+    let overlays = overlay_findings lists file (exceptions_read_of hearing) in
     let versions = file_version_findings lists version file (exceptions_read_of hearing) in
     subst (λ known. PointInto known new.found) (sym takes.files)
     (subst (PointInto all) (sym takes.found)
-    (both (PointsInto all) old.found (tells ++ versions) (point_into_more old.files (heard_file_of hearing) old.found points)
-    (both (PointsInto all) tells versions (exceptions_point lists laws old.files hearing text) (file_versions_point lists laws version old.files hearing text))))
+    (both (PointsInto all) old.found (tells ++ overlays ++ versions) (point_into_more old.files (heard_file_of hearing) old.found points)
+    (both (PointsInto all) (tells ++ overlays) versions
+    (both (PointsInto all) tells overlays (exceptions_point lists laws old.files hearing text) (file_overlays_point lists laws old.files hearing text))
+    (file_versions_point lists laws version old.files hearing text))))
 
 -- ---- what is reported in front of the two, and behind them
 

@@ -1,5 +1,5 @@
 -- What was read of an exceptions file, and what comes of it.
-use Rattle.std.specs.Prelude.{◌≡◌, ℕ, ℤ, List, [], ◌∷◌, ◌++◌, map, codes, Ok, Err}
+use Rattle.std.specs.Prelude.{◌≡◌, ℕ, ℤ, true, List, [], ◌∷◌, ◌++◌, map, codes, Ok, Err}
 use Rattle.spdx_terms.specs.catalog.Catalog.{CatalogLists}
 use Rattle.deny_text.specs.declared.span.Span.{Span}
 use Rattle.diag_core.specs.Diagnostic.{plain_diagnostic}
@@ -10,7 +10,9 @@ use Rattle.toml_subset.specs.shapes.Shaped.{ShapeReading, faults_in}
 use Rattle.toml_subset.specs.shapes.Shapes.{ShapeFault, reason_text}
 use Rattle.policy_parts.specs.entries.Exceptions.{exceptions_file_of}
 use Rattle.policy_parts.specs.declared.entries.exception.ExceptionsFile.{ExceptionsFile}
-use Rattle.policy_core.specs.validate.Valid.{error_at, exception_in, version_findings}
+use Rattle.policy_core.specs.validate.Valid.{clarification_judged, error_at, exception_in, findings_by_each, kept_by}
+use Rattle.policy_core.specs.validate.Valid.{version_findings}
+use Rattle.policy_core.specs.declared.valid.policy.ValidClarification.{ValidClarification}
 use Rattle.policy_core.specs.declared.valid.policy.ValidConfig.{ValidConfig}
 use Rattle.policy_core.specs.declared.valid.policy.ValidException.{ValidException}
 
@@ -40,13 +42,30 @@ exceptions_kept lists file (no_text path words) = []
 exceptions_kept lists file (no_value place) = []
 exceptions_kept lists file (value toml) = valid_exceptions_in file (exceptions_file_of lists toml)
 
--- a policy with further exceptions behind its own
-abbrev pub with_exceptions : List ValidException → ValidConfig → ValidConfig
-with_exceptions more policy = record policy { exceptions = policy.exceptions ++ more }
+abbrev pub overlays_in : CatalogLists → ℕ → ShapeReading ExceptionsFile → List ValidClarification
+overlays_in lists file (Ok held) = kept_by (clarification_judged lists file true) held.clarify
+overlays_in lists file (Err faults) = []
 
--- all of a policy is as before, but for more exceptions behind its own, if any
-abbrev pub HasMoreExceptions : ValidConfig → ValidConfig → Type 0
-HasMoreExceptions old new = (more : List ValidException) × (new ≡ with_exceptions more old)
+-- the clarifications of a file, which are overlays, as they are there
+abbrev pub overlays_kept : CatalogLists → ℕ → ExceptionsRead → List ValidClarification
+overlays_kept lists file no_file = []
+overlays_kept lists file (policy_itself path) = []
+overlays_kept lists file (no_text path words) = []
+overlays_kept lists file (no_value place) = []
+overlays_kept lists file (value toml) = overlays_in lists file (exceptions_file_of lists toml)
+
+-- a policy with further clarifications and exceptions behind its own
+abbrev pub with_entries : List ValidClarification → List ValidException → ValidConfig → ValidConfig
+with_entries clarifications exceptions policy = record policy {
+  clarifications = policy.clarifications ++ clarifications;
+  exceptions = policy.exceptions ++ exceptions;
+}
+
+-- all of a policy is as before, but for more clarifications and exceptions behind its own, if any
+abbrev pub HasMoreEntries : ValidConfig → ValidConfig → Type 0
+HasMoreEntries old new =
+    (clarifications : List ValidClarification) × (exceptions : List ValidException)
+    × (new ≡ with_entries clarifications exceptions old)
 
 -- ---- what is reported
 
@@ -72,6 +91,19 @@ syntax_finding file place = error_at file (codes "syntax error") place []
 
 abbrev pub shape_diagnostic : ℕ → ShapeFault → Diagnostic
 shape_diagnostic file fault = error_at file (reason_text fault.reason) fault.span []
+
+-- those of its clarifications; none where its shape is wrong
+abbrev pub overlay_findings_in : CatalogLists → ℕ → ShapeReading ExceptionsFile → List Diagnostic
+overlay_findings_in lists file (Ok held) = findings_by_each (clarification_judged lists file true) held.clarify
+overlay_findings_in lists file (Err faults) = []
+
+-- the findings on the clarifications of an exceptions file of this number
+abbrev pub overlay_findings : CatalogLists → ℕ → ExceptionsRead → List Diagnostic
+overlay_findings lists file no_file = []
+overlay_findings lists file (policy_itself path) = []
+overlay_findings lists file (no_text path words) = []
+overlay_findings lists file (no_value place) = []
+overlay_findings lists file (value toml) = overlay_findings_in lists file (exceptions_file_of lists toml)
 
 -- those of its exceptions that need another version of the policy; none where its shape is wrong
 abbrev pub version_findings_in : ℤ → ℕ → ShapeReading ExceptionsFile → List Diagnostic

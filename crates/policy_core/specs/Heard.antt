@@ -12,7 +12,8 @@ use Rattle.toml_subset.specs.Reading.{read_text}
 use Rattle.policy_core.specs.declared.valid.policy.ValidConfig.{ValidConfig}
 use Rattle.policy_core.specs.Exceptions.{ExceptionsRead, no_file, policy_itself, no_text, no_value, value}
 use Rattle.policy_core.specs.Exceptions.{exceptions_kept, exceptions_findings, file_version_findings}
-use Rattle.policy_core.specs.validate.Order.{AddsInOrder}
+use Rattle.policy_core.specs.Exceptions.{overlay_findings, overlays_kept}
+use Rattle.policy_core.specs.validate.Order.{AddsInOrder, PutsExceptionInOrder, PutsFilesInOrder}
 use Rattle.policy_core.specs.declared.exceptions.ExceptionsHeard.{ExceptionsHeard}
 use Rattle.policy_core.specs.declared.exceptions.ExceptionsHeard.TheVariants.{NoPath, ThePolicy, Heard}
 
@@ -63,13 +64,21 @@ pub record LoadState : Type 0 where
 abbrev pub findings_heard : CatalogLists → ℤ → ℕ → ExceptionsHeard → List Diagnostic
 findings_heard lists version file hearing =
     exceptions_findings lists file (exceptions_read_of hearing)
+    ++ overlay_findings lists file (exceptions_read_of hearing)
     ++ file_version_findings lists version file (exceptions_read_of hearing)
 
--- The exceptions of a file, which gets the next number, go behind those of the policy, the files of each in order, and
--- what is wrong with it behind the findings so far.
+-- The clarifications and exceptions of a file, which gets the next number, go behind those of the policy, the files of
+-- each in order, and what is wrong with it behind the findings so far.
 pub record TakesExceptions (lists : CatalogLists) (hearing : ExceptionsHeard) (old new : LoadState) : Type 0 where
-  pub rest : new.policy ≡ record old.policy { exceptions = new.policy.exceptions }
-  pub exceptions : AddsInOrder (exceptions_kept lists (length old.files) (exceptions_read_of hearing))
+  pub rest : new.policy ≡ record old.policy {
+    clarifications = new.policy.clarifications;
+    exceptions = new.policy.exceptions;
+  }
+  pub clarifications : AddsInOrder PutsFilesInOrder
+      (overlays_kept lists (length old.files) (exceptions_read_of hearing))
+      old.policy.clarifications new.policy.clarifications
+  pub exceptions : AddsInOrder PutsExceptionInOrder
+      (exceptions_kept lists (length old.files) (exceptions_read_of hearing))
       old.policy.exceptions new.policy.exceptions
   pub files : new.files ≡ old.files ++ heard_file_of hearing
   pub found : new.found ≡ old.found ++ findings_heard lists old.policy.version (length old.files) hearing

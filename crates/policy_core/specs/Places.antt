@@ -62,12 +62,13 @@ LicenseeStands files file licensee = LiesInFile files file licensee.0.span
 abbrev pub FileStands : List File → ℕ → FileSource → Type 0
 FileStands files file one = LiesInFile files file one.path.span
 
-pub record ClarificationStands (files : List File) (file : ℕ) (one : ValidClarification) : Type 0 where
-  pub spec : LiesInFile files file one.spec.span
-  pub expression : ExpressionStands files file one.whole one.expr_offset one.expression.text
-  pub license_files : AllByRecursion (FileStands files file) one.license_files
+-- a clarification keeps places of its own file
+pub record ClarificationStands (files : List File) (one : ValidClarification) : Type 0 where
+  pub spec : LiesInFile files one.file_id one.spec.span
+  pub expression : ExpressionStands files one.file_id one.whole one.expr_offset one.expression.text
+  pub license_files : AllByRecursion (FileStands files one.file_id) one.license_files
 
--- an exception keeps places of its own file
+-- and so does an exception
 pub record ExceptionStands (files : List File) (one : ValidException) : Type 0 where
   pub spec : LiesInFile files one.file_id one.spec.span
   pub allowed : AllByRecursion (LicenseeStands files one.file_id) one.allowed
@@ -78,5 +79,5 @@ pub record PolicyStands (files : List File) (policy : ValidConfig) : Type 0 wher
   pub ignore_sources : AllByRecursion (λ string. LiesInFile files policy.file_id string.span)
       policy.private.ignore_sources
   pub allowed : AllByRecursion (LicenseeStands files policy.file_id) policy.allowed
-  pub clarifications : AllByRecursion (ClarificationStands files policy.file_id) policy.clarifications
+  pub clarifications : AllByRecursion (ClarificationStands files) policy.clarifications
   pub exceptions : AllByRecursion (ExceptionStands files) policy.exceptions

@@ -14,7 +14,7 @@ use Rattle.policy_core.specs.validate.Valid.{valid_part, address_findings, clari
 use Rattle.policy_core.specs.validate.Valid.{version_findings}
 use Rattle.policy_core.specs.declared.valid.policy.ValidConfig.{ValidConfig}
 use Rattle.policy_core.specs.Exceptions.{ExceptionsRead, exceptions_kept, exceptions_findings, file_version_findings}
-use Rattle.policy_core.specs.Exceptions.{with_exceptions}
+use Rattle.policy_core.specs.Exceptions.{overlay_findings, overlays_kept, with_entries}
 use Rattle.policy_core.specs.Findings.{absence_finding, target_findings, graph_key_findings, output_key_findings}
 
 -- ---- what was read
@@ -56,8 +56,8 @@ absence_findings is_there path = if is_there then [] else absence_finding path �
 
 -- All that is reported of a policy, in order: that it is absent; addresses that can't be read; clarifications whose
 -- expressions can't; keys that were removed; exceptions that name files under another version than 3; what is wrong
--- with the exceptions file, and then those of its exceptions; targets, which have no effect; keys that were moved to
--- the table `graph`, and the one that was moved to `output`.
+-- with the exceptions file, then with the expressions of its clarifications, and then those of its exceptions; targets,
+-- which have no effect; keys that were moved to the table `graph`, and the one that was moved to `output`.
 abbrev pub load_findings : CatalogLists → FileNumbers → List Diagnostic → RootConfig → ExceptionsRead → List Diagnostic
 load_findings lists numbers absence root exceptions =
     absence
@@ -66,15 +66,17 @@ load_findings lists numbers absence root exceptions =
     ++ removed_findings numbers.policy (licenses_in root)
     ++ version_findings (licenses_in root).version numbers.policy (licenses_in root).exceptions
     ++ exceptions_findings lists numbers.exceptions exceptions
+    ++ overlay_findings lists numbers.exceptions exceptions
     ++ file_version_findings lists (licenses_in root).version numbers.exceptions exceptions
     ++ target_findings numbers.policy root
     ++ graph_key_findings numbers.policy root
     ++ output_key_findings numbers.policy root
 
--- what is valid of the policy, with the exceptions of its exceptions file behind its own
+-- what is valid of the policy, with the clarifications and exceptions of its exceptions file behind its own
 abbrev pub licenses_valid : CatalogLists → FileNumbers → RootConfig → ExceptionsRead → ValidConfig
 licenses_valid lists numbers root exceptions =
-    with_exceptions (exceptions_kept lists numbers.exceptions exceptions)
+    with_entries (overlays_kept lists numbers.exceptions exceptions)
+    (exceptions_kept lists numbers.exceptions exceptions)
     (valid_part lists numbers.policy (licenses_in root))
 
 -- the policy that is written so

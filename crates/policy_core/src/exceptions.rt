@@ -1,17 +1,18 @@
 //! The exceptions file, by what was read of it.
-ghost use Rattle.std.specs.Prelude.{◌≡◌, ◌++◌, Ok, OnOk};
+ghost use Rattle.std.specs.Prelude.{◌≡◌, ◌++◌, true, map, Ok, OnOk};
 ghost use Rattle.diag_core.specs.File.{Grows};
 ghost use Rattle.deny_text.specs.Fronts.{StandsInFront};
-ghost use Rattle.policy_core.specs.Exceptions.{HasMoreExceptions};
-ghost use Rattle.policy_core.specs.validate.Order.{AddsInOrder};
-ghost use Rattle.policy_core.specs.ExceptionsText.{HadMemory, answer_exceptions, diagnostics_of};
+ghost use Rattle.policy_core.specs.Exceptions.{HasMoreEntries};
+ghost use Rattle.policy_core.specs.validate.Order.{AddsInOrder, PutsExceptionInOrder, PutsFilesInOrder};
+ghost use Rattle.policy_core.specs.validate.Valid.{clarification_judged, exception_in, kept_by};
+ghost use Rattle.policy_core.specs.ExceptionsText.{HadMemory, answer_exceptions, answer_overlays, diagnostics_of};
 ghost use Rattle.policy_core.specs.Heard.{IsFileText, IsTextHeard, LoadState, TakesExceptions};
 
 use crate::exceptions_text::{NoExceptions, read_exceptions};
 use crate::findings::{syntax, tell_itself, tell_shape, tell_unread};
-use crate::valid::{ValidConfig, ValidExceptions};
-use crate::validate::add_exceptions;
+use crate::valid::ValidConfig;
 use crate::validate::entries::tell_versions;
+use crate::validate::{add_exceptions, judge_clarifications};
 use deny_text::{PathBuf, Text};
 use diag_core::lists::Diagnostics;
 use diag_core::{FileId, Files};
@@ -31,27 +32,57 @@ pub enum ExceptionsHeard {
     Heard(PathBuf, TextHeard),
 }
 
-/// Puts the exceptions that were read behind the others, or what is wrong with them behind the findings so
-/// far; also those that name files under another version than 3.
-fn keep_or_tell(
+/// Puts the clarifications and exceptions that were read behind those of the policy, and what is wrong with
+/// them behind the findings so far: clarifications whose expressions are none, and then exceptions that name
+/// files under another version than 3.
+fn keep_entries<C: Catalog>(
     alloc: Global,
-    version: i32,
+    cfg: &mut ValidConfig,
+    file: FileId,
+    held: ExceptionsFile,
+    catalog: &C,
+    diags: &mut Diagnostics,
+) -> Result<(), AllocError>
+    ensures clarifications { let overlays = kept_by (clarification_judged (C.lists catalog.now) file true) held.clarify in
+        OnOk result (AddsInOrder PutsFilesInOrder overlays cfg.old.clarifications cfg.new.clarifications) }
+    ensures exceptions { let written = map (exception_in file) held.exceptions in
+        OnOk result (AddsInOrder PutsExceptionInOrder written cfg.old.exceptions cfg.new.exceptions) }
+    ensures told { OnOk result (diags.new
+        ≡ diags.old ++ diagnostics_of (C.lists catalog.now) cfg.old.version file (Ok held)) }
+    ensures policy { HasMoreEntries cfg.old cfg.new }
+    ensures findings { StandsInFront diags.old diags.new }
+{
+    let ExceptionsFile {
+        exceptions,
+        clarify,
+    } = held;
+    let clarifications = &mut cfg.clarifications;
+    judge_clarifications(alloc, file, true, clarify, catalog, clarifications, diags)?;
+    tell_versions(alloc, cfg.version, file, exceptions.items(), diags)?;
+    add_exceptions(alloc, file, exceptions, &mut cfg.exceptions)
+}
+
+/// Puts what was read behind the entries of the policy, or what is wrong with it behind the findings so far.
+fn keep_or_tell<C: Catalog>(
+    alloc: Global,
+    cfg: &mut ValidConfig,
     file: FileId,
     read: Result<ExceptionsFile, NoExceptions>,
-    exceptions: &mut ValidExceptions,
+    catalog: &C,
     diags: &mut Diagnostics,
 ) -> Result<(), AllocError>
     ensures answered { OnOk result (HadMemory read) }
-    ensures kept { OnOk result (AddsInOrder (answer_exceptions file read) exceptions.old exceptions.new) }
-    ensures told { OnOk result (diags.new ≡ diags.old ++ diagnostics_of version file read) }
-    ensures exceptions_front { StandsInFront exceptions.old exceptions.new }
+    ensures clarifications { let overlays = answer_overlays (C.lists catalog.now) file read in
+        OnOk result (AddsInOrder PutsFilesInOrder overlays cfg.old.clarifications cfg.new.clarifications) }
+    ensures exceptions { let written = answer_exceptions file read in
+        OnOk result (AddsInOrder PutsExceptionInOrder written cfg.old.exceptions cfg.new.exceptions) }
+    ensures told { OnOk result (diags.new
+        ≡ diags.old ++ diagnostics_of (C.lists catalog.now) cfg.old.version file read) }
+    ensures policy { HasMoreEntries cfg.old cfg.new }
     ensures findings { StandsInFront diags.old diags.new }
 {
     match read {
-        Ok(held) => {
-            tell_versions(alloc, version, file, held.exceptions.items(), diags)?;
-            add_exceptions(alloc, file, held.exceptions, exceptions)
-        }
+        Ok(held) => keep_entries(alloc, cfg, file, held, catalog, diags),
         Err(NoExceptions::Syntax(place)) => {
             let diag = syntax(alloc, file, place)?;
             diags.push(diag)
@@ -61,7 +92,7 @@ fn keep_or_tell(
     }
 }
 
-/// The exceptions of a text that was read, or what is wrong with it; the text goes behind the other files.
+/// The entries of a text that was read, or what is wrong with it; the text goes behind the other files.
 fn take_text<C: Catalog>(
     alloc: Global,
     cfg: &mut ValidConfig,
@@ -76,23 +107,24 @@ fn take_text<C: Catalog>(
         let new : LoadState = record { policy = cfg.new; files = files.new; found = diags.new } in
         OnOk result (TakesExceptions (C.lists catalog.now) (ExceptionsHeard.Heard path (Ok text)) old new) }
     ensures grows { Grows files.old files.new }
-    ensures policy { HasMoreExceptions cfg.old cfg.new }
+    ensures policy { HasMoreEntries cfg.old cfg.new }
     ensures findings { StandsInFront diags.old diags.new }
 {
     let read = read_exceptions(alloc, text.as_str(), catalog);
     match files.add_indexed(path, text) {
-        Ok(file) => keep_or_tell(alloc, cfg.version, file, read, &mut cfg.exceptions, diags),
+        Ok(file) => keep_or_tell(alloc, cfg, file, read, catalog, diags),
         Err(_) => Err(AllocError),
     }
 }
 
-/// Keeps and tells what was read of an exceptions file: its exceptions go behind those of the policy, and its
-/// text, which gets the next number, behind the other files; what is wrong with it goes behind the findings
-/// so far. Of a file that is the policy, or of which no text was read, that is reported, and so is each of its
-/// exceptions that names files where the policy has another version than 3.
+/// Keeps and tells what was read of an exceptions file: its clarifications and exceptions go behind those of
+/// the policy, and its text, which gets the next number, behind the other files; what is wrong with it goes
+/// behind the findings so far. Of a file that is the policy, or of which no text was read, that is reported,
+/// and so is each clarification whose expression is none, and each exception that names files where the
+/// policy has another version than 3.
 ///
 /// It is refused for want of memory alone; the three may have grown then. Files that are known keep their
-/// texts, findings their places, and the policy all that it has but more exceptions, whatever it answers.
+/// texts, findings their places, and the policy all that it has but more entries, whatever it answers.
 pub fn take_exceptions<C: Catalog>(
     alloc: Global,
     cfg: &mut ValidConfig,
@@ -106,7 +138,7 @@ pub fn take_exceptions<C: Catalog>(
         let new : LoadState = record { policy = cfg.new; files = files.new; found = diags.new } in
         OnOk result (TakesExceptions (C.lists catalog.now) heard old new) }
     ensures grows { Grows files.old files.new }
-    ensures policy { HasMoreExceptions cfg.old cfg.new }
+    ensures policy { HasMoreEntries cfg.old cfg.new }
     ensures findings { StandsInFront diags.old diags.new }
 {
     match heard {

@@ -1,2 +1,3 @@
 pub mod Licensees
 pub mod TwoKeys
+mod NoClarify

@@ -1,4 +1,5 @@
 pub mod Clarifications
 pub mod Exceptions
+pub mod Laws
 pub mod Licensees
 pub mod WithSpec

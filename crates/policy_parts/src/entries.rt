@@ -2,6 +2,7 @@
 
 pub mod clarification;
 pub mod exception;
+pub mod laws;
 pub mod licensee;
 mod with_spec;
 

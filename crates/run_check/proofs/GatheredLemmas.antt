@@ -58,15 +58,15 @@ joined_nothing : (place : Coord) (joined : Option JoinedNames) → Unlicensed �
 joined_nothing place None is = refl
 joined_nothing place (Some joined) is = absurd (cc)
 
-settled_nothing : (policy : ℕ) (location : Option Coord) (place : Coord) (by : LicenseBasis) → Unlicensed ≡ info_by policy location place by → notes_of (answer_in by) ≡ []
-settled_nothing policy location place (Clarified held) is = absurd (cc)
-settled_nothing policy location place (Field expression) is = absurd (cc)
-settled_nothing policy location place (Files seen None) is = refl
-settled_nothing policy location place (Files seen (Some joined)) is = absurd (cc)
+settled_nothing : (location : Option Coord) (place : Coord) (by : LicenseBasis) → Unlicensed ≡ info_by location place by → notes_of (answer_in by) ≡ []
+settled_nothing location place (Clarified held) is = absurd (cc)
+settled_nothing location place (Field expression) is = absurd (cc)
+settled_nothing location place (Files seen None) is = refl
+settled_nothing location place (Files seen (Some joined)) is = absurd (cc)
 
 told_notes : (turn : TurnInput) (info : LicenseInfo) (notes : List (List ℕ)) → info ≡ info_in turn → notes ≡ notes_in turn → notes ≡ notes_of (answer_view info notes)
 told_notes turn Unlicensed notes is noted =
-    noted ∙ settled_nothing turn.policy (located_in turn).location (unwrap_or (points_in turn).expression no_place) (basis_in turn) is
+    noted ∙ settled_nothing (located_in turn).location (unwrap_or (points_in turn).expression no_place) (basis_in turn) is
 told_notes turn (SpdxExpression expression nfo) notes is noted = refl
 
 -- what the check has looked at is what the turns say

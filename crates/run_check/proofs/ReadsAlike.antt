@@ -354,8 +354,8 @@ module _ (content : Content) (scanner : Scanner) (all : List ClarificationView) 
   abbrev pub records_heard : FolderReads → ReadResult → List ReadRecord
   records_heard known_reads manifest = with_behind known_reads (first_records known_reads manifest)
 
-  records_are : (policy : ℕ) (known_reads : FolderReads) (manifest : ReadResult) → records_in (turn_with scanner policy all rules krate known_reads manifest files) ≡ records_heard known_reads manifest
-  records_are policy known_reads manifest =
+  records_are : (known_reads : FolderReads) (manifest : ReadResult) → records_in (turn_with scanner all rules krate known_reads manifest files) ≡ records_heard known_reads manifest
+  records_are known_reads manifest =
       ap (λ read. with_behind known_reads (in_order (is_nothing all) read (records_of scanner all krate known_reads)))
       (manifest_located (asks_manifest all krate known_reads) id krate.manifest_path (field_text krate) files manifest)
 
@@ -479,14 +479,14 @@ module _ (content : Content) (scanner : Scanner) (all : List ClarificationView) 
         (subst (λ records. list_any (is_read LicenseFile (components_of path)) records ≡ true) (sym own) (looked_read known_reads path front looked any)))
 
     -- the records of the turn are those by what the content has
-    pub records_there : (policy : ℕ) → records_of_reads reads ≡ records_in (turn_with scanner policy all rules krate known_reads (manifest_by reads) files)
+    pub records_there : records_of_reads reads ≡ records_in (turn_with scanner all rules krate known_reads (manifest_by reads) files)
         → records_of_reads reads ≡ records_heard there_known_reads there_manifest
-    records_there policy has =
+    records_there has =
         let asks = asks_manifest all krate known_reads in
         let front = first_records known_reads (manifest_by reads) in
         let looked = looked_for rules krate known_reads in
         let more = behind_of known_reads front in
-        let own : records_of_reads reads ≡ records_heard known_reads (manifest_by reads) = has ∙ records_are policy known_reads (manifest_by reads) in
+        let own : records_of_reads reads ≡ records_heard known_reads (manifest_by reads) = has ∙ records_are known_reads (manifest_by reads) in
         let alike : AsksAlike known_reads there_known_reads =
         by_test (looks_at_files scanner all krate)
         (λ yes. asks_alike (is_nothing all) (manifest_asked asks id krate.manifest_path (manifest_by reads)) more own yes (no_listing asks id (manifest_by reads)))

@@ -91,16 +91,16 @@ module _ (content : Content) where
       tails : x.recorded ∷ records_of_reads xs ≡ y.recorded ∷ records_of_reads ys → records_of_reads xs ≡ records_of_reads ys
       tails e = cc
 
-  module _ (scanner : Scanner) (policy : ℕ) (all : GatherRules) where
+  module _ (scanner : Scanner) (all : GatherRules) where
     -- reads of a crate that tell the content, and are those that its turn asks for
     abbrev OwnReads : List File → CrateRecord → List AnsweredRead → Type 0
-    OwnReads files krate reads = Told (calls_in (folder_of krate) reads) × HasOwnReads (turn_by scanner policy all files (record { krate = krate; reads = reads }))
+    OwnReads files krate reads = Told (calls_in (folder_of krate) reads) × HasOwnReads (turn_by scanner all files (record { krate = krate; reads = reads }))
 
     own_records : (files : List File) (krate : CrateRecord) (reads : List AnsweredRead) → OwnReads files krate reads
         → records_of_reads reads
         ≡ records_heard content scanner (clarifications_of krate all.clarifications) all.exceptions krate files (known_reads_there content (folder_of krate)) (there_of content (folder_of krate) Manifest krate.manifest_path)
     own_records files krate reads own =
-        records_there content scanner (clarifications_of krate all.clarifications) all.exceptions krate files reads (hear_there content (folder_of krate) reads own.0) policy own.1
+        records_there content scanner (clarifications_of krate all.clarifications) all.exceptions krate files reads (hear_there content (folder_of krate) reads own.0) own.1
 
     own_alike : (files : List File) (krate : CrateRecord) (one other : List AnsweredRead) → OwnReads files krate one → OwnReads files krate other → one ≡ other
     own_alike files krate one other first second =
@@ -116,7 +116,7 @@ module _ (content : Content) where
     crates_in crates = map (λ (one : ReadsOfCrate). one.krate) crates
 
     crates_alike : (files : List File) (xs ys : List ReadsOfCrate) → crates_in xs ≡ crates_in ys → Told (calls_of_all xs) → Told (calls_of_all ys)
-        → AllByRecursion HasOwnReads (turns_of scanner policy all files xs) → AllByRecursion HasOwnReads (turns_of scanner policy all files ys) → xs ≡ ys
+        → AllByRecursion HasOwnReads (turns_of scanner all files xs) → AllByRecursion HasOwnReads (turns_of scanner all files ys) → xs ≡ ys
     crates_alike files [] [] same told tells first second = refl
     crates_alike files [] (y ∷ ys) same told tells first second = absurd (cc)
     crates_alike files (x ∷ xs) [] same told tells first second = absurd (cc)
@@ -126,9 +126,9 @@ module _ (content : Content) where
         let head : x ≡ y =
         crate_alike files x y (heads same) (each_front (TellsContent content) calls_x (calls_of_all xs) told, first.0) (each_front (TellsContent content) calls_y (calls_of_all ys) tells, second.0) in
         ap₂ (λ own rest. own ∷ rest) head
-        (crates_alike (files_behind (turn_by scanner policy all files x).turn) xs ys (tails same) (each_back (TellsContent content) calls_x (calls_of_all xs) told)
+        (crates_alike (files_behind (turn_by scanner all files x).turn) xs ys (tails same) (each_back (TellsContent content) calls_x (calls_of_all xs) told)
         (each_back (TellsContent content) calls_y (calls_of_all ys) tells) first.1
-        (subst (λ own. AllByRecursion HasOwnReads (turns_of scanner policy all (files_behind (turn_by scanner policy all files own).turn) ys)) (sym head) second.1))
+        (subst (λ own. AllByRecursion HasOwnReads (turns_of scanner all (files_behind (turn_by scanner all files own).turn) ys)) (sym head) second.1))
       where
         heads : x.krate ∷ crates_in xs ≡ y.krate ∷ crates_in ys → x.krate ≡ y.krate
         heads e = cc
@@ -244,7 +244,7 @@ module _ (given : CommandArguments) (content : Content) (one other : RequestHear
   reads_of_crates_alike =
       let policy = more.policy in
       let files = files_loaded given.request other in
-      crates_alike content (scanner_of_given given policy) policy.file_id (rules_of policy) files one.crates other.crates
+      crates_alike content (scanner_of_given given policy) (rules_of policy) files one.crates other.crates
       (first.verdicts.settled.crates ∙ selected_alike ∙ sym second.verdicts.settled.crates) found.crates.0 found.crates.1
       (subst (λ table. AllByRecursion HasOwnReads (turns_by policy table one.crates)) found.files
       (subst (λ own. AllByRecursion HasOwnReads (turns_by own (files_loaded given.request one) one.crates)) policies_alike

@@ -69,7 +69,7 @@ verdicts_in report = map (λ crate. crate.verdict) report.crates
 -- The verdicts are those on what the check has looked at, turn after turn; what was found of each crate, in order, and
 -- then of the policy, at the levels that are asked for; and the table that the turns have left, of what was loaded. The
 -- labels of what is found on the way to an expression cut out what they say there; those of a verdict the expression
--- and each of its terms, or the whole string that the policy wrote with escapes.
+-- and each of its terms, or the whole string that the policy or its exceptions file wrote with escapes.
 pub record TellsFindings (levels : LintLevels) (loaded : List File) (turns : List CrateTurn)
     (report : Report) : Type 0 where
   pub are : AreVerdicts (policy_of report.policy) (all_gathered turns) (verdicts_in report)

@@ -105,7 +105,7 @@ module _ (given : CommandArguments) (told middle tells : Option Content) (begun 
         selected = selected_at (map krate_of licenses) gathered.selected;
       };
       ordered = has.ordered;
-      crates = krates_told scanner found.policy.file_id (rules_of found.policy) (files_loaded given.request (hears gathered.crates)) gathered.crates licenses last turned;
+      crates = krates_told scanner (rules_of found.policy) (files_loaded given.request (hears gathered.crates)) gathered.crates licenses last turned;
       records = subst (λ n. AreReads n (reads_of_all gathered.crates)) count_at gathered.records;
       turns = turned;
     }

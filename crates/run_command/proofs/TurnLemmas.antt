@@ -40,10 +40,10 @@ told_expression (SpdxExpression expression nfo) notes = refl
 
 module _ (scanner : Scanner) (policy : ValidConfig) where
   abbrev pub turn_at : List File → ReadsOfCrate → CrateTurn
-  turn_at files one = turn_by scanner policy.file_id (rules_of policy) files one
+  turn_at files one = turn_by scanner (rules_of policy) files one
 
   abbrev pub turns_at : List File → List ReadsOfCrate → List CrateTurn
-  turns_at files crates = turns_of scanner policy.file_id (rules_of policy) files crates
+  turns_at files crates = turns_of scanner (rules_of policy) files crates
 
   -- the reads of each crate are of its own files
   own_at : (files : List File) (one : ReadsOfCrate) → HasOwnReads (turn_at files one) → ReadsItsFiles scanner policy one

@@ -13,7 +13,7 @@ use Rattle.policy_load.specs.declared.error.LoadError.TheVariants.{ConfigInvalid
 use Rattle.policy_load.specs.declared.loading.PolicyPaths.{PolicyPaths}
 use Rattle.policy_core.specs.config.Root.{root_of}
 use Rattle.policy_core.specs.declared.config.root.RootConfig.{RootConfig}
-use Rattle.policy_core.specs.Exceptions.{ExceptionsRead, exceptions_findings, file_version_findings, shape_diagnostic}
+use Rattle.policy_core.specs.Exceptions.{ExceptionsRead, exceptions_findings, file_version_findings, overlay_findings, shape_diagnostic}
 use Rattle.policy_core.specs.Heard.{exceptions_read_of, value_or_fault}
 use Rattle.policy_core.specs.declared.exceptions.ExceptionsHeard.TheVariants.{Heard as heard}
 use Rattle.policy_core.specs.Policy.{PolicyFound, absence_findings, policy_found, load_findings, licenses_in}
@@ -55,11 +55,13 @@ told_among lists policy exceptions absence root read any =
     let config = licenses_in root in
     let front = absence ++ address_findings policy config ++ clarification_findings lists policy config ++ removed_findings policy config ++ version_findings config.version policy config.exceptions in
     let file = front ++ exceptions_findings lists exceptions read in
-    let versions = file ++ file_version_findings lists config.version exceptions read in
+    let overlays = file ++ overlay_findings lists exceptions read in
+    let versions = overlays ++ file_version_findings lists config.version exceptions read in
     let targets = versions ++ target_findings policy root in
     let keys = targets ++ graph_key_findings policy root in
     any_front keys (output_key_findings policy root) (any_front targets (graph_key_findings policy root) (any_front versions (target_findings policy root)
-    (any_front file (file_version_findings lists config.version exceptions read) (any_behind front (exceptions_findings lists exceptions read) any))))
+    (any_front overlays (file_version_findings lists config.version exceptions read)
+    (any_front file (overlay_findings lists exceptions read) (any_behind front (exceptions_findings lists exceptions read) any)))))
 
 -- a policy that is answered has no error among its findings
 pub unless_Ok : (it found : PolicyFound) → unless_error it ≡ Ok found → (it ≡ found) × (list_any is_error it.findings ≡ false)

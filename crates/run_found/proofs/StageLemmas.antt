@@ -45,7 +45,7 @@ gather_cut scanner policy tree files last graph choice licenses gathered = recor
     ends = inl (refl, refl);
     among = (
       [],
-      sym (krates_told scanner policy.file_id (rules_of policy) files gathered.crates licenses last gathered.turns)
+      sym (krates_told scanner (rules_of policy) files gathered.crates licenses last gathered.turns)
           ∙ sym (append-nil (map (λ (one : ReadsOfCrate). one.krate) gathered.crates)),
     );
   };

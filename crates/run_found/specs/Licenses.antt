@@ -88,7 +88,7 @@ pub record ReadsItsFiles (scanner : Scanner) (policy : ValidConfig) (one : Reads
 
 -- the turns of the crates, one after another, each by its own reads, from a file table on
 abbrev pub turns_heard : Scanner → ValidConfig → List File → List ReadsOfCrate → List CrateTurn
-turns_heard scanner policy files crates = turns_of scanner policy.file_id (rules_of policy) files crates
+turns_heard scanner policy files crates = turns_of scanner (rules_of policy) files crates
 
 -- ---- over a tree
 
@@ -111,7 +111,7 @@ pub record IsTurnBegun (scanner : Scanner) (policy : ValidConfig) (files : List 
   pub crates_are : crates ≡ earlier ++ one ∷ []
   pub lost_is : lost ≡ call_lost (folder_of one.krate) next
   pub front : IsFront (records_of_reads one.reads ++ option_to_list next)
-      (records_in (turn_by scanner policy.file_id (rules_of policy)
+      (records_in (turn_by scanner (rules_of policy)
       (files_behind_all files (turns_heard scanner policy files earlier)) one).turn)
 
 -- The first ones of these crates had their turns, from a file table on, each by its own reads, and perhaps one more was

@@ -170,12 +170,13 @@ fn hits_of(alloc: Global, words: &str) -> Option<Vec<Option<Hit>>> {
     Some(hits)
 }
 
-/// The field, the policy, or files by their paths.
+/// The field, the policy, its exceptions file, or files by their paths.
 fn expr_source(alloc: Global, words: &str) -> Option<LicenseExprSource> {
     let (from, paths) = first_word(words);
     match from {
         "field" => Some(LicenseExprSource::Metadata(None)),
         "policy" => Some(LicenseExprSource::UserOverride),
+        "overlay" => Some(LicenseExprSource::OverlayOverride),
         _ => Some(LicenseExprSource::LicenseFiles(texts(alloc, paths)?)),
     }
 }

@@ -57,6 +57,7 @@ fn put_info(out: &mut AnswerText, info: &LicenseInfo) {
         LicenseExprSource::Metadata(None) => out.put(" by the field"),
         LicenseExprSource::Metadata(Some(_)) => out.put(" by the field at a place"),
         LicenseExprSource::UserOverride => out.put(" by the policy"),
+        LicenseExprSource::OverlayOverride => out.put(" by the overlay"),
         LicenseExprSource::LicenseFiles(paths) => {
             out.put(" by files");
             put_texts(out, " ", paths.items());

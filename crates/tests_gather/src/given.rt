@@ -258,6 +258,8 @@ fn clarification(alloc: Global, words: &str) -> Option<ValidClarification> {
         whole: None,
         expression,
         license_files,
+        file_id: 0,
+        overlay: false,
     })
 }
 

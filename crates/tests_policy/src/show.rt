@@ -136,6 +136,10 @@ fn put_tied(out: &mut AnswerText, files: &FileSources) {
 impl Fields for ExceptionsFile {
     fn put(&self, out: &mut AnswerText) {
         put_all(out, self.exceptions.items());
+        for clarification in self.clarify.items() {
+            out.put("clarify ");
+            clarification.put(out);
+        }
     }
 }
 
@@ -203,6 +207,7 @@ fn put_sources(out: &mut AnswerText, files: &FileSources) {
     }
 }
 
+/// Puts clarifications that are valid, each of the exceptions file with the number of that file.
 pub fn put_clarified(out: &mut AnswerText, clarifications: &ValidClarifications) {
     for clarification in clarifications.items() {
         write!(out, "{} from ", clarification.expression);
@@ -211,6 +216,9 @@ pub fn put_clarified(out: &mut AnswerText, clarifications: &ValidClarifications)
             None => write!(out, "{}", clarification.expr_offset),
         }
         put_sources(out, &clarification.license_files);
+        if clarification.overlay {
+            write!(out, " over {}", clarification.file_id);
+        }
         out.put(";");
     }
 }

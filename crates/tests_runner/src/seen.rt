@@ -193,6 +193,7 @@ fn put_source(out: &mut AnswerText, source: &LicenseExprSource) {
             put_span(out, *span);
         }
         LicenseExprSource::UserOverride => out.put(" by the policy"),
+        LicenseExprSource::OverlayOverride => out.put(" by the overlay"),
         LicenseExprSource::LicenseFiles(paths) => {
             out.put(" by files");
             put_each(out, " ", paths.items());

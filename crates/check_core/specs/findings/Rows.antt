@@ -18,7 +18,7 @@ use Rattle.diag_core.specs.Label.{label_at}
 use Rattle.gather_core.specs.declared.findings.license.LicenseExprInfo.{LicenseExprInfo}
 use Rattle.gather_core.specs.declared.findings.license.LicenseExprSource.{LicenseExprSource}
 use Rattle.gather_core.specs.declared.findings.license.LicenseExprSource.TheVariants.{Metadata, UserOverride}
-use Rattle.gather_core.specs.declared.findings.license.LicenseExprSource.TheVariants.{LicenseFiles}
+use Rattle.gather_core.specs.declared.findings.license.LicenseExprSource.TheVariants.{OverlayOverride, LicenseFiles}
 use Rattle.check_core.specs.findings.Findings.{expression_finding, verdict_labels, skipped_finding, unlicensed_finding}
 use Rattle.check_core.specs.findings.Sources.{source_text}
 
@@ -38,6 +38,7 @@ abbrev pub source_rows : List SourceRow
 source_rows =
     source_row (Metadata None) (codes "Cargo.toml `license`")
     ∷ source_row UserOverride (codes "user override")
+    ∷ source_row OverlayOverride (codes "overlay override")
     ∷ source_row (LicenseFiles (codes "COPYING" ∷ [])) (codes "license files: COPYING")
     ∷ source_row (LicenseFiles (codes "COPYING" ∷ codes "a/LICENSE" ∷ codes "b" ∷ []))
     (codes "license files: COPYING, a/LICENSE, b")

@@ -3,7 +3,7 @@ use Rattle.std.specs.Prelude.{ℕ, List, [], ◌∷◌, ◌++◌, codes}
 use Rattle.std.specs.List.{flat_map}
 use Rattle.gather_core.specs.declared.findings.license.LicenseExprSource.{LicenseExprSource}
 use Rattle.gather_core.specs.declared.findings.license.LicenseExprSource.TheVariants.{Metadata, UserOverride}
-use Rattle.gather_core.specs.declared.findings.license.LicenseExprSource.TheVariants.{LicenseFiles}
+use Rattle.gather_core.specs.declared.findings.license.LicenseExprSource.TheVariants.{OverlayOverride, LicenseFiles}
 
 -- a path that follows another one
 abbrev pub behind_comma : List ℕ → List ℕ
@@ -17,4 +17,5 @@ with_commas (path ∷ paths) = path ++ flat_map behind_comma paths
 abbrev pub source_text : LicenseExprSource → List ℕ
 source_text (Metadata place) = codes "Cargo.toml `license`"
 source_text UserOverride = codes "user override"
+source_text OverlayOverride = codes "overlay override"
 source_text (LicenseFiles paths) = codes "license files: " ++ with_commas paths

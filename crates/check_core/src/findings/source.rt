@@ -31,13 +31,15 @@ fn files_text(alloc: Global, paths: &[Text]) -> Result<Text, AllocError>
     Ok(Text::from(text))
 }
 
-/// What an expression was retrieved via: the manifest's field, the policy, or the licence files by their paths.
+/// What an expression was retrieved via: the manifest's field, the policy, its exceptions file, or the licence
+/// files by their paths.
 pub fn source_text(alloc: Global, source: &LicenseExprSource) -> Result<Text, AllocError>
     ensures { IfOk result (λ text. text ≡ spec.source_text source.now) }
 {
     match source {
         LicenseExprSource::Metadata(_) => Text::copy(alloc, "Cargo.toml `license`"),
         LicenseExprSource::UserOverride => Text::copy(alloc, "user override"),
+        LicenseExprSource::OverlayOverride => Text::copy(alloc, "overlay override"),
         LicenseExprSource::LicenseFiles(paths) => files_text(alloc, paths.items()),
     }
 }

@@ -48,7 +48,7 @@ warning code message labels = record {
 abbrev pub label_of : Coord → List ℕ → Label
 label_of at message = label_at Secondary at.file at.span message
 
--- a file of a clarification is not there; its path is in the policy's file
+-- a file of a clarification is not there; its path is in the clarification's file
 abbrev pub missing_file : Coord → Diag
 missing_file path =
     warning MissingClarificationFile (codes "unable to locate specified license file") (label_of path [] ∷ [])

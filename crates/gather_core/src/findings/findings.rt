@@ -51,7 +51,7 @@ fn label(alloc: Global, at: Coord, message: &str) -> Result<Label, AllocError>
     Label::secondary(alloc, at.file, at.span).with_message(message)
 }
 
-/// A file of a clarification that is not there, by its path in the policy's file.
+/// A file of a clarification that is not there, by its path in the clarification's file.
 pub fn missing_file(alloc: Global, path: Coord) -> Result<Diag, AllocError>
     ensures { IfOk result (λ finding. finding ≡ spec.missing_file path) }
 {

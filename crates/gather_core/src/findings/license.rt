@@ -10,6 +10,8 @@ pub enum LicenseExprSource {
     Metadata(Option<(FileId, Span)>),
     /// A clarification of the policy.
     UserOverride,
+    /// A clarification of the exceptions file.
+    OverlayOverride,
     /// Licence files, by the paths of those that were joined.
     LicenseFiles(Texts),
 }

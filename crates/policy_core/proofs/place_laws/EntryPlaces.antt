@@ -15,21 +15,21 @@ use Rattle.toml_subset.specs.Data.{Entries, Toml}
 use Rattle.toml_subset.specs.Written.{WrittenString}
 use Rattle.toml_value.specs.Taken.{string_of}
 use Rattle.policy_toml.specs.Readings.{list_of}
-use Rattle.policy_toml.specs.rows.Rows.{in_table, required_value, shaped_by}
+use Rattle.policy_toml.specs.rows.Rows.{in_table, optional_value, required_value, shaped_by}
 use Rattle.policy_parts.specs.Values.{file_source_of}
 use Rattle.policy_core.specs.place_laws.Places.{StaysIn, KeepsPlacesIn, keeps_each, keeps_where}
 use Rattle.policy_core.specs.place_laws.Parts.{file_source_keeps}
-use Rattle.policy_core.proofs.place_laws.PlaceLemmas.{KeepsInTable, map_stays, then_stays, list_stays, table_stays, needed_stays, given_kept, key_tells, rows_stay}
+use Rattle.policy_core.proofs.place_laws.PlaceLemmas.{KeepsInTable, map_stays, then_stays, list_stays, table_stays, needed_stays, given_kept, list_kept, key_tells, rows_stay}
 use Rattle.policy_core.proofs.place_laws.PartLemmas.{file_source_stays}
 use Rattle.policy_parts.specs.spec.Reading.{spec_of, rest_of_spec}
 use Rattle.policy_parts.specs.spec.Spec.{Spec}
 use Rattle.policy_parts.specs.entries.Clarifications.{written_of, clarified_at, clarification_of}
-use Rattle.policy_parts.specs.entries.Exceptions.{exception_rows, excepted_in, allowed_at, exception_of, exceptions_of, exceptions_file_at, exceptions_file_of}
+use Rattle.policy_parts.specs.entries.Exceptions.{exception_rows, excepted_in, allowed_at, exception_of, exceptions_of, exceptions_file_rows, exceptions_file_in, exceptions_file_at, exceptions_file_of}
 use Rattle.policy_parts.specs.entries.Licensees.{named_mode, span_from, place_in, licensee_by, part_in, licensee_in, licensee_of, licensees_of}
 use Rattle.policy_parts.specs.entries.WithSpec.{with_spec}
 use Rattle.policy_parts.specs.declared.entries.exception.Exception.{Exception}
 use Rattle.policy_parts.specs.declared.entries.licensee.Licensee.{Licensee}
-use Rattle.policy_core.specs.place_laws.Entries.{spec_keeps, licensee_keeps, ExceptionKeeps, exceptions_file_keeps, ClarificationKeeps}
+use Rattle.policy_core.specs.place_laws.Entries.{spec_keeps, licensee_keeps, ExceptionKeeps, ExceptionsFileKeeps, ClarificationKeeps}
 use Rattle.policy_core.proofs.place_laws.Borders.{part_is_text, moved_lies}
 use Rattle.policy_core.proofs.place_laws.SpecPlaces.{keeps_spelling, spelled_string, spec_stays, left_stands}
 
@@ -135,17 +135,6 @@ module _ (text : List ℕ) (utf8 : IsUtf8 text) where
     pub exceptions_stay : KeepsPlacesIn text (keeps_each ExceptionKeeps) (exceptions_of lists)
     exceptions_stay = list_stays text ExceptionKeeps (exception_of lists) exception_stays
 
-    file_stays : KeepsInTable text exceptions_file_keeps (exceptions_file_at lists)
-    file_stays entries span lies placed =
-        then_stays text (keeps_each ExceptionKeeps) exceptions_file_keeps
-        (λ (exceptions : List Exception). shaped_by (codes "exceptions" ∷ []) [] (λ _. record { exceptions = exceptions }) entries span)
-        (required_value (codes "exceptions") (exceptions_of lists) entries span)
-        (λ exceptions kept. rows_stay text exceptions_file_keeps (codes "exceptions" ∷ []) [] (λ _. record { exceptions = exceptions }) tt entries span lies placed kept)
-        (needed_stays text (keeps_each ExceptionKeeps) (codes "exceptions") (exceptions_of lists) exceptions_stay entries span lies placed)
-
-    pub exceptions_file_stays : KeepsPlacesIn text exceptions_file_keeps (exceptions_file_of lists)
-    exceptions_file_stays = table_stays text exceptions_file_keeps (exceptions_file_at lists) file_stays
-
   -- ---- clarifications
 
   written_stays : KeepsPlacesIn text WrittenKeeps written_of
@@ -176,3 +165,26 @@ module _ (text : List ℕ) (utf8 : IsUtf8 text) where
       (with_spec clarified_at value)
       (λ read kept. record { spec = kept.0; expression = kept.1.written.expression; spelled = kept.1.written.spelled; files = kept.1.files })
       (with_spec_stays ClarifiedKeeps clarified_at clarified_stays value placed)
+
+  pub clarifications_stay : KeepsPlacesIn text (keeps_each ClarificationKeeps) (list_of clarification_of)
+  clarifications_stay = list_stays text ClarificationKeeps clarification_of clarification_stays
+
+  -- ---- a file of exceptions
+
+  module _ (fits : length text < 2 ^ 64) (lists : CatalogLists) (laws : IsCatalog lists) where
+    file_stays : KeepsInTable text ExceptionsFileKeeps (exceptions_file_at lists)
+    file_stays entries span lies placed =
+        then_stays text (keeps_each ExceptionKeeps) ExceptionsFileKeeps
+        (λ (exceptions : List Exception). shaped_by (codes "exceptions" ∷ []) exceptions_file_rows (exceptions_file_in exceptions) entries span)
+        (required_value (codes "exceptions") (exceptions_of lists) entries span)
+        (λ exceptions kept. rows_stay text ExceptionsFileKeeps (codes "exceptions" ∷ []) exceptions_file_rows (exceptions_file_in exceptions)
+        (key_tells text (keeps_each ClarificationKeeps) (codes "clarify") (list_of clarification_of) clarifications_stay, tt) entries span lies placed
+        (record {
+          exceptions = kept;
+          clarify = list_kept text ClarificationKeeps (optional_value (codes "clarify") (list_of clarification_of) entries)
+              (given_kept text (keeps_each ClarificationKeeps) (codes "clarify") (list_of clarification_of) clarifications_stay entries placed);
+        }))
+        (needed_stays text (keeps_each ExceptionKeeps) (codes "exceptions") (exceptions_of lists) (exceptions_stay fits lists laws) entries span lies placed)
+
+    pub exceptions_file_stays : KeepsPlacesIn text ExceptionsFileKeeps (exceptions_file_of lists)
+    exceptions_file_stays = table_stays text ExceptionsFileKeeps (exceptions_file_at lists) file_stays

@@ -33,7 +33,7 @@ use Rattle.policy_core.proofs.place_laws.PlaceLemmas.{TellsPlaces, map_stays, th
 use Rattle.policy_core.proofs.place_laws.PartLemmas.{lint_stays, flag_tells, texts_tell, private_stays, output_stays, targets_stay, graph_stays}
 use Rattle.policy_core.specs.place_laws.Entries.{licensee_keeps, ExceptionKeeps, ClarificationKeeps}
 use Rattle.policy_core.specs.place_laws.Policies.{ConfigKeeps, RootKeeps}
-use Rattle.policy_core.proofs.place_laws.EntryPlaces.{licensees_stay, exceptions_stay, clarification_stays}
+use Rattle.policy_core.proofs.place_laws.EntryPlaces.{licensees_stay, exceptions_stay, clarifications_stay}
 
 module _ (text : List ℕ) where
   -- ---- the places of keys
@@ -85,9 +85,6 @@ module _ (text : List ℕ) where
   moved_kept (Some moved) targets there kept = there
 
 module _ (text : List ℕ) (utf8 : IsUtf8 text) (fits : length text < 2 ^ 64) (lists : CatalogLists) (laws : IsCatalog lists) where
-  clarifications_stay : KeepsPlacesIn text (keeps_each ClarificationKeeps) (list_of clarification_of)
-  clarifications_stay = list_stays text ClarificationKeeps clarification_of (clarification_stays text utf8)
-
   lint_tells : (name : List ℕ) → TellsPlaces text (key name lint_of)
   lint_tells name = key_tells text keeps_nothing name lint_of (lint_stays text)
 
@@ -113,7 +110,7 @@ module _ (text : List ℕ) (utf8 : IsUtf8 text) (fits : length text < 2 ^ 64) (l
                     (
                       lint_tells (codes "unused-allowed-license"),
                       (
-                        key_tells text (keeps_each ClarificationKeeps) (codes "clarify") (list_of clarification_of) clarifications_stay,
+                        key_tells text (keeps_each ClarificationKeeps) (codes "clarify") (list_of clarification_of) (clarifications_stay text utf8),
                         (
                           key_tells text (keeps_each ExceptionKeeps) (codes "exceptions") (exceptions_of lists) (exceptions_stay text utf8 fits lists laws),
                           (lint_tells (codes "unused-license-exception"), (flag_tells text (codes "include-dev"), (flag_tells text (codes "include-build"), tt))),
@@ -136,7 +133,7 @@ module _ (text : List ℕ) (utf8 : IsUtf8 text) (fits : length text < 2 ^ 64) (l
     allow = list_kept text licensee_keeps (optional_value (codes "allow") (licensees_of lists) entries)
         (given_kept text (keeps_each licensee_keeps) (codes "allow") (licensees_of lists) (licensees_stay text utf8 fits lists laws) entries placed);
     clarify = list_kept text ClarificationKeeps (optional_value (codes "clarify") (list_of clarification_of) entries)
-        (given_kept text (keeps_each ClarificationKeeps) (codes "clarify") (list_of clarification_of) clarifications_stay entries placed);
+        (given_kept text (keeps_each ClarificationKeeps) (codes "clarify") (list_of clarification_of) (clarifications_stay text utf8) entries placed);
     exceptions = list_kept text ExceptionKeeps (optional_value (codes "exceptions") (exceptions_of lists) entries)
         (given_kept text (keeps_each ExceptionKeeps) (codes "exceptions") (exceptions_of lists) (exceptions_stay text utf8 fits lists laws) entries placed);
     deprecated = keys_lie text removed_keys entries placed;

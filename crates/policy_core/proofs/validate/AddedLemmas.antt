@@ -1,4 +1,4 @@
--- Exceptions that are put in order behind others, one after another.
+-- Entries that are put in order behind others, one after another.
 use Rattle.std.proofs.Common.{◌≡◌, ◌∙◌, sym, ap, subst, ℕ, List, [], ◌∷◌, ◌++◌, append-nil, append_assoc, map}
 use Rattle.std.proofs.lemmas.List.{map-append}
 use Rattle.std.specs.List.{AllZip}
@@ -9,12 +9,13 @@ use Rattle.policy_core.specs.validate.Valid.{exception_in}
 use Rattle.policy_core.specs.declared.valid.policy.ValidException.{ValidException}
 use Rattle.policy_core.proofs.validate.JudgedLemmas.{zipped_append}
 
-pub adds_none : (valid : List ValidException) → AddsInOrder [] valid valid
-adds_none valid = ([], tt, sym (append-nil valid))
+pub adds_none : {T : Type 0} (puts : T → T → Type 0) (valid : List T) → AddsInOrder puts [] valid valid
+adds_none puts valid = ([], tt, sym (append-nil valid))
 
 pub adds_more : (file : ℕ) (items : List Exception) (item : Exception) (sorted : ValidException) (first before after : List ValidException)
     → PutsExceptionInOrder (exception_in file item) sorted → after ≡ before ++ sorted ∷ []
-    → AddsInOrder (map (exception_in file) items) first before → AddsInOrder (map (exception_in file) (items ++ item ∷ [])) first after
+    → AddsInOrder PutsExceptionInOrder (map (exception_in file) items) first before
+    → AddsInOrder PutsExceptionInOrder (map (exception_in file) (items ++ item ∷ [])) first after
 adds_more file items item sorted first before after puts added so_far = (
   so_far.0 ++ sorted ∷ [],
   subst (λ written. AllZip PutsExceptionInOrder written (so_far.0 ++ sorted ∷ [])) (sym (map-append (exception_in file) items (item ∷ [])))
@@ -23,9 +24,9 @@ adds_more file items item sorted first before after puts added so_far = (
 )
 
 -- all of them are those that were added to none
-pub all_added : (written valid : List ValidException) → AddsInOrder written [] valid → AllZip PutsExceptionInOrder written valid
-all_added written valid adds = subst (AllZip PutsExceptionInOrder written) (sym adds.2) adds.1
+pub all_added : {T : Type 0} (puts : T → T → Type 0) (written valid : List T) → AddsInOrder puts written [] valid → AllZip puts written valid
+all_added puts written valid adds = subst (AllZip puts written) (sym adds.2) adds.1
 
 -- those that were there stand in front
-pub added_behind : (written old new : List ValidException) → AddsInOrder written old new → StandsInFront old new
-added_behind written old new adds = (adds.0, adds.2)
+pub added_behind : {T : Type 0} (puts : T → T → Type 0) (written old new : List T) → AddsInOrder puts written old new → StandsInFront old new
+added_behind puts written old new adds = (adds.0, adds.2)

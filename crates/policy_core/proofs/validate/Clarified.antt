@@ -1,5 +1,5 @@
 -- Clarifications that are judged by what reading their expressions answers.
-use Rattle.std.proofs.Common.{◌≡◌, ◌∙◌, refl, sym, ap, subst, ℕ, List, [], ◌∷◌, ◌++◌, Some, None, Ok, Err}
+use Rattle.std.proofs.Common.{◌≡◌, ◌∙◌, refl, sym, ap, subst, ℕ, Bool, List, [], ◌∷◌, ◌++◌, append_assoc, Some, None, Ok, Err}
 use Rattle.std.specs.List.{AllZip}
 use Rattle.std.specs.Option.{option_to_list}
 use Rattle.std.specs.Result.{result_ok, result_err}
@@ -12,7 +12,7 @@ use Rattle.spdx_core.specs.Reading.{ExpressionView, expression_of_text}
 use Rattle.spdx_core.proofs.SpellingLemmas.{is_read}
 use Rattle.policy_parts.specs.declared.entries.clarification.Clarification.{Clarification}
 use Rattle.policy_core.specs.declared.valid.policy.ValidClarification.{ValidClarification}
-use Rattle.policy_core.specs.validate.Order.{PutsFilesInOrder, PutsJudgedInOrder}
+use Rattle.policy_core.specs.validate.Order.{AddsInOrder, PutsFilesInOrder, PutsJudgedInOrder}
 use Rattle.policy_core.specs.validate.Valid.{ItemOrFinding, clarification_judged, clarification_judged_by, kept_by, findings_by_each, no_expression, strict_mode, with_expression}
 use Rattle.policy_core.proofs.validate.JudgedLemmas.{kept_more, zipped_append, found_more}
 
@@ -21,36 +21,36 @@ of_read lists text read is =
     is_read strict_mode lists text read.tree read.terms is.spelled
     ∙ ap (λ (own : List ℕ). Some (let e : ExpressionView = record { text = own; terms = read.terms; tree = read.tree } in e)) (sym is.text_kept)
 
-good : (lists : CatalogLists) (file : ℕ) (clarification : Clarification) (read : ExpressionView)
+good : (lists : CatalogLists) (file : ℕ) (overlay : Bool) (clarification : Clarification) (read : ExpressionView)
     → IsExpressionRead strict_mode lists clarification.expression.value read
-    → clarification_judged lists file clarification ≡ Ok (with_expression clarification read)
-good lists file clarification read is =
+    → clarification_judged lists file overlay clarification ≡ Ok (with_expression file overlay clarification read)
+good lists file overlay clarification read is =
     let text = clarification.expression.value in
-    ap (λ fault. clarification_judged_by file clarification fault (expression_of_text strict_mode lists text)) is.fine
-    ∙ ap (λ found. clarification_judged_by file clarification None found) (of_read lists text read is)
+    ap (λ fault. clarification_judged_by file overlay clarification fault (expression_of_text strict_mode lists text)) is.fine
+    ∙ ap (λ found. clarification_judged_by file overlay clarification None found) (of_read lists text read is)
 
-bad : (lists : CatalogLists) (file : ℕ) (clarification : Clarification) (fault : ParseError)
+bad : (lists : CatalogLists) (file : ℕ) (overlay : Bool) (clarification : Clarification) (fault : ParseError)
     → first_fault strict_mode lists clarification.expression.value ≡ Some fault
-    → clarification_judged lists file clarification ≡ Err (no_expression file clarification fault)
-bad lists file clarification fault is =
+    → clarification_judged lists file overlay clarification ≡ Err (no_expression file clarification fault)
+bad lists file overlay clarification fault is =
     let text = clarification.expression.value in
-    ap (λ found. clarification_judged_by file clarification found (expression_of_text strict_mode lists text)) is
+    ap (λ found. clarification_judged_by file overlay clarification found (expression_of_text strict_mode lists text)) is
 
 -- an expression was read, and the clarification is kept with its files in order
-pub judged_good : (lists : CatalogLists) (file : ℕ) (clarification : Clarification) (read : ExpressionView) (sorted : ValidClarification)
+pub judged_good : (lists : CatalogLists) (file : ℕ) (overlay : Bool) (clarification : Clarification) (read : ExpressionView) (sorted : ValidClarification)
     → IsExpressionRead strict_mode lists clarification.expression.value read
-    → PutsFilesInOrder (with_expression clarification read) sorted
-    → PutsJudgedInOrder (clarification_judged lists file clarification) (Ok sorted)
-judged_good lists file clarification read sorted is puts =
-    subst (λ (judged : ItemOrFinding ValidClarification). PutsJudgedInOrder judged (Ok sorted)) (sym (good lists file clarification read is)) puts
+    → PutsFilesInOrder (with_expression file overlay clarification read) sorted
+    → PutsJudgedInOrder (clarification_judged lists file overlay clarification) (Ok sorted)
+judged_good lists file overlay clarification read sorted is puts =
+    subst (λ (judged : ItemOrFinding ValidClarification). PutsJudgedInOrder judged (Ok sorted)) (sym (good lists file overlay clarification read is)) puts
 
 -- a fault was reported
-pub judged_bad : (lists : CatalogLists) (file : ℕ) (clarification : Clarification) (fault : ParseError) (told : Diagnostic)
+pub judged_bad : (lists : CatalogLists) (file : ℕ) (overlay : Bool) (clarification : Clarification) (fault : ParseError) (told : Diagnostic)
     → first_fault strict_mode lists clarification.expression.value ≡ Some fault
     → told ≡ no_expression file clarification fault
-    → PutsJudgedInOrder (clarification_judged lists file clarification) (Err told)
-judged_bad lists file clarification fault told is says =
-    subst (λ (judged : ItemOrFinding ValidClarification). PutsJudgedInOrder judged (Err told)) (sym (bad lists file clarification fault is)) says
+    → PutsJudgedInOrder (clarification_judged lists file overlay clarification) (Err told)
+judged_bad lists file overlay clarification fault told is says =
+    subst (λ (judged : ItemOrFinding ValidClarification). PutsJudgedInOrder judged (Err told)) (sym (bad lists file overlay clarification fault is)) says
 
 -- ---- one clarification after another
 
@@ -68,15 +68,17 @@ kept_in_order (Err told) (Ok sorted) puts = absurd puts
 kept_in_order (Err told) (Err other) puts = tt
 
 pub clarification_kept : (judge : Clarification → ItemOrFinding ValidClarification) (items : List Clarification) (item : Clarification) (judged : ItemOrFinding ValidClarification)
-    (before after : List ValidClarification)
+    (first before after : List ValidClarification)
     → PutsJudgedInOrder (judge item) judged → after ≡ before ++ option_to_list (result_ok judged)
-    → AllZip PutsFilesInOrder (kept_by judge items) before
-    → AllZip PutsFilesInOrder (kept_by judge (items ++ item ∷ [])) after
-clarification_kept judge items item judged before after puts added so_far =
-    subst (λ sorted. AllZip PutsFilesInOrder (kept_by judge (items ++ item ∷ [])) sorted) (sym added)
-    (subst (λ written. AllZip PutsFilesInOrder written (before ++ option_to_list (result_ok judged))) (sym (kept_more judge items item))
-    (zipped_append PutsFilesInOrder (kept_by judge items) before (option_to_list (result_ok (judge item))) (option_to_list (result_ok judged)) so_far
-    (kept_in_order (judge item) judged puts)))
+    → AddsInOrder PutsFilesInOrder (kept_by judge items) first before
+    → AddsInOrder PutsFilesInOrder (kept_by judge (items ++ item ∷ [])) first after
+clarification_kept judge items item judged first before after puts added so_far =
+    let more = option_to_list (result_ok judged) in (
+      so_far.0 ++ more,
+      subst (λ written. AllZip PutsFilesInOrder written (so_far.0 ++ more)) (sym (kept_more judge items item))
+          (zipped_append PutsFilesInOrder (kept_by judge items) so_far.0 (option_to_list (result_ok (judge item))) more so_far.1 (kept_in_order (judge item) judged puts)),
+      added ∙ ap (λ b. b ++ more) so_far.2 ∙ append_assoc first so_far.0 more,
+    )
 
 pub clarification_told : (judge : Clarification → ItemOrFinding ValidClarification) (items : List Clarification) (item : Clarification) (judged : ItemOrFinding ValidClarification)
     (first before after : List Diagnostic)

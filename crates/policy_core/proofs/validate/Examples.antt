@@ -1,5 +1,5 @@
 -- Clarifications and removed keys, worked out by hand from the rules, over a catalogue of MIT, ISC and the deprecated GPL-3.0.
-use Rattle.std.proofs.Common.{◌≡◌, ℕ, ◌+◌, Bool, true, false, List, [], ◌∷◌, length, Option, Some, None, Err, codes, pos, negsuc, refl}
+use Rattle.std.proofs.Common.{◌≡◌, ℕ, ◌+◌, Bool, true, false, List, [], ◌∷◌, map, length, Option, Some, None, Err, codes, pos, negsuc, refl}
 use Rattle.spdx_terms.specs.catalog.Catalog.{CatalogLists}
 use Rattle.spdx_terms.specs.catalog.Table.{plain_entry}
 use Rattle.deny_text.specs.declared.span.Span.{Span}
@@ -11,7 +11,7 @@ use Rattle.policy_parts.specs.declared.entries.clarification.Clarification.{Clar
 use Rattle.policy_parts.specs.spec.Spec.{Spec}
 use Rattle.policy_parts.specs.declared.entries.exception.Exception.{Exception}
 use Rattle.policy_parts.specs.declared.file_source.FileSource.{FileSource}
-use Rattle.policy_core.specs.validate.Valid.{clarification_judged, error_at, exception_in, findings_by_each, needs_version_3, removed_key, version_findings}
+use Rattle.policy_core.specs.validate.Valid.{clarification_judged, error_at, exception_in, findings_by_each, kept_by, needs_version_3, removed_key, version_findings}
 
 abbrev lists : CatalogLists
 lists = record {
@@ -40,28 +40,37 @@ clarification text escapes = record {
 abbrev told : Span → List ℕ → Diagnostic
 told place words = error_at 3 (codes "unable to parse license expression") place words
 
-unfinished : clarification_judged lists 3 (clarification (codes "MIT AND") false) ≡ Err (told (at 17 17) (codes "unexpected term"))
+unfinished : clarification_judged lists 3 false (clarification (codes "MIT AND") false) ≡ Err (told (at 17 17) (codes "unexpected term"))
 unfinished = refl
 
-with_slash : clarification_judged lists 3 (clarification (codes "MIT/ISC") false) ≡ Err (told (at 13 14) (codes "invalid character(s)"))
+with_slash : clarification_judged lists 3 false (clarification (codes "MIT/ISC") false) ≡ Err (told (at 13 14) (codes "invalid character(s)"))
 with_slash = refl
 
-deprecated : clarification_judged lists 3 (clarification (codes "GPL-3.0") false)
+deprecated : clarification_judged lists 3 false (clarification (codes "GPL-3.0") false)
     ≡ Err (told (at 10 17) (codes "a deprecated license identifier was used"))
 deprecated = refl
 
-empty : clarification_judged lists 3 (clarification [] false) ≡ Err (told (at 10 10) (codes "expression is empty"))
+empty : clarification_judged lists 3 false (clarification [] false) ≡ Err (told (at 10 10) (codes "expression is empty"))
 empty = refl
 
 -- with escapes it is the whole string
-escaped : clarification_judged lists 3 (clarification (codes "MIT AND") true) ≡ Err (told (at 10 17) (codes "unexpected term"))
+escaped : clarification_judged lists 3 false (clarification (codes "MIT AND") true) ≡ Err (told (at 10 17) (codes "unexpected term"))
 escaped = refl
 
 -- the others are reported, each in its place
-one_of_three : findings_by_each (clarification_judged lists 3)
+one_of_three : findings_by_each (clarification_judged lists 3 false)
     (clarification [] false ∷ clarification (codes "ISC") false ∷ clarification (codes "x") false ∷ [])
     ≡ told (at 10 10) (codes "expression is empty") ∷ told (at 10 11) (codes "unknown term") ∷ []
 one_of_three = refl
+
+-- those that are kept have their file, and whether that is the exceptions file
+overlays_kept : map {B = ℕ × Bool × ℕ × Option Span} (λ one. (one.file_id, one.overlay, one.expr_offset, one.whole))
+    (kept_by (clarification_judged lists 4 true) (clarification [] false ∷ clarification (codes "ISC") false ∷ clarification (codes "MIT") true ∷ []))
+    ≡ (4, true, 10, None) ∷ (4, true, 10, Some (at 10 13)) ∷ []
+overlays_kept = refl
+
+own_kept : map {B = ℕ × Bool} (λ one. (one.file_id, one.overlay)) (kept_by (clarification_judged lists 3 false) (clarification (codes "ISC") false ∷ [])) ≡ (3, false) ∷ []
+own_kept = refl
 
 -- an exception for `a` that allows nothing, by the files that it names
 abbrev exception : Option (List FileSource) → Exception

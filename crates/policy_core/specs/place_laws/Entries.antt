@@ -27,9 +27,6 @@ pub record ExceptionKeeps (text : List ℕ) (exception : Exception) : Type 0 whe
   pub allow : keeps_each licensee_keeps text exception.allow
   pub files : keeps_where (keeps_each file_source_keeps) text exception.license_files
 
-abbrev pub exceptions_file_keeps : List ℕ → ExceptionsFile → Type 0
-exceptions_file_keeps text file = keeps_each ExceptionKeeps text file.exceptions
-
 pub record ClarificationKeeps (text : List ℕ) (clarification : Clarification) : Type 0 where
   pub spec : spec_keeps text clarification.spec
   pub expression : keeps_its_span text clarification.expression
@@ -38,3 +35,7 @@ pub record ClarificationKeeps (text : List ℕ) (clarification : Clarification) 
       → clarification.expression.value
       ≡ slice_range text clarification.expression.span.start clarification.expression.span.end
   pub files : keeps_each file_source_keeps text clarification.license_files
+
+pub record ExceptionsFileKeeps (text : List ℕ) (file : ExceptionsFile) : Type 0 where
+  pub exceptions : keeps_each ExceptionKeeps text file.exceptions
+  pub clarify : keeps_each ClarificationKeeps text file.clarify

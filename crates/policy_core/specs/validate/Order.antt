@@ -48,10 +48,9 @@ pub record PutsPolicyInOrder (written sorted : ValidConfig) : Type 0 where
   pub clarifications : AllZip PutsFilesInOrder written.clarifications sorted.clarifications
   pub exceptions : AllZip PutsExceptionInOrder written.exceptions sorted.exceptions
 
--- exceptions are put in order behind others
-abbrev pub AddsInOrder : List ValidException → List ValidException → List ValidException → Type 0
-AddsInOrder written old new =
-    (more : List ValidException) × AllZip PutsExceptionInOrder written more × (new ≡ old ++ more)
+-- entries are put in order behind others
+abbrev pub AddsInOrder : {T : Type 0} → (T → T → Type 0) → List T → List T → List T → Type 0
+AddsInOrder {T} puts written old new = (more : List T) × AllZip puts written more × (new ≡ old ++ more)
 
 -- the same where it is kept; what is reported stays
 abbrev pub PutsJudgedInOrder : Result ValidClarification Diagnostic → Result ValidClarification Diagnostic → Type 0

@@ -1,5 +1,5 @@
 -- What of a policy that has its shape is valid, and what is found wrong with the rest.
-use Rattle.std.specs.Prelude.{ℕ, ℤ, false, not, ◌&&◌, if◌then◌else◌, List, [], ◌∷◌, ◌++◌, map, codes}
+use Rattle.std.specs.Prelude.{ℕ, ℤ, Bool, false, not, ◌&&◌, if◌then◌else◌, List, [], ◌∷◌, ◌++◌, map, codes}
 use Rattle.std.specs.Prelude.{Option, Some, None, is_some, unwrap_or, Result, Ok, Err}
 use Rattle.std.specs.List.{filter_map}
 use Rattle.std.specs.Result.{result_ok, result_err}
@@ -66,14 +66,17 @@ abbrev pub place_in : Clarification → Span → Span
 place_in clarification place =
     if clarification.escapes then clarification.expression.span else span_from clarification.expression.span.start place
 
--- the clarification with its expression, its files as they are written
-abbrev pub with_expression : Clarification → ExpressionView → ValidClarification
-with_expression clarification expression = record {
+-- the clarification with its expression and its file, its files as they are written; an overlay is one of the
+-- exceptions file
+abbrev pub with_expression : ℕ → Bool → Clarification → ExpressionView → ValidClarification
+with_expression file overlay clarification expression = record {
   spec = clarification.spec;
   expr_offset = clarification.expression.span.start;
   whole = if clarification.escapes then Some clarification.expression.span else None;
   expression = expression;
   license_files = clarification.license_files;
+  file_id = file;
+  overlay = overlay;
 }
 
 abbrev pub no_expression : ℕ → Clarification → ParseError → Diagnostic
@@ -82,11 +85,13 @@ no_expression file clarification fault =
     (reason_text fault.reason)
 
 -- The first fault, or else the expression. A text has one of the two, so the last case never comes.
-abbrev pub clarification_judged_by : ℕ → Clarification → Option ParseError → Option ExpressionView
+abbrev pub clarification_judged_by : ℕ → Bool → Clarification → Option ParseError → Option ExpressionView
     → ItemOrFinding ValidClarification
-clarification_judged_by file clarification (Some fault) expression = Err (no_expression file clarification fault)
-clarification_judged_by file clarification None (Some expression) = Ok (with_expression clarification expression)
-clarification_judged_by file clarification None None = Err (plain_diagnostic Error)
+clarification_judged_by file overlay clarification (Some fault) expression =
+    Err (no_expression file clarification fault)
+clarification_judged_by file overlay clarification None (Some expression) =
+    Ok (with_expression file overlay clarification expression)
+clarification_judged_by file overlay clarification None None = Err (plain_diagnostic Error)
 
 -- nothing beyond names that are in use
 abbrev pub strict_mode : ParseMode
@@ -97,11 +102,11 @@ strict_mode = record {
   allow_slash_as_or_operator = false;
 }
 
--- A clarification is kept where its expression is one in strict mode.
-abbrev pub clarification_judged : CatalogLists → ℕ → Clarification → ItemOrFinding ValidClarification
-clarification_judged lists file clarification =
+-- A clarification of a file is kept where its expression is one in strict mode.
+abbrev pub clarification_judged : CatalogLists → ℕ → Bool → Clarification → ItemOrFinding ValidClarification
+clarification_judged lists file overlay clarification =
     let text = clarification.expression.value in
-    clarification_judged_by file clarification (first_fault strict_mode lists text)
+    clarification_judged_by file overlay clarification (first_fault strict_mode lists text)
     (expression_of_text strict_mode lists text)
 
 -- ---- exceptions, and keys that were removed
@@ -154,7 +159,7 @@ valid_part lists file config = record {
   unused_license_exception = config.unused_license_exception;
   confidence_threshold = config.confidence_threshold.0;
   allowed = config.allow;
-  clarifications = kept_by (clarification_judged lists file) config.clarify;
+  clarifications = kept_by (clarification_judged lists file false) config.clarify;
   exceptions = map (exception_in file) config.exceptions;
   ignore_sources = kept_by (address_judged file) config.private.ignore_sources;
   include_dev = config.include_dev;
@@ -165,7 +170,7 @@ abbrev pub address_findings : ℕ → Config → List Diagnostic
 address_findings file config = findings_by_each (address_judged file) config.private.ignore_sources
 
 abbrev pub clarification_findings : CatalogLists → ℕ → Config → List Diagnostic
-clarification_findings lists file config = findings_by_each (clarification_judged lists file) config.clarify
+clarification_findings lists file config = findings_by_each (clarification_judged lists file false) config.clarify
 
 -- one for each key, in the order of the table of keys
 abbrev pub removed_findings : ℕ → Config → List Diagnostic

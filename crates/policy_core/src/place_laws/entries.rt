@@ -7,7 +7,7 @@ ghost use Rattle.policy_parts.specs.entries.Exceptions.{exception_of, exceptions
 ghost use Rattle.policy_parts.specs.entries.Licensees.{licensee_of};
 ghost use Rattle.policy_parts.specs.spec.Reading.{spec_of};
 ghost use Rattle.policy_core.specs.place_laws.Entries.{KeepsPlacesOfTexts, spec_keeps, licensee_keeps};
-ghost use Rattle.policy_core.specs.place_laws.Entries.{ExceptionKeeps, exceptions_file_keeps, ClarificationKeeps};
+ghost use Rattle.policy_core.specs.place_laws.Entries.{ExceptionKeeps, ExceptionsFileKeeps, ClarificationKeeps};
 ghost use Rattle.policy_core.specs.place_laws.Policies.{ConfigKeeps, RootKeeps};
 
 /// What was read from a text keeps places of that text alone, between characters, and so does what is
@@ -20,7 +20,7 @@ pub fn entries_keep_places()
     ensures exception { (lists : CatalogLists) → IsCatalog lists
         → KeepsPlacesOfTexts ExceptionKeeps (exception_of lists) }
     ensures exceptions_file { (lists : CatalogLists) → IsCatalog lists
-        → KeepsPlacesOfTexts exceptions_file_keeps (exceptions_file_of lists) }
+        → KeepsPlacesOfTexts ExceptionsFileKeeps (exceptions_file_of lists) }
     ensures clarification { KeepsPlacesOfTexts ClarificationKeeps clarification_of }
 {}
 

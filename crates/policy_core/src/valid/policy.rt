@@ -17,18 +17,22 @@ use url::Url;
 /// Addresses in order.
 pub type Urls = ListOf<Url>;
 
-/// The expression that a policy gives some crates, and the files that it was read from.
+/// The expression that a policy or its exceptions file gives some crates, and the files that it was read from.
 #[derive(Drop)]
 pub struct ValidClarification {
     /// The crates that it is for.
     pub spec: PackageSpec,
-    /// Where the expression's text begins in the policy's file.
+    /// Where the expression's text begins in its file.
     pub expr_offset: usize,
     /// The place of the expression's string, where that has escapes; the offset means nothing then.
     pub whole: Option<Span>,
     pub expression: Expression,
-    /// The files by their paths; those of equal paths as they are in the policy.
+    /// The files by their paths; those of equal paths as they are in the file.
     pub license_files: FileSources,
+    /// The file that it is in: the policy's, or that of its exceptions.
+    pub file_id: FileId,
+    /// Whether it is one of the exceptions file.
+    pub overlay: bool,
 }
 
 /// Licensees that a policy allows some crates.
@@ -46,7 +50,7 @@ pub struct ValidException {
     pub file_id: FileId,
 }
 
-/// Clarifications as they are in the policy.
+/// The clarifications of the policy, as they are there, and then those of its exceptions file.
 pub type ValidClarifications = ListOf<ValidClarification>;
 
 /// The exceptions of the policy, as they are there, and then those of its exceptions file.

@@ -89,7 +89,8 @@ pub fn add_exceptions(
     exceptions: Exceptions,
     valid: &mut ValidExceptions,
 ) -> Result<(), AllocError>
-    ensures ok { OnOk result (AddsInOrder (map (spec.exception_in file) exceptions) valid.old valid.new) }
+    ensures ok { OnOk result
+        (AddsInOrder PutsExceptionInOrder (map (spec.exception_in file) exceptions) valid.old valid.new) }
     ensures front { StandsInFront valid.old valid.new }
 {
     'exceptions: for exception in exceptions.into_vec() {

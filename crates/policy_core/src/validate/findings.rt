@@ -39,6 +39,7 @@ pub(crate) fn push_judged<T: Drop>(
 ) -> Result<(), AllocError>
     ensures kept { OnOk result (kept.new ≡ kept.old ++ option_to_list (result_ok judged)) }
     ensures told { OnOk result (found.new ≡ found.old ++ option_to_list (result_err judged)) }
+    ensures kept_front { StandsInFront kept.old kept.new }
     ensures front { StandsInFront found.old found.new }
 {
     match judged {

@@ -8,7 +8,7 @@ ghost use Rattle.policy_core.specs.validate.Valid.{valid_part, validation_findin
 use crate::config::Config;
 use crate::valid::ValidConfig;
 use crate::validate::addresses::judge_addresses;
-use crate::validate::clarifications::judge_clarifications;
+use crate::validate::clarifications::valid_clarifications;
 use crate::validate::entries::{tell_versions, valid_exceptions};
 use crate::validate::findings::tell_removed;
 use crate::validate::order::sort_licensees;
@@ -58,7 +58,7 @@ fn validate_config<C: Catalog>(
 {
     let sources = config.private.ignore_sources.items();
     let ignore_sources = judge_addresses(alloc, file, sources, found)?;
-    let clarifications = judge_clarifications(alloc, file, config.clarify, catalog, found)?;
+    let clarifications = valid_clarifications(alloc, file, config.clarify, catalog, found)?;
     tell_removed(alloc, file, config.deprecated_spans.items(), found)?;
     tell_versions(
         alloc,

@@ -1,5 +1,5 @@
 -- Exceptions, and the file that holds some.
-use Rattle.std.specs.Prelude.{List, [], ◌∷◌, codes}
+use Rattle.std.specs.Prelude.{List, [], ◌∷◌, codes, unwrap_or}
 use Rattle.spdx_terms.specs.catalog.Catalog.{CatalogLists}
 use Rattle.deny_text.specs.declared.span.Span.{Span}
 use Rattle.toml_subset.specs.Data.{Entries, Toml}
@@ -7,6 +7,7 @@ use Rattle.toml_subset.specs.shapes.Shaped.{ShapeReading, shaped_map, shaped_the
 use Rattle.policy_toml.specs.Readings.{list_of}
 use Rattle.policy_toml.specs.rows.Rows.{KeyRow, key, in_table, optional_value, required_value, shaped_by}
 use Rattle.policy_parts.specs.Values.{file_source_of}
+use Rattle.policy_parts.specs.entries.Clarifications.{clarification_of}
 use Rattle.policy_parts.specs.entries.Licensees.{licensees_of}
 use Rattle.policy_parts.specs.entries.WithSpec.{with_spec}
 use Rattle.policy_parts.specs.declared.entries.exception.ExceptionLicenses.{ExceptionLicenses}
@@ -38,12 +39,22 @@ exception_of lists value =
 abbrev pub exceptions_of : CatalogLists → Toml → ShapeReading (List Exception)
 exceptions_of lists = list_of (exception_of lists)
 
--- ---- a file of exceptions: `exceptions`, and nothing else
+-- ---- a file of exceptions: `exceptions`, and perhaps `clarify`; nothing else
+
+abbrev pub exceptions_file_rows : List KeyRow
+exceptions_file_rows = key (codes "clarify") (list_of clarification_of) ∷ []
+
+abbrev pub exceptions_file_in : List Exception → Entries → ExceptionsFile
+exceptions_file_in exceptions entries = record {
+  exceptions = exceptions;
+  clarify = unwrap_or (optional_value (codes "clarify") (list_of clarification_of) entries) [];
+}
 
 abbrev pub exceptions_file_at : CatalogLists → Entries → Span → ShapeReading ExceptionsFile
 exceptions_file_at lists entries span =
     shaped_then
-    (λ exceptions. shaped_by (codes "exceptions" ∷ []) [] (λ _. record { exceptions = exceptions }) entries span)
+    (λ exceptions.
+    shaped_by (codes "exceptions" ∷ []) exceptions_file_rows (exceptions_file_in exceptions) entries span)
     (required_value (codes "exceptions") (exceptions_of lists) entries span)
 
 abbrev pub exceptions_file_of : CatalogLists → Toml → ShapeReading ExceptionsFile

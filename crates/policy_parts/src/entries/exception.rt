@@ -5,11 +5,12 @@ ghost use Rattle.policy_parts.specs.entries.Exceptions.{exceptions_file_at, exce
 ghost use Rattle.policy_parts.specs.entries.WithSpec.{left_of_entry};
 
 use crate::FileSources;
+use crate::entries::clarification::Clarifications;
 use crate::entries::licensee::Licensees;
 use crate::entries::with_spec::read_with_spec;
 use crate::spec::PackageSpec;
 use deny_text::ListOf;
-use policy_toml::rows::{FromKeys, finish, read_table};
+use policy_toml::rows::{FromKeys, finish, or_empty, read_table};
 use policy_toml::{DeserError, Deserialize, TableHelper, Value};
 use spdx_terms::catalog::Catalog;
 use std::alloc::Global;
@@ -26,10 +27,11 @@ pub struct Exception {
 /// Exceptions in order.
 pub type Exceptions = ListOf<Exception>;
 
-/// A file of exceptions that is beside the policy.
+/// A file that is beside the policy: exceptions, and clarifications that are tried behind the policy's own.
 #[derive(Drop)]
 pub struct ExceptionsFile {
     pub exceptions: Exceptions,
+    pub clarify: Clarifications,
 }
 
 /// The keys of an exception beside those of its spec.
@@ -87,10 +89,13 @@ impl<C: Catalog> FromKeys<C> for ExceptionsFile {
         mut table: TableHelper<'_>,
         catalog: &C,
     ) -> Result<ExceptionsFile, DeserError> {
-        match table.required(alloc, "exceptions", catalog) {
-            Ok(exceptions) => finish(alloc, table, ExceptionsFile { exceptions }),
-            Err(error) => Err(error),
-        }
+        let exceptions = table.required(alloc, "exceptions", catalog)?;
+        let clarify = table.optional(alloc, "clarify", &())?;
+        let file = ExceptionsFile {
+            exceptions,
+            clarify: or_empty(alloc, clarify),
+        };
+        finish(alloc, table, file)
     }
 }
 

@@ -39,24 +39,24 @@ paths_lie : (files : List File) (file : ℕ) (sources : List FileSource) → All
 paths_lie files file [] all = tt
 paths_lie files file (source ∷ sources) all = (place_lies files file source.path.span all.0, paths_lie files file sources all.1)
 
-is_placed : (files : List File) (file : ℕ) (one : ValidClarification) → ClarificationStands files file one → IsClarificationPlaced files file (clarification_view one)
-is_placed files file one stands = record {
-  expression = stands_in files file one.expr_offset one.whole one.expression.text stands.expression;
+is_placed : (files : List File) (one : ValidClarification) → ClarificationStands files one → IsClarificationPlaced files (clarification_view one)
+is_placed files one stands = record {
+  expression = stands_in files one.file_id one.expr_offset one.whole one.expression.text stands.expression;
   paths =
-      All-from_recursion (λ (path : PlacedFile). PlaceLies files file path.span) (map placed_of one.license_files)
-      (paths_lie files file one.license_files stands.license_files);
+      All-from_recursion (λ (path : PlacedFile). PlaceLies files one.file_id path.span) (map placed_of one.license_files)
+      (paths_lie files one.file_id one.license_files stands.license_files);
 }
 
-each_placed : (files : List File) (file : ℕ) (ones : List ValidClarification) → AllByRecursion (ClarificationStands files file) ones
-    → AllByRecursion (λ (entry : ClarificationEntry). IsClarificationPlaced files file entry.clarification) (map clarification_entry ones)
-each_placed files file [] all = tt
-each_placed files file (one ∷ ones) all = (is_placed files file one all.0, each_placed files file ones all.1)
+each_placed : (files : List File) (ones : List ValidClarification) → AllByRecursion (ClarificationStands files) ones
+    → AllByRecursion (λ (entry : ClarificationEntry). IsClarificationPlaced files entry.clarification) (map clarification_entry ones)
+each_placed files [] all = tt
+each_placed files (one ∷ ones) all = (is_placed files one all.0, each_placed files ones all.1)
 
 -- what gathering asks of a policy follows from what its load ensures
-pub are_placed : (files : List File) (policy : ValidConfig) → PolicyStands files policy → ArePlacedIn files policy.file_id (entries_of policy)
+pub are_placed : (files : List File) (policy : ValidConfig) → PolicyStands files policy → ArePlacedIn files (entries_of policy)
 are_placed files policy stands =
-    All-from_recursion (λ (entry : ClarificationEntry). IsClarificationPlaced files policy.file_id entry.clarification) (entries_of policy)
-    (each_placed files policy.file_id policy.clarifications stands.clarifications)
+    All-from_recursion (λ (entry : ClarificationEntry). IsClarificationPlaced files entry.clarification) (entries_of policy)
+    (each_placed files policy.clarifications stands.clarifications)
 
 -- ---- as the check asks
 

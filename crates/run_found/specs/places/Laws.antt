@@ -10,8 +10,7 @@ use Rattle.check_core.specs.unused.Laws.{EntriesLie}
 -- what gathering asks of the table that is handed to it
 abbrev pub ClarificationsArePlaced : Type 0
 ClarificationsArePlaced =
-    (files : List File) (policy : ValidConfig) → PolicyStands files policy
-    → ArePlacedIn files policy.file_id (entries_of policy)
+    (files : List File) (policy : ValidConfig) → PolicyStands files policy → ArePlacedIn files (entries_of policy)
 
 -- what the check asks of the table that gathering has left
 abbrev pub EntriesLieOn : Type 0

@@ -3,7 +3,7 @@
 ghost use Rattle.run_found.specs.places.Laws.{ClarificationsArePlaced, EntriesLieOn};
 
 /// Where each place of a policy lies in its file, as after its load, its clarifications are placed as
-/// gathering asks: their expressions and their paths are in the policy's file.
+/// gathering asks: the expression and the paths of each are in its own file.
 pub fn clarifications_are_placed()
     ensures { ClarificationsArePlaced }
 {}

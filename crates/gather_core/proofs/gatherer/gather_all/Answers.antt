@@ -25,7 +25,6 @@ krates-preserved g c =
     let pushed = c.in_ok-push.ensures.ok in
     let scanner = scanner_of_scan g.C.Catalog.lists g.I.Identifier.match_of c.args.scan.now in
     let all = c.args.rules.now in
-    let policy = c.args.policy in
     let new_files = c.license_of.new.files in
     let grows : Grows c.krates.files new_files = c.license_of.ensures.grows in
     record {
@@ -36,12 +35,12 @@ krates-preserved g c =
           ∙ sym (ap (map record_behind) (take_more krates place c.krate-item.result c.krates-test.true) ∙ map_push record_behind (take place krates) _);
       answered =
           subst (λ licenses. AreTurnsByReads (g.T.Tree.content c.args.tree.now) (g.T.Tree.content c.license_of.new.tree) (g.T.Tree.fault_count c.args.tree.now) (g.T.Tree.fault_count c.license_of.new.tree) (g.T.Tree.trace c.args.tree.now) (g.T.Tree.trace c.license_of.new.tree)
-          scanner policy all c.args.files.now licenses new_files) (sym pushed)
-          (turns_then scanner policy all c.args.files.now c.krates.licenses license c.krates.files new_files so_far.answered grows c.in_ok-license.ensures.answered);
+          scanner all c.args.files.now licenses new_files) (sym pushed)
+          (turns_then scanner all c.args.files.now c.krates.licenses license c.krates.files new_files so_far.answered grows c.in_ok-license.ensures.answered);
       placed = λ stand.
           subst (All (IsPlacedAt new_files)) (sym pushed)
           (All-push (IsPlacedAt new_files) c.krates.licenses license (licenses_grown c.krates.files new_files c.krates.licenses grows (so_far.placed stand))
-          (c.in_ok-license.ensures.placed (entries_grown c.args.files.now c.krates.files policy all.clarifications so_far.grows stand)));
+          (c.in_ok-license.ensures.placed (entries_grown c.args.files.now c.krates.files all.clarifications so_far.grows stand)));
       grows = grows_then c.args.files.now c.krates.files new_files so_far.grows grows;
     }
 
@@ -51,15 +50,14 @@ krates-init g c =
     let none = sym c.new-licenses.ensures in
     let scanner = scanner_of_scan g.C.Catalog.lists g.I.Identifier.match_of c.args.scan.now in
     let all = c.args.rules.now in
-    let policy = c.args.policy in
     let files = c.args.files.now in
     let count = g.T.Tree.fault_count c.args.tree.now in
     record {
       krates = ap (map krate_of) c.new-licenses.ensures;
       answered =
           subst (λ licenses. AreTurnsByReads (g.T.Tree.content c.args.tree.now) (g.T.Tree.content c.args.tree.now) (g.T.Tree.fault_count c.args.tree.now) (g.T.Tree.fault_count c.args.tree.now) (g.T.Tree.trace c.args.tree.now) (g.T.Tree.trace c.args.tree.now)
-          scanner policy all files licenses files) none
-          (no_turns (g.T.Tree.content c.args.tree.now) count (g.T.Tree.trace c.args.tree.now) scanner policy all files);
+          scanner all files licenses files) none
+          (no_turns (g.T.Tree.content c.args.tree.now) count (g.T.Tree.trace c.args.tree.now) scanner all files);
       placed = λ stand. subst (All (IsPlacedAt files)) none (All-nil (IsPlacedAt files));
       grows = grows_itself files;
     }
@@ -71,7 +69,7 @@ returns-in_err-license-clause-no_memory g c =
     let krates = c.args.krates.now in
     let item = c.krate-item.result in
     on_err c.from_residual.result _
-    (starves_next (scanner_of_scan g.C.Catalog.lists g.I.Identifier.match_of c.args.scan.now) c.args.policy c.args.rules.now c.args.files.now
+    (starves_next (scanner_of_scan g.C.Catalog.lists g.I.Identifier.match_of c.args.scan.now) c.args.rules.now c.args.files.now
     c.krates.licenses c.krates.files (record_behind item) (map record_behind krates) c.krates.invariant.answered c.in_err-license.ensures.no_memory
     (front_next record_behind krates place item (map krate_of c.krates.licenses) c.krates.invariant.krates
     (take_more krates place item c.krates-test.true ∙ ap (λ one. take place krates ++ one ∷ []) (sym c.krate-item.is))))
@@ -80,14 +78,13 @@ pub returns-in_err-push-clause-no_memory : goal.returns-in_err-push-clause-no_me
 returns-in_err-push-clause-no_memory g c =
     let scanner = scanner_of_scan g.C.Catalog.lists g.I.Identifier.match_of c.args.scan.now in
     let all = c.args.rules.now in
-    let policy = c.args.policy in
     let place = c.krates.krate-index in
     let krates = c.args.krates.now in
     let item = c.krate-item.result in
     let license = c.in_ok-license.license in
     on_err c.from_residual-in_err-push.result _
-    (starves_next scanner policy all c.args.files.now c.krates.licenses c.krates.files (krate_of license) (map record_behind krates) c.krates.invariant.answered
-    (starves_told scanner policy all c.krates.files c.license_of.new.files license c.in_ok-license.ensures.answered)
+    (starves_next scanner all c.args.files.now c.krates.licenses c.krates.files (krate_of license) (map record_behind krates) c.krates.invariant.answered
+    (starves_told scanner all c.krates.files c.license_of.new.files license c.in_ok-license.ensures.answered)
     (subst (λ (krate : CrateRecord). IsFront (map krate_of c.krates.licenses ++ krate ∷ []) (map record_behind krates)) (sym c.in_ok-license.ensures.krate)
     (front_next record_behind krates place item (map krate_of c.krates.licenses) c.krates.invariant.krates
     (take_more krates place item c.krates-test.true ∙ ap (λ one. take place krates ++ one ∷ []) (sym c.krate-item.is)))))

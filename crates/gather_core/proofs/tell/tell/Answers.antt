@@ -1,7 +1,7 @@
-use Rattle.std.proofs.Common.{◌≡◌, ◌∙◌, ◌++◌, ℕ, List, refl, sym, ap, subst}
+use Rattle.std.proofs.Common.{◌≡◌, ◌∙◌, ◌++◌, List, refl, sym, ap, subst}
 use Rattle.std.specs.List.{All}
 use Rattle.std.specs.Prelude.{unwrap_or}
-use Rattle.deny_text.specs.declared.span.Span.{Span}
+use Rattle.diag_core.specs.declared.label.Coord.{Coord}
 use Rattle.diag_core.specs.declared.pack.Diag.{Diag}
 use Rattle.graph_core.specs.Krate.{CrateRecord, record_of}
 use Rattle.gather_core.specs.findings.Cuts.{LabelLies, labels_of}
@@ -9,7 +9,7 @@ use Rattle.gather_core.proofs.findings.GrowLemmas.{grows_itself}
 use Rattle.gather_core.proofs.findings.LabelLemmas.{lie-append}
 use Rattle.gather_core.specs.declared.summary.KrateLicense.{KrateLicense}
 use Rattle.gather_core.specs.Premises.{Grows, InfoStands}
-use Rattle.gather_core.specs.Told.{info_by, no_place}
+use Rattle.gather_core.specs.Told.{no_place}
 use Rattle.gather_core.specs.Turns.{files_left, missing_findings, points_for, label_texts_for}
 use Rattle.gather_core.proofs.PlacedLemmas.{by_grown, places_grown}
 use Rattle.gather_core.proofs.ToldLemmas.{info_stands, missing_labels}
@@ -17,7 +17,7 @@ use Rattle.gather_core.proofs.TurnLemmas.{found_turn, told_turn}
 use Rattle.gather_core.proofs.tell.tell.Goals as goal
 
 pub returns-clause-turn : goal.returns-clause-turn
-returns-clause-turn c = λ turn krate_is policy_is faults_are is.
+returns-clause-turn c = λ turn krate_is faults_are is.
     let taken = c.args.taken in
     let faults = c.args.faults.now in
     let old = c.args.files.now in
@@ -26,12 +26,11 @@ returns-clause-turn c = λ turn krate_is policy_is faults_are is.
     told_turn turn license faults taken points old c.find_points.new.files faults_are is
     (c.in_ok-points.ensures.points ∙ ap (λ (krate : CrateRecord). points_for krate faults taken.location old taken.by) (sym krate_is))
     (c.in_ok-points.ensures.files ∙ ap (λ (krate : CrateRecord). files_left krate faults taken.location old taken.by) (sym krate_is))
-    (c.told_by-told.ensures.info ∙ ap (λ (policy : ℕ). info_by policy taken.location (unwrap_or points.expression no_place) taken.by) (sym policy_is))
+    c.told_by-told.ensures.info
     c.told_by-told.ensures.notes
     (c.in_ok-diags.ensures
     ∙ ap (λ (front : List Diag). front ++ points.findings) c.in_ok-missing.ensures
-    ∙ ap (λ (missing : List Span). missing_findings c.args.policy missing ++ points.findings) c.items.ensures
-    ∙ ap (λ (policy : ℕ). missing_findings policy taken.missing ++ points.findings) (sym policy_is))
+    ∙ ap (λ (missing : List Coord). missing_findings missing ++ points.findings) c.items.ensures)
     refl refl
 
 pub returns-clause-found : goal.returns-clause-found
@@ -48,23 +47,22 @@ pub returns-clause-placed : goal.returns-clause-placed
 returns-clause-placed c = λ missing_lie held_stands words.
     let taken = c.args.taken in
     let krate = record_of c.args.krate.now in
-    let policy = c.args.policy in
     let old = c.args.files.now in
     let new = c.find_points.new.files in
     let points = c.in_ok-points.points in
     let grows : Grows old new = c.find_points.ensures.grows in
-    let diags_are : c.in_ok-diags.diags ≡ missing_findings policy taken.missing ++ points.findings =
+    let diags_are : c.in_ok-diags.diags ≡ missing_findings taken.missing ++ points.findings =
     c.in_ok-diags.ensures
     ∙ ap (λ (front : List Diag). front ++ points.findings) c.in_ok-missing.ensures
-    ∙ ap (λ (missing : List Span). missing_findings policy missing ++ points.findings) c.items.ensures in
+    ∙ ap (λ (missing : List Coord). missing_findings missing ++ points.findings) c.items.ensures in
     record {
       labels =
           subst (λ (diags : List Diag). All (LabelLies new) (labels_of diags)) (sym diags_are)
-          (lie-append new (missing_findings policy taken.missing) points.findings
-          (missing_labels new policy taken.missing (places_grown old new policy taken.missing grows missing_lie)) c.in_ok-points.ensures.inside);
+          (lie-append new (missing_findings taken.missing) points.findings
+          (missing_labels new taken.missing (places_grown old new taken.missing grows missing_lie)) c.in_ok-points.ensures.inside);
       expression =
           subst (InfoStands new) (sym c.told_by-told.ensures.info)
-          (info_stands new policy krate taken.location points.expression taken.by (by_grown old new policy taken.by grows held_stands) words c.in_ok-points.ensures.expression
+          (info_stands new krate taken.location points.expression taken.by (by_grown old new taken.by grows held_stands) words c.in_ok-points.ensures.expression
           c.told_by-told.ensures.fits);
     }
 

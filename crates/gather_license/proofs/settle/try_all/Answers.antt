@@ -1,17 +1,17 @@
 use Rattle.std.proofs.Common.{◌≡◌, ◌+◌, ◌∷◌, ◌++◌, List, true, false, Some, map, drop, refl, sym, ap, ◌∙◌, rules}
-use Rattle.std.specs.Prelude.{option_and_then, option_map}
+use Rattle.std.specs.Prelude.{Option, option_map}
 use Rattle.std.proofs.lemmas.List.{at_drop_more}
 use Rattle.std.specs.List.{fold}
 use Rattle.std.specs.Option.{option_to_list}
-use Rattle.deny_text.specs.declared.span.Span.{Span}
+use Rattle.diag_core.specs.declared.label.Coord.{Coord}
 use Rattle.gather_license.specs.files.KnownReads.{holds, looked_of, missing_from}
 use Rattle.gather_license.specs.files.Steps.{with_path}
 use Rattle.gather_license.specs.files.View.{paths_read}
 use Rattle.gather_license.proofs.files.CallLemmas.{agrees_before, goes_itself, goes_then, on_err}
 use Rattle.gather_license.specs.declared.clarification.HeldClarification.{HeldClarification}
-use Rattle.gather_license.specs.Clarification.{PlacedFile, lent_clarification, held_in}
+use Rattle.gather_license.specs.Clarification.{PlacedFile, lent_clarification, held_in, place_of}
 use Rattle.gather_license.specs.Priority.{holding_clarification}
-use Rattle.gather_license.specs.Settled.{missing_of, span_at}
+use Rattle.gather_license.specs.Settled.{missing_of}
 use Rattle.gather_license.proofs.CallLemmas.{starves_tried, starves_trying}
 use Rattle.gather_license.proofs.TriedLemmas.{held_here, held_on, looks, looks_last, looks_on, missing_last, missing_on}
 use Rattle.gather_license.proofs.settle.try_all.Goals as goal
@@ -25,7 +25,7 @@ all-preserved g c =
     let new = c.in_ok-tried.tried.pack in
     let files_are = ap (map (λ (file : PlacedFile). file.named)) c.files.ensures in
     let differs : c.in_ok-tried.tried.holds ≡ false = search rules in
-    let so_long : List Span = c.all.missing in
+    let so_long : List Coord = c.all.missing in
     record {
       goes_by = goes_then c.args.pack c.all.pack new so_far.goes_by c.in_ok-tried.ensures.goes;
       looks_rest = λ known_reads agrees.
@@ -48,10 +48,10 @@ all-preserved g c =
           ∙ ap (λ one. so_long ++ missing_of known_reads (map lent_clarification (one ∷ rest))) (sym c.clarification-item.is)
           ∙ missing_on known_reads so_long (lent_clarification item) (map lent_clarification rest) c.in_ok-tried.tried.holds
           (c.in_ok-tried.ensures.holds known_reads agrees ∙ ap (holds known_reads) files_are) differs
-          ∙ ap (λ (front : List Span). front ++ missing_of known_reads (map lent_clarification rest))
+          ∙ ap (λ (front : List Coord). front ++ missing_of known_reads (map lent_clarification rest))
           (sym (c.in_ok-push_missing.ensures
-          ∙ ap (λ files. so_long ++ option_to_list (option_and_then (span_at files) c.in_ok-tried.tried.missing)) c.files-in-all.ensures
-          ∙ ap (λ number. so_long ++ option_to_list (option_and_then (span_at (lent_clarification item).files) number))
+          ∙ ap (λ (place : Option Coord). so_long ++ option_to_list place) c.place_of.ensures
+          ∙ ap (λ number. so_long ++ option_to_list (place_of (lent_clarification item) number))
           (c.in_ok-tried.ensures.missing known_reads agrees ∙ ap (missing_from known_reads 0) files_are)));
     }
 
@@ -91,10 +91,10 @@ returns-then-tried-clause-missing g c = λ known_reads agrees.
     let rest = drop (place + 1) c.args.clarifications.now in
     let files_are = ap (map (λ (file : PlacedFile). file.named)) c.files.ensures in
     let passed : c.in_ok-tried.tried.holds ≡ true = search rules in
-    let so_long : List Span = c.all.missing in
+    let so_long : List Coord = c.all.missing in
     c.in_ok-push_missing.ensures
-    ∙ ap (λ files. so_long ++ option_to_list (option_and_then (span_at files) c.in_ok-tried.tried.missing)) c.files-in-all.ensures
-    ∙ ap (λ number. so_long ++ option_to_list (option_and_then (span_at (lent_clarification item).files) number))
+    ∙ ap (λ (place : Option Coord). so_long ++ option_to_list place) c.place_of.ensures
+    ∙ ap (λ number. so_long ++ option_to_list (place_of (lent_clarification item) number))
     (c.in_ok-tried.ensures.missing known_reads agrees ∙ ap (missing_from known_reads 0) files_are)
     ∙ sym (c.all.invariant.missing_rest known_reads (agrees_before _ _ _ known_reads c.in_ok-tried.ensures.goes.takes agrees)
     ∙ at_drop_more (λ all. so_long ++ missing_of known_reads (map lent_clarification all)) c.args.clarifications.now place item c.all-test.true
@@ -154,5 +154,5 @@ all-init g c =
       goes_by = goes_itself (g.T.Tree.content c.args.tree.now) count (g.T.Tree.trace c.args.tree.now) c.args.pack;
       looks_rest = λ known_reads agrees. refl;
       held_rest = λ known_reads agrees. refl;
-      missing_rest = λ known_reads agrees. ap (λ (front : List Span). front ++ missing_of known_reads (map lent_clarification c.args.clarifications.now)) (sym c.new-missing.ensures);
+      missing_rest = λ known_reads agrees. ap (λ (front : List Coord). front ++ missing_of known_reads (map lent_clarification c.args.clarifications.now)) (sym c.new-missing.ensures);
     }

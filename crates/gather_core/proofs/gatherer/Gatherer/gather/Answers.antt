@@ -20,7 +20,7 @@ pub returns-clause-placed : goal.returns-clause-placed
 returns-clause-placed g c = λ placed.
     let policy = c.args.policy.now in
     let all_is : c.in_ok-rules.rules ≡ rules_of policy = c.in_ok-rules.ensures in
-    c.in_ok-nfos.ensures.placed (subst (λ (rules : GatherRules). ArePlacedIn c.args.files.now policy.file_id rules.clarifications) (sym all_is) placed)
+    c.in_ok-nfos.ensures.placed (subst (λ (rules : GatherRules). ArePlacedIn c.args.files.now rules.clarifications) (sym all_is) placed)
 
 -- over any tree, by each crate's own reads
 pub returns-clause-answered : goal.returns-clause-answered
@@ -29,7 +29,7 @@ returns-clause-answered g c =
     let policy = c.args.policy.now in
     let all_is : c.in_ok-rules.rules ≡ rules_of policy = c.in_ok-rules.ensures in
     subst (λ all. AreTurnsByReads (g.T.Tree.content c.args.tree.now) (g.T.Tree.content c.gather_all.new.tree) (g.T.Tree.fault_count c.args.tree.now) (g.T.Tree.fault_count c.gather_all.new.tree) (g.T.Tree.trace c.args.tree.now) (g.T.Tree.trace c.gather_all.new.tree)
-    scanner policy.file_id all c.args.files.now c.in_ok-nfos.nfos c.gather_all.new.files) all_is c.in_ok-nfos.ensures.answered
+    scanner all c.args.files.now c.in_ok-nfos.nfos c.gather_all.new.files) all_is c.in_ok-nfos.ensures.answered
 
 -- for want of memory
 pub returns-in_err-selected-clause-no_memory : goal.returns-in_err-selected-clause-no_memory
@@ -45,9 +45,9 @@ returns-in_err-nfos-clause-no_memory g c =
     let all_is : c.in_ok-rules.rules ≡ rules_of policy = c.in_ok-rules.ensures in
     on_err c.from_residual-in_err-nfos.result _
     (inr (subst (λ (krates : List CrateRecord). StarvesGathering (g.T.Tree.content c.args.tree.now) (g.T.Tree.content c.gather_all.new.tree) (g.T.Tree.fault_count c.args.tree.now) (g.T.Tree.fault_count c.gather_all.new.tree) (g.T.Tree.trace c.args.tree.now) (g.T.Tree.trace c.gather_all.new.tree)
-    scanner policy.file_id (rules_of policy) c.args.files.now krates) (ap (map record_behind) c.items.ensures ∙ c.in_ok-selected.ensures.value)
+    scanner (rules_of policy) c.args.files.now krates) (ap (map record_behind) c.items.ensures ∙ c.in_ok-selected.ensures.value)
     (subst (λ (all : GatherRules). StarvesGathering (g.T.Tree.content c.args.tree.now) (g.T.Tree.content c.gather_all.new.tree) (g.T.Tree.fault_count c.args.tree.now) (g.T.Tree.fault_count c.gather_all.new.tree) (g.T.Tree.trace c.args.tree.now) (g.T.Tree.trace c.gather_all.new.tree)
-    scanner policy.file_id all c.args.files.now (map record_behind c.items.result.now)) all_is c.in_err-nfos.ensures.no_memory)))
+    scanner all c.args.files.now (map record_behind c.items.result.now)) all_is c.in_err-nfos.ensures.no_memory)))
 
 -- the table grows
 pub returns-in_err-selected-clause-grows : goal.returns-in_err-selected-clause-grows
