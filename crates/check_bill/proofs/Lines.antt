@@ -1,0 +1,81 @@
+-- The lines of a head and of a package, and what is behind them.
+use Rattle.std.proofs.Common.{◌≡◌, ◌∙◌, refl, ap, ℕ, List, [], ◌∷◌, ◌++◌, append_assoc, codes, decimal}
+use Rattle.check_bill.specs.declared.bill.Bill.{Bill}
+use Rattle.check_bill.specs.declared.bill.BillPackage.{BillPackage}
+use Rattle.check_bill.specs.Lines.{head_before, package_before}
+
+-- what the texts of a head stand behind
+abbrev pub to_name : List ℕ
+to_name = codes "SPDXVersion: SPDX-2.3\nDataLicense: CC0-1.0\nSPDXID: SPDXRef-DOCUMENT\nDocumentName: "
+
+abbrev pub to_namespace : List ℕ
+to_namespace = codes "\nDocumentNamespace: "
+
+abbrev pub to_created : List ℕ
+to_created = codes "\nCreator: Tool: cargo-deny-0.20.2\nCreated: "
+
+-- and those of a package
+abbrev pub to_package : List ℕ
+to_package = codes "\nPackageName: "
+
+abbrev pub to_number : List ℕ
+to_number = codes "\nSPDXID: SPDXRef-"
+
+abbrev pub to_version : List ℕ
+to_version = codes "\nPackageVersion: "
+
+abbrev pub to_concluded : List ℕ
+to_concluded = codes "\nPackageDownloadLocation: NOASSERTION\nFilesAnalyzed: false\nPackageLicenseConcluded: "
+
+abbrev pub to_declared : List ℕ
+to_declared = codes "\nPackageLicenseDeclared: "
+
+abbrev pub to_last : List ℕ
+to_last = codes "\nPackageCopyrightText: NOASSERTION\nRelationship: SPDXRef-DOCUMENT DESCRIBES SPDXRef-"
+
+-- a text between two others
+between : (front text more rest after : List ℕ) → more ++ rest ≡ after → (front ++ (text ++ more)) ++ rest ≡ front ++ (text ++ after)
+between front text more rest after is =
+    append_assoc front (text ++ more) rest ∙ ap (λ (all : List ℕ). front ++ all) (append_assoc text more rest ∙ ap (λ (all : List ℕ). text ++ all) is)
+
+-- ---- heads
+
+module _ (bill : Bill) where
+  abbrev from_created : List ℕ → List ℕ
+  from_created rest = to_created ++ (bill.created ++ (10 ∷ rest))
+
+  abbrev from_namespace : List ℕ → List ℕ
+  from_namespace rest = to_namespace ++ (bill.namespace ++ from_created rest)
+
+  pub head_rest : (rest : List ℕ) → head_before bill [] ++ rest ≡ head_before bill rest
+  head_rest rest =
+      between to_name bill.name (from_namespace []) rest (from_namespace rest)
+      (between to_namespace bill.namespace (from_created []) rest (from_created rest)
+      (between to_created bill.created (10 ∷ []) rest (10 ∷ rest) refl))
+
+-- ---- packages
+
+module _ (number : ℕ) (package : BillPackage) where
+  abbrev from_last : List ℕ → List ℕ
+  from_last rest = to_last ++ (decimal number ++ (10 ∷ rest))
+
+  abbrev from_declared : List ℕ → List ℕ
+  from_declared rest = to_declared ++ (package.declared ++ from_last rest)
+
+  abbrev pub from_concluded : List ℕ → List ℕ
+  from_concluded rest = to_concluded ++ (package.concluded ++ from_declared rest)
+
+  abbrev from_version : List ℕ → List ℕ
+  from_version rest = to_version ++ (package.version ++ from_concluded rest)
+
+  abbrev from_number : List ℕ → List ℕ
+  from_number rest = to_number ++ (decimal number ++ from_version rest)
+
+  pub package_rest : (rest : List ℕ) → package_before number package [] ++ rest ≡ package_before number package rest
+  package_rest rest =
+      between to_package package.name (from_number []) rest (from_number rest)
+      (between to_number (decimal number) (from_version []) rest (from_version rest)
+      (between to_version package.version (from_concluded []) rest (from_concluded rest)
+      (between to_concluded package.concluded (from_declared []) rest (from_declared rest)
+      (between to_declared package.declared (from_last []) rest (from_last rest)
+      (between to_last (decimal number) (10 ∷ []) rest (10 ∷ rest) refl)))))
