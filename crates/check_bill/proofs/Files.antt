@@ -9,9 +9,9 @@ use Rattle.check_bill.specs.Answers.{AnswersRead, Spells}
 use Rattle.check_bill.specs.Bills.{IsBill, IsBillPackage}
 use Rattle.check_bill.specs.Laws.{BillsReadBack, ReadIsWritten}
 use Rattle.check_bill.specs.Lines.{head_before, lines_of, package_before, packages_from}
-use Rattle.check_bill.specs.Reading.{◌>>=◌, HeadTexts, Misses, bill_with, has_more, head_at, package_at, packages_on, whole_at}
+use Rattle.check_bill.specs.Reading.{◌>>=◌, HeadTexts, Misses, Read, bill_with, has_more, head_at, package_at, packages_on, whole_at}
 use Rattle.check_bill.proofs.Packages.{head_again, head_takes, package_again, package_longer, package_takes}
-use Rattle.check_bill.proofs.Steps.{bind_some, passes, some_is}
+use Rattle.check_bill.proofs.Steps.{bind_some, some_is}
 
 -- ---- packages
 
@@ -26,7 +26,7 @@ packages_again [] front (suc most) each enough = ap (λ (p : List BillPackage). 
 packages_again (package ∷ packages) front zero each enough = absurd (omega arith)
 packages_again (package ∷ packages) front (suc most) each enough =
     let number : ℕ = length front + 1 in
-    ap (λ read. read >>= λ (next : BillPackage × List ℕ). packages_on most (front ++ next.0 ∷ []) next.1) (package_again number package (packages_from (number + 1) packages) each.0)
+    ap (λ (read : Read BillPackage). read >>= λ (next : BillPackage × List ℕ). packages_on most (front ++ next.0 ∷ []) next.1) (package_again number package (packages_from (number + 1) packages) each.0)
     ∙ ap (λ (n : ℕ). packages_on most (front ++ package ∷ []) (packages_from (n + 1) packages)) (sym (one_more front package))
     ∙ packages_again packages (front ++ package ∷ []) most each.1 (omega arith)
     ∙ ap (λ (p : List BillPackage). Some p) (append_assoc front (package ∷ []) packages)
@@ -78,8 +78,8 @@ unfolding whole_at
 whole_again bill is =
     let rest : List ℕ = packages_from 1 bill.packages in
     let head : HeadTexts = record { name = bill.name; namespace = bill.namespace; created = bill.created } in
-    ap (λ read. read >>= behind_head) (head_again bill rest is)
-    ∙ ap (λ read. read >>= λ packages. last_of_whole head packages) (packages_again bill.packages [] (length rest) is.packages (packages_count bill.packages 1))
+    ap (λ (read : Read HeadTexts). read >>= behind_head) (head_again bill rest is)
+    ∙ ap (λ (read : Option (List BillPackage)). read >>= λ packages. last_of_whole head packages) (packages_again bill.packages [] (length rest) is.packages (packages_count bill.packages 1))
 
 pub whole_takes : (bytes : List ℕ) (bill : Bill) → whole_at bytes ≡ Some bill → Spells bytes bill
 unfolding whole_at

@@ -62,7 +62,7 @@ module _ (number : ℕ) (package : BillPackage) where
   abbrev from_declared : List ℕ → List ℕ
   from_declared rest = to_declared ++ (package.declared ++ from_last rest)
 
-  abbrev pub from_concluded : List ℕ → List ℕ
+  abbrev from_concluded : List ℕ → List ℕ
   from_concluded rest = to_concluded ++ (package.concluded ++ from_declared rest)
 
   abbrev from_version : List ℕ → List ℕ

@@ -7,7 +7,7 @@ use Rattle.check_bill.specs.Bills.{IsBill, IsBillPackage, IsLine, is_line, is_mo
 use Rattle.check_bill.specs.Lines.{head_before, package_before}
 use Rattle.check_bill.specs.Reading.{◌>>=◌, Read, HeadTexts, behind_number, behind_text, bill_with, field_at, head_at, licensed_at, named_at, package_at}
 use Rattle.check_bill.proofs.Fields.{TakesField, field_again, field_takes, moment_visible, visible_utf8, word_visible}
-use Rattle.check_bill.proofs.Lines.{from_concluded, package_rest, to_concluded, to_created, to_declared, to_last, to_name, to_namespace, to_number, to_package, to_version}
+use Rattle.check_bill.proofs.Lines.{package_rest, to_concluded, to_created, to_declared, to_last, to_name, to_namespace, to_number, to_package, to_version}
 use Rattle.check_bill.proofs.Steps.{behind_text_again, behind_text_is, bind_some, some_is}
 
 -- ---- heads
@@ -33,13 +33,13 @@ behind_name name = field_at Word to_namespace name.1 >>= λ namespace. behind_na
 pub head_again : (bill : Bill) (rest : List ℕ) → IsBill bill → head_at (head_before bill rest) ≡ Some (head_with bill.name bill.namespace bill.created, rest)
 unfolding head_at
 head_again bill rest is =
-    ap (λ read. read >>= behind_name)
+    ap (λ (read : Read (List ℕ)). read >>= behind_name)
     (field_again Word to_name bill.name (codes "DocumentNamespace: " ++ (bill.namespace ++ (to_created ++ (bill.created ++ (10 ∷ rest))))) is.name (visible_utf8 bill.name (word_visible bill.name is.name)))
-    ∙ ap (λ read. read >>= λ namespace. behind_namespace bill.name namespace)
+    ∙ ap (λ (read : Read (List ℕ)). read >>= λ namespace. behind_namespace bill.name namespace)
     (field_again Word to_namespace bill.namespace (codes "Creator: Tool: cargo-deny-0.20.2\nCreated: " ++ (bill.created ++ (10 ∷ rest))) is.namespace (visible_utf8 bill.namespace (word_visible bill.namespace is.namespace)))
-    ∙ ap (λ read. read >>= λ created. behind_created bill.name bill.namespace created)
+    ∙ ap (λ (read : Read (List ℕ)). read >>= λ created. behind_created bill.name bill.namespace created)
     (field_again Moment to_created bill.created rest is.created (visible_utf8 bill.created (moment_visible bill.created is.created)))
-    ∙ ap (λ read. read >>= λ left. last_of_head bill.name bill.namespace bill.created left) (behind_text_again (codes "\n") rest)
+    ∙ ap (λ (read : Option (List ℕ)). read >>= λ left. last_of_head bill.name bill.namespace bill.created left) (behind_text_again (codes "\n") rest)
 
 -- a head and what is behind it
 pub record TakesHead (bytes : List ℕ) (head : HeadTexts) (rest : List ℕ) : Type 0 where
@@ -98,10 +98,10 @@ named_again : (number : ℕ) (name version rest : List ℕ) → IsLine name → 
 unfolding named_at behind_number
 named_again number name version rest is_name is_version =
     let digits : List ℕ = decimal number ++ (to_version ++ (version ++ (10 ∷ rest))) in
-    ap (λ read. read >>= λ found. behind_package number found) (field_again Line to_package name (codes "SPDXID: SPDXRef-" ++ digits) is_name.line is_name.utf8)
-    ∙ ap (λ read. read >>= λ mark. behind_mark number name mark) (behind_text_again to_number digits)
-    ∙ ap (λ read. read >>= λ left. behind_digits name left) (behind_text_again (decimal number) (to_version ++ (version ++ (10 ∷ rest))))
-    ∙ ap (λ read. read >>= λ found. behind_version name found) (field_again Line to_version version rest is_version.line is_version.utf8)
+    ap (λ (read : Read (List ℕ)). read >>= λ found. behind_package number found) (field_again Line to_package name (codes "SPDXID: SPDXRef-" ++ digits) is_name.line is_name.utf8)
+    ∙ ap (λ (read : Option (List ℕ)). read >>= λ mark. behind_mark number name mark) (behind_text_again to_number digits)
+    ∙ ap (λ (read : Option (List ℕ)). read >>= λ left. behind_digits name left) (behind_text_again (decimal number) (to_version ++ (version ++ (10 ∷ rest))))
+    ∙ ap (λ (read : Read (List ℕ)). read >>= λ found. behind_version name found) (field_again Line to_version version rest is_version.line is_version.utf8)
 
 record TakesNamed (number : ℕ) (bytes : List ℕ) (texts : Texts) (rest : List ℕ) : Type 0 where
   parts : bytes ≡ named_text number texts.0 texts.1 rest
@@ -152,13 +152,13 @@ licensed_again : (number : ℕ) (concluded declared rest : List ℕ) → IsLine 
 unfolding licensed_at behind_number
 licensed_again number concluded declared rest is_concluded is_declared =
     let digits : List ℕ = decimal number ++ (10 ∷ rest) in
-    ap (λ read. read >>= λ found. behind_concluded number found)
+    ap (λ (read : Read (List ℕ)). read >>= λ found. behind_concluded number found)
     (field_again Line to_concluded concluded (codes "PackageLicenseDeclared: " ++ (declared ++ (to_last ++ digits))) is_concluded.line is_concluded.utf8)
-    ∙ ap (λ read. read >>= λ found. behind_declared number concluded found)
+    ∙ ap (λ (read : Read (List ℕ)). read >>= λ found. behind_declared number concluded found)
     (field_again Line to_declared declared (codes "PackageCopyrightText: NOASSERTION\nRelationship: SPDXRef-DOCUMENT DESCRIBES SPDXRef-" ++ digits) is_declared.line is_declared.utf8)
-    ∙ ap (λ read. read >>= λ mark. behind_last number concluded declared mark) (behind_text_again to_last digits)
-    ∙ ap (λ read. read >>= λ left. behind_last_digits concluded declared left) (behind_text_again (decimal number) (10 ∷ rest))
-    ∙ ap (λ read. read >>= λ last. last_of_licensed concluded declared last) (behind_text_again (codes "\n") rest)
+    ∙ ap (λ (read : Option (List ℕ)). read >>= λ mark. behind_last number concluded declared mark) (behind_text_again to_last digits)
+    ∙ ap (λ (read : Option (List ℕ)). read >>= λ left. behind_last_digits concluded declared left) (behind_text_again (decimal number) (10 ∷ rest))
+    ∙ ap (λ (read : Option (List ℕ)). read >>= λ last. last_of_licensed concluded declared last) (behind_text_again (codes "\n") rest)
 
 record TakesLicensed (number : ℕ) (bytes : List ℕ) (texts : Texts) (rest : List ℕ) : Type 0 where
   parts : bytes ≡ licensed_text number texts.0 texts.1 rest
@@ -207,8 +207,8 @@ unfolding package_at
 package_again number package rest is =
     let licensed : List ℕ = codes "PackageDownloadLocation: NOASSERTION\nFilesAnalyzed: false\nPackageLicenseConcluded: "
     ++ (package.concluded ++ (to_declared ++ (package.declared ++ (to_last ++ (decimal number ++ (10 ∷ rest)))))) in
-    ap (λ read. read >>= λ named. behind_named number named) (named_again number package.name package.version licensed is.name is.version)
-    ∙ ap (λ read. read >>= λ found. behind_licensed (package.name, package.version) found) (licensed_again number package.concluded package.declared rest is.concluded is.declared)
+    ap (λ (read : Read Texts). read >>= λ named. behind_named number named) (named_again number package.name package.version licensed is.name is.version)
+    ∙ ap (λ (read : Read Texts). read >>= λ found. behind_licensed (package.name, package.version) found) (licensed_again number package.concluded package.declared rest is.concluded is.declared)
 
 -- a package and what is behind it
 pub record TakesPackage (number : ℕ) (bytes : List ℕ) (package : BillPackage) (rest : List ℕ) : Type 0 where
