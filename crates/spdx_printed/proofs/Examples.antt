@@ -1,5 +1,5 @@
 -- Texts and how they are printed, worked out by hand from the rules.
-use Rattle.std.proofs.Common.{◌≡◌, refl, ℕ, Bool, true, false, List, [], ◌∷◌, Option, Some, None, codes}
+use Rattle.std.proofs.Common.{◌≡◌, refl, ℕ, Bool, true, false, List, Option, Some, codes}
 use Rattle.std.specs.Option.{option_map}
 use Rattle.spdx_terms.specs.catalog.Table.{table_lists, single_names, families, gnu_families, table_exceptions, table_imprecise}
 use Rattle.spdx_terms.specs.declared.mode.ParseMode.{ParseMode}

@@ -1,13 +1,12 @@
 -- A printed expression is read back.
-use Rattle.std.proofs.Common.{◌≡◌, ◌∙◌, refl, sym, ap, subst, ℕ, ◌+◌, Bool, true, false, ◌||◌, List, [], ◌∷◌, ◌++◌, append_assoc, append-nil, map, Option, Some, None, length, arith}
+use Rattle.std.proofs.Common.{◌≡◌, ◌∙◌, refl, sym, ap, subst, ℕ, ◌+◌, Bool, true, false, ◌||◌, List, [], ◌∷◌, ◌++◌, append_assoc, append-nil, Option, Some, None, length, arith}
 use Rattle.std.proofs.lemmas.List.{length-append, length-map, map-append}
 use Rattle.std.proofs.lemmas.List.Elements.{recursion_from_All}
 use Rattle.std.proofs.lemmas.Bool.{false≢true}
 use Rattle.std.specs.Prelude.{codes, slice_get, unwrap_or}
 use Rattle.std.specs.Option.{option_map}
-use Rattle.std.specs.List.{AllByRecursion, prefix_len}
+use Rattle.std.specs.List.{AllByRecursion}
 use Rattle.spdx_terms.specs.catalog.Catalog.{CatalogLists, IsCatalog}
-use Rattle.spdx_terms.specs.catalog.Words.{ends_word}
 use Rattle.spdx_terms.specs.declared.term.LicenseItem.{LicenseItem}
 use Rattle.spdx_terms.specs.declared.term.LicenseItem.TheVariants.{Spdx, Reference}
 use Rattle.spdx_terms.specs.declared.term.LicenseReq.{LicenseReq}
@@ -19,7 +18,7 @@ use Rattle.spdx_terms.specs.declared.item.Token.TheVariants.{Open as an_open, Cl
 use Rattle.spdx_terms.specs.declared.item.WantedItem.{WantedItem}
 use Rattle.spdx_terms.specs.declared.item.WantedItem.TheVariants.{Term as wants_term, Exception as wants_exception, AfterTerm, AfterPart}
 use Rattle.spdx_terms.specs.Tokens.{is_white, rest_len}
-use Rattle.spdx_terms.specs.Items.{item_at, plus_behind, word_item, first_item, items_of, items_from, item_here, with_item, wanted_behind, used_behind, wanted_after}
+use Rattle.spdx_terms.specs.Items.{item_at, word_item, first_item, items_of, items_from, item_here, with_item, wanted_behind, used_behind, wanted_after}
 use Rattle.spdx_terms.specs.Terms.{item_text, exception_text, req_text}
 use Rattle.spdx_terms.proofs.ItemLemmas.{items_at}
 use Rattle.spdx_terms.proofs.ItemBorders.{step_white}
