@@ -9,7 +9,7 @@ use Rattle.check_bill.specs.declared.forms.TextForm.{TextForm}
 use Rattle.check_bill.specs.declared.forms.TextForm.TheVariants.{Word, Moment, Line}
 use Rattle.check_bill.specs.Bills.{has_some, is_visible, is_word, is_in_line, is_line, stands_for, has_form, has_day, has_time, is_moment, is_of}
 use Rattle.check_bill.specs.Reading.{◌>>=◌, behind_text, stays, text_at, field_at}
-use Rattle.check_bill.proofs.Steps.{some_is, bind_some, passes, both, and_true, behind_text_is, behind_text_again}
+use Rattle.check_bill.proofs.StepLemmas.{some_is, bind_some, passes, both, and_true, behind_text_is, behind_text_again}
 
 -- ---- UTF-8
 

@@ -11,31 +11,31 @@ use Rattle.check_bill.specs.Laws.{BillsReadBack, ReadIsWritten}
 use Rattle.check_bill.specs.Lines.{head_before, lines_of, package_before, packages_from}
 use Rattle.check_bill.specs.Reading.{◌>>=◌, HeadTexts, Misses, Read, bill_with, has_more, head_at, package_at, packages_on, whole_at}
 use Rattle.check_bill.proofs.Packages.{head_again, head_takes, package_again, package_longer, package_takes}
-use Rattle.check_bill.proofs.Steps.{bind_some, some_is}
+use Rattle.check_bill.proofs.StepLemmas.{bind_some, some_is}
 
 -- ---- packages
 
-one_more : (front : List BillPackage) (package : BillPackage) → length (front ++ package ∷ []) ≡ length front + 1
-one_more front package = length-append front (package ∷ [])
+one_more : (front : List BillPackage) (krate : BillPackage) → length (front ++ krate ∷ []) ≡ length front + 1
+one_more front krate = length-append front (krate ∷ [])
 
 packages_again : (packages front : List BillPackage) (most : ℕ) → AllByRecursion IsBillPackage packages → length packages ≤ most
     → packages_on most front (packages_from (length front + 1) packages) ≡ Some (front ++ packages)
 unfolding packages_on
 packages_again [] front zero each enough = ap (λ (p : List BillPackage). Some p) (sym (append-nil front))
 packages_again [] front (suc most) each enough = ap (λ (p : List BillPackage). Some p) (sym (append-nil front))
-packages_again (package ∷ packages) front zero each enough = absurd (omega arith)
-packages_again (package ∷ packages) front (suc most) each enough =
+packages_again (krate ∷ packages) front zero each enough = absurd (omega arith)
+packages_again (krate ∷ packages) front (suc most) each enough =
     let number : ℕ = length front + 1 in
-    ap (λ (read : Read BillPackage). read >>= λ (next : BillPackage × List ℕ). packages_on most (front ++ next.0 ∷ []) next.1) (package_again number package (packages_from (number + 1) packages) each.0)
-    ∙ ap (λ (n : ℕ). packages_on most (front ++ package ∷ []) (packages_from (n + 1) packages)) (sym (one_more front package))
-    ∙ packages_again packages (front ++ package ∷ []) most each.1 (omega arith)
-    ∙ ap (λ (p : List BillPackage). Some p) (append_assoc front (package ∷ []) packages)
+    ap (λ (read : Read BillPackage). read >>= λ (next : BillPackage × List ℕ). packages_on most (front ++ next.0 ∷ []) next.1) (package_again number krate (packages_from (number + 1) packages) each.0)
+    ∙ ap (λ (n : ℕ). packages_on most (front ++ krate ∷ []) (packages_from (n + 1) packages)) (sym (one_more front krate))
+    ∙ packages_again packages (front ++ krate ∷ []) most each.1 (omega arith)
+    ∙ ap (λ (p : List BillPackage). Some p) (append_assoc front (krate ∷ []) packages)
 
 packages_count : (packages : List BillPackage) (number : ℕ) → length packages ≤ length (packages_from number packages)
 packages_count [] number = omega arith
-packages_count (package ∷ packages) number =
+packages_count (krate ∷ packages) number =
     let others = packages_count packages (number + 1) in
-    let longer = package_longer number package (packages_from (number + 1) packages) in
+    let longer = package_longer number krate (packages_from (number + 1) packages) in
     omega arith
 
 -- the packages behind others

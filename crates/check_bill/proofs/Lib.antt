@@ -5,4 +5,4 @@ pub mod Lines
 pub mod Loops
 pub mod Packages
 pub mod Same
-pub mod Steps
+pub mod StepLemmas

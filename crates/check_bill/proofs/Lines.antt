@@ -55,27 +55,27 @@ module _ (bill : Bill) where
 
 -- ---- packages
 
-module _ (number : ℕ) (package : BillPackage) where
+module _ (number : ℕ) (krate : BillPackage) where
   abbrev from_last : List ℕ → List ℕ
   from_last rest = to_last ++ (decimal number ++ (10 ∷ rest))
 
   abbrev from_declared : List ℕ → List ℕ
-  from_declared rest = to_declared ++ (package.declared ++ from_last rest)
+  from_declared rest = to_declared ++ (krate.declared ++ from_last rest)
 
   abbrev from_concluded : List ℕ → List ℕ
-  from_concluded rest = to_concluded ++ (package.concluded ++ from_declared rest)
+  from_concluded rest = to_concluded ++ (krate.concluded ++ from_declared rest)
 
   abbrev from_version : List ℕ → List ℕ
-  from_version rest = to_version ++ (package.version ++ from_concluded rest)
+  from_version rest = to_version ++ (krate.version ++ from_concluded rest)
 
   abbrev from_number : List ℕ → List ℕ
   from_number rest = to_number ++ (decimal number ++ from_version rest)
 
-  pub package_rest : (rest : List ℕ) → package_before number package [] ++ rest ≡ package_before number package rest
+  pub package_rest : (rest : List ℕ) → package_before number krate [] ++ rest ≡ package_before number krate rest
   package_rest rest =
-      between to_package package.name (from_number []) rest (from_number rest)
+      between to_package krate.name (from_number []) rest (from_number rest)
       (between to_number (decimal number) (from_version []) rest (from_version rest)
-      (between to_version package.version (from_concluded []) rest (from_concluded rest)
-      (between to_concluded package.concluded (from_declared []) rest (from_declared rest)
-      (between to_declared package.declared (from_last []) rest (from_last rest)
+      (between to_version krate.version (from_concluded []) rest (from_concluded rest)
+      (between to_concluded krate.concluded (from_declared []) rest (from_declared rest)
+      (between to_declared krate.declared (from_last []) rest (from_last rest)
       (between to_last (decimal number) (10 ∷ []) rest (10 ∷ rest) refl)))))

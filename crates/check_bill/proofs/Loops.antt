@@ -11,18 +11,18 @@ unfolding packages_on
 packages_end zero packages bytes other = rw other refl
 packages_end (suc most) packages bytes other = rw other refl
 
-packages_step : (most : ℕ) (packages : List BillPackage) (bytes : List ℕ) (package : BillPackage) (after : List ℕ) → has_more bytes ≡ true → package_at (length packages + 1) bytes ≡ Some (package, after)
-    → packages_on (suc most) packages bytes ≡ packages_on most (packages ++ package ∷ []) after
+packages_step : (most : ℕ) (packages : List BillPackage) (bytes : List ℕ) (krate : BillPackage) (after : List ℕ) → has_more bytes ≡ true → package_at (length packages + 1) bytes ≡ Some (krate, after)
+    → packages_on (suc most) packages bytes ≡ packages_on most (packages ++ krate ∷ []) after
 unfolding packages_on
-packages_step most packages bytes package after first e = rw (first, e) refl
+packages_step most packages bytes krate after first e = rw (first, e) refl
 
 packages_missing : (most : ℕ) (packages : List BillPackage) (bytes : List ℕ) → has_more bytes ≡ true → package_at (length packages + 1) bytes ≡ None → packages_on most packages bytes ≡ None
 unfolding packages_on
 packages_missing zero packages bytes first e = rw first refl
 packages_missing (suc most) packages bytes first e = rw (first, e) refl
 
-pub package_smaller : (number : ℕ) (bytes : List ℕ) (package : BillPackage) (after : List ℕ) → package_at number bytes ≡ Some (package, after) → length after < length bytes
-package_smaller number bytes package after e = package_shortens number bytes package after e
+pub package_smaller : (number : ℕ) (bytes : List ℕ) (krate : BillPackage) (after : List ℕ) → package_at number bytes ≡ Some (krate, after) → length after < length bytes
+package_smaller number bytes krate after e = package_shortens number bytes krate after e
 
 -- what is read does not depend on the count, where that is not less than the bytes
 packages_same : (m n : ℕ) (packages : List BillPackage) (bytes : List ℕ) (b : Bool) (read : Read BillPackage) → has_more bytes ≡ b → package_at (length packages + 1) bytes ≡ read → length bytes ≤ m → length bytes ≤ n
@@ -37,13 +37,13 @@ packages_same (suc m) (suc n) packages bytes true (Some next) first e low high =
     ∙ packages_same m n (packages ++ next.0 ∷ []) next.1 (has_more next.1) (package_at (length (packages ++ next.0 ∷ []) + 1) next.1) refl refl (omega arith) (omega arith)
     ∙ sym (packages_step n packages bytes next.0 next.1 first e)
 
-pub packages_more : (packages : List BillPackage) (bytes : List ℕ) (package : BillPackage) (after : List ℕ) → has_more bytes ≡ true → package_at (length packages + 1) bytes ≡ Some (package, after)
-    → packages_on (length after) (packages ++ package ∷ []) after ≡ packages_on (length bytes) packages bytes
-packages_more packages [] package after first e = absurd (true≢false (sym first))
-packages_more packages (byte ∷ bytes) package after first e =
-    let less = package_smaller (length packages + 1) (byte ∷ bytes) package after e in
-    packages_same (length after) (length bytes) (packages ++ package ∷ []) after (has_more after) (package_at (length (packages ++ package ∷ []) + 1) after) refl refl (omega arith) (omega arith)
-    ∙ sym (packages_step (length bytes) packages (byte ∷ bytes) package after first e)
+pub packages_more : (packages : List BillPackage) (bytes : List ℕ) (krate : BillPackage) (after : List ℕ) → has_more bytes ≡ true → package_at (length packages + 1) bytes ≡ Some (krate, after)
+    → packages_on (length after) (packages ++ krate ∷ []) after ≡ packages_on (length bytes) packages bytes
+packages_more packages [] krate after first e = absurd (true≢false (sym first))
+packages_more packages (byte ∷ bytes) krate after first e =
+    let less = package_smaller (length packages + 1) (byte ∷ bytes) krate after e in
+    packages_same (length after) (length bytes) (packages ++ krate ∷ []) after (has_more after) (package_at (length (packages ++ krate ∷ []) + 1) after) refl refl (omega arith) (omega arith)
+    ∙ sym (packages_step (length bytes) packages (byte ∷ bytes) krate after first e)
 
 pub packages_last : (packages : List BillPackage) (bytes : List ℕ) → has_more bytes ≡ false → packages_on (length bytes) packages bytes ≡ Some packages
 packages_last packages bytes other = packages_end (length bytes) packages bytes other

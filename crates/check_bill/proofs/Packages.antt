@@ -8,7 +8,7 @@ use Rattle.check_bill.specs.Lines.{head_before, package_before}
 use Rattle.check_bill.specs.Reading.{◌>>=◌, Read, HeadTexts, behind_number, behind_text, bill_with, field_at, head_at, licensed_at, named_at, package_at}
 use Rattle.check_bill.proofs.Fields.{TakesField, field_again, field_takes, moment_visible, visible_utf8, word_visible}
 use Rattle.check_bill.proofs.Lines.{package_rest, to_concluded, to_created, to_declared, to_last, to_name, to_namespace, to_number, to_package, to_version}
-use Rattle.check_bill.proofs.Steps.{behind_text_again, behind_text_is, bind_some, some_is}
+use Rattle.check_bill.proofs.StepLemmas.{behind_text_again, behind_text_is, bind_some, some_is}
 
 -- ---- heads
 
@@ -194,7 +194,7 @@ abbrev package_with : Texts → Texts → BillPackage
 package_with named licensed = record { name = named.0; version = named.1; concluded = licensed.0; declared = licensed.1 }
 
 abbrev package_pair : BillPackage → List ℕ → BillPackage × List ℕ
-package_pair package rest = (package, rest)
+package_pair krate rest = (krate, rest)
 
 abbrev behind_licensed : Texts → Texts × List ℕ → Read BillPackage
 behind_licensed named licensed = Some (package_with named licensed.0, licensed.1)
@@ -202,27 +202,27 @@ behind_licensed named licensed = Some (package_with named licensed.0, licensed.1
 abbrev behind_named : ℕ → Texts × List ℕ → Read BillPackage
 behind_named number named = licensed_at number named.1 >>= λ licensed. behind_licensed named.0 licensed
 
-pub package_again : (number : ℕ) (package : BillPackage) (rest : List ℕ) → IsBillPackage package → package_at number (package_before number package rest) ≡ Some (package, rest)
+pub package_again : (number : ℕ) (krate : BillPackage) (rest : List ℕ) → IsBillPackage krate → package_at number (package_before number krate rest) ≡ Some (krate, rest)
 unfolding package_at
-package_again number package rest is =
+package_again number krate rest is =
     let licensed : List ℕ = codes "PackageDownloadLocation: NOASSERTION\nFilesAnalyzed: false\nPackageLicenseConcluded: "
-    ++ (package.concluded ++ (to_declared ++ (package.declared ++ (to_last ++ (decimal number ++ (10 ∷ rest)))))) in
-    ap (λ (read : Read Texts). read >>= λ named. behind_named number named) (named_again number package.name package.version licensed is.name is.version)
-    ∙ ap (λ (read : Read Texts). read >>= λ found. behind_licensed (package.name, package.version) found) (licensed_again number package.concluded package.declared rest is.concluded is.declared)
+    ++ (krate.concluded ++ (to_declared ++ (krate.declared ++ (to_last ++ (decimal number ++ (10 ∷ rest)))))) in
+    ap (λ (read : Read Texts). read >>= λ named. behind_named number named) (named_again number krate.name krate.version licensed is.name is.version)
+    ∙ ap (λ (read : Read Texts). read >>= λ found. behind_licensed (krate.name, krate.version) found) (licensed_again number krate.concluded krate.declared rest is.concluded is.declared)
 
 -- a package and what is behind it
-pub record TakesPackage (number : ℕ) (bytes : List ℕ) (package : BillPackage) (rest : List ℕ) : Type 0 where
-  pub parts : bytes ≡ package_before number package rest
-  pub is : IsBillPackage package
+pub record TakesPackage (number : ℕ) (bytes : List ℕ) (krate : BillPackage) (rest : List ℕ) : Type 0 where
+  pub parts : bytes ≡ package_before number krate rest
+  pub is : IsBillPackage krate
 
-pub package_takes : (number : ℕ) (bytes : List ℕ) (package : BillPackage) (rest : List ℕ) → package_at number bytes ≡ Some (package, rest) → TakesPackage number bytes package rest
+pub package_takes : (number : ℕ) (bytes : List ℕ) (krate : BillPackage) (rest : List ℕ) → package_at number bytes ≡ Some (krate, rest) → TakesPackage number bytes krate rest
 unfolding package_at
-package_takes number bytes package rest e =
-    let n = bind_some (named_at number bytes) (λ named. behind_named number named) (package, rest) e in
-    let l = bind_some (licensed_at number n.0.1) (λ found. behind_licensed n.0.0 found) (package, rest) n.2 in
+package_takes number bytes krate rest e =
+    let n = bind_some (named_at number bytes) (λ named. behind_named number named) (krate, rest) e in
+    let l = bind_some (licensed_at number n.0.1) (λ found. behind_licensed n.0.0 found) (krate, rest) n.2 in
     let named = named_takes number bytes n.0.0 n.0.1 n.1 in
     let licensed = licensed_takes number n.0.1 l.0.0 l.0.1 l.1 in
-    subst (λ (q : BillPackage × List ℕ). TakesPackage number bytes q.0 q.1) (some_is (package_pair (package_with n.0.0 l.0.0) l.0.1) (package_pair package rest) l.2)
+    subst (λ (q : BillPackage × List ℕ). TakesPackage number bytes q.0 q.1) (some_is (package_pair (package_with n.0.0 l.0.0) l.0.1) (package_pair krate rest) l.2)
     (record {
       parts = named.parts ∙ ap (λ (r : List ℕ). named_text number n.0.0.0 n.0.0.1 r) licensed.parts;
       is = record { name = named.name; version = named.version; concluded = licensed.concluded; declared = licensed.declared };
@@ -230,20 +230,20 @@ package_takes number bytes package rest e =
 
 -- a package without its first byte
 abbrev body : ℕ → BillPackage → List ℕ
-body number package =
-    codes "PackageName: " ++ (package.name ++ (to_number ++ (decimal number ++ (to_version ++ (package.version ++ (to_concluded
-    ++ (package.concluded ++ (to_declared ++ (package.declared ++ (to_last ++ (decimal number ++ (10 ∷ []))))))))))))
+body number krate =
+    codes "PackageName: " ++ (krate.name ++ (to_number ++ (decimal number ++ (to_version ++ (krate.version ++ (to_concluded
+    ++ (krate.concluded ++ (to_declared ++ (krate.declared ++ (to_last ++ (decimal number ++ (10 ∷ []))))))))))))
 
-pub package_longer : (number : ℕ) (package : BillPackage) (rest : List ℕ) → length rest < length (package_before number package rest)
-package_longer number package rest =
-    let lengths : length (10 ∷ (body number package ++ rest)) ≡ length (package_before number package rest) = ap (λ (r : List ℕ). length r) (package_rest number package rest) in
-    let more = length-append (body number package) rest in
+pub package_longer : (number : ℕ) (krate : BillPackage) (rest : List ℕ) → length rest < length (package_before number krate rest)
+package_longer number krate rest =
+    let lengths : length (10 ∷ (body number krate ++ rest)) ≡ length (package_before number krate rest) = ap (λ (r : List ℕ). length r) (package_rest number krate rest) in
+    let more = length-append (body number krate) rest in
     omega arith
 
 -- a package takes bytes, so a step behind it has less of them
-pub package_shortens : (number : ℕ) (bytes : List ℕ) (package : BillPackage) (rest : List ℕ) → package_at number bytes ≡ Some (package, rest) → length rest < length bytes
-package_shortens number bytes package rest e =
-    let t = package_takes number bytes package rest e in
-    let lengths : length bytes ≡ length (package_before number package rest) = ap (λ (r : List ℕ). length r) t.parts in
-    let more = package_longer number package rest in
+pub package_shortens : (number : ℕ) (bytes : List ℕ) (krate : BillPackage) (rest : List ℕ) → package_at number bytes ≡ Some (krate, rest) → length rest < length bytes
+package_shortens number bytes krate rest e =
+    let t = package_takes number bytes krate rest e in
+    let lengths : length bytes ≡ length (package_before number krate rest) = ap (λ (r : List ℕ). length r) t.parts in
+    let more = package_longer number krate rest in
     omega arith

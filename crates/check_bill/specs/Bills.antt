@@ -76,11 +76,11 @@ pub record IsLine (text : List ℕ) : Type 0 where
   pub utf8 : IsUtf8 text
   pub line : IsTrue (is_line text)
 
-pub record IsBillPackage (package : BillPackage) : Type 0 where
-  pub name : IsLine package.name
-  pub version : IsLine package.version
-  pub concluded : IsLine package.concluded
-  pub declared : IsLine package.declared
+pub record IsBillPackage (krate : BillPackage) : Type 0 where
+  pub name : IsLine krate.name
+  pub version : IsLine krate.version
+  pub concluded : IsLine krate.concluded
+  pub declared : IsLine krate.declared
 
 pub record IsBill (bill : Bill) : Type 0 where
   pub name : IsTrue (is_word bill.name)

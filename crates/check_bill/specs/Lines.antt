@@ -24,22 +24,22 @@ reference number = codes "SPDXRef-" ++ decimal number
 
 -- an empty line and those of a package, and what is behind them
 abbrev pub package_before : ℕ → BillPackage → List ℕ → List ℕ
-package_before number package rest =
+package_before number krate rest =
     line [] []
-    (line (codes "PackageName: ") package.name
+    (line (codes "PackageName: ") krate.name
     (line (codes "SPDXID: ") (reference number)
-    (line (codes "PackageVersion: ") package.version
+    (line (codes "PackageVersion: ") krate.version
     (line (codes "PackageDownloadLocation: ") (codes "NOASSERTION")
     (line (codes "FilesAnalyzed: ") (codes "false")
-    (line (codes "PackageLicenseConcluded: ") package.concluded
-    (line (codes "PackageLicenseDeclared: ") package.declared
+    (line (codes "PackageLicenseConcluded: ") krate.concluded
+    (line (codes "PackageLicenseDeclared: ") krate.declared
     (line (codes "PackageCopyrightText: ") (codes "NOASSERTION")
     (line (codes "Relationship: ") (codes "SPDXRef-DOCUMENT DESCRIBES " ++ reference number) rest)))))))))
 
 -- packages that are numbered from a number on
 abbrev pub packages_from : ℕ → List BillPackage → List ℕ
 packages_from number [] = []
-packages_from number (package ∷ packages) = package_before number package (packages_from (number + 1) packages)
+packages_from number (krate ∷ packages) = package_before number krate (packages_from (number + 1) packages)
 
 -- all lines
 abbrev pub lines_of : Bill → List ℕ

@@ -98,7 +98,7 @@ fn read_parts<'b>(
 impl<'b> PackageParts<'b> {
     /// A package of its own.
     fn owned(&self, alloc: Global) -> Result<BillPackage, AllocError>
-        ensures { IfOk result (λ package. package ≡ package_of self.now) }
+        ensures { IfOk result (λ krate. krate ≡ package_of self.now) }
     {
         let name = Text::copy(alloc, self.name)?;
         let version = Text::copy(alloc, self.version)?;

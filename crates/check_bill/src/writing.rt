@@ -29,17 +29,17 @@ fn push_head(text: &mut String, bill: &Bill) -> Result<(), AllocError>
 fn push_package(
     text: &mut String,
     number: usize,
-    package: &BillPackage,
+    krate: &BillPackage,
 ) -> Result<(), AllocError>
     ensures { OnOk result (string_bytes text.new
-        ≡ string_bytes text.old ++ package_before number package.now []) }
+        ≡ string_bytes text.old ++ package_before number krate.now []) }
 {
     let BillPackage {
         name,
         version,
         concluded,
         declared,
-    } = package;
+    } = krate;
     write!(
         text,
         "\nPackageName: {name}\nSPDXID: SPDXRef-{number}\nPackageVersion: {version}\nPackageDownloadLocation: NOASSERTION\nFilesAnalyzed: false\nPackageLicenseConcluded: {concluded}\nPackageLicenseDeclared: {declared}\nPackageCopyrightText: NOASSERTION\nRelationship: SPDXRef-DOCUMENT DESCRIBES SPDXRef-{number}\n"
@@ -52,8 +52,8 @@ fn push_packages(text: &mut String, packages: &[BillPackage]) -> Result<(), Allo
     ensures { OnOk result (string_bytes text.new
         ≡ string_bytes text.old ++ packages_from 1 packages.now) }
 {
-    'packages: for (place, package) in packages.iter().enumerate() {
-        push_package(text, place + 1, package)?;
+    'packages: for (place, krate) in packages.iter().enumerate() {
+        push_package(text, place + 1, krate)?;
     }
     Ok(())
 }
