@@ -1,8 +1,8 @@
 -- The lines of a head and of a package, and what is behind them.
-use Rattle.std.proofs.Common.{◌≡◌, ◌∙◌, refl, ap, ℕ, List, [], ◌∷◌, ◌++◌, append_assoc, codes, decimal}
+use Rattle.std.proofs.Common.{◌≡◌, ◌∙◌, refl, sym, ap, ℕ, ◌+◌, ◌<◌, zero, suc, drop, get_or, length, arith, List, [], ◌∷◌, ◌++◌, append_assoc, codes, decimal}
 use Rattle.check_bill.specs.declared.bill.Bill.{Bill}
 use Rattle.check_bill.specs.declared.bill.BillPackage.{BillPackage}
-use Rattle.check_bill.specs.Lines.{head_before, package_before}
+use Rattle.check_bill.specs.Lines.{head_before, package_before, packages_from}
 
 -- what the texts of a head stand behind
 abbrev pub to_name : List ℕ
@@ -79,3 +79,19 @@ module _ (number : ℕ) (krate : BillPackage) where
       (between to_concluded krate.concluded (from_declared []) rest (from_declared rest)
       (between to_declared krate.declared (from_last []) rest (from_last rest)
       (between to_last (decimal number) (10 ∷ []) rest (10 ∷ rest) refl)))))
+
+-- ---- one turn of writing
+
+next_of : (packages : List BillPackage) (place : ℕ) (krate : BillPackage) → place < length packages → krate ≡ get_or packages place krate → drop place packages ≡ krate ∷ drop (place + 1) packages
+next_of [] place krate inside is = absurd (omega arith)
+next_of (one ∷ packages) zero krate inside is = ap (λ (first : BillPackage). first ∷ packages) (sym is)
+next_of (one ∷ packages) (suc place) krate inside is = next_of packages place krate (omega arith) is
+
+pub package_written : (packages : List BillPackage) (place : ℕ) (krate : BillPackage) (old new start : List ℕ) → place < length packages → krate ≡ get_or packages place krate → new ≡ old ++ package_before (place + 1) krate []
+    → old ++ packages_from (place + 1) (drop place packages) ≡ start → new ++ packages_from (place + 1 + 1) (drop (place + 1) packages) ≡ start
+package_written packages place krate old new start inside is made so_far =
+    let rest : List ℕ = packages_from (place + 1 + 1) (drop (place + 1) packages) in
+    ap (λ (text : List ℕ). text ++ rest) made
+    ∙ append_assoc old (package_before (place + 1) krate []) rest
+    ∙ ap (λ (text : List ℕ). old ++ text) (package_rest (place + 1) krate rest ∙ ap (λ (left : List BillPackage). packages_from (place + 1) left) (sym (next_of packages place krate inside is)))
+    ∙ so_far

@@ -41,6 +41,16 @@ head_again bill rest is =
     (field_again Moment to_created bill.created rest is.created (visible_utf8 bill.created (moment_visible bill.created is.created)))
     ∙ ap (λ (read : Option (List ℕ)). read >>= λ left. last_of_head bill.name bill.namespace bill.created left) (behind_text_again (codes "\n") rest)
 
+-- a head by its fields
+pub head_read : (bytes name in_name namespace in_namespace created in_created rest : List ℕ) → field_at Word to_name bytes ≡ Some (name, in_name) → field_at Word to_namespace in_name ≡ Some (namespace, in_namespace)
+    → field_at Moment to_created in_namespace ≡ Some (created, in_created) → behind_text (codes "\n") in_created ≡ Some rest → head_at bytes ≡ Some (head_with name namespace created, rest)
+unfolding head_at
+head_read bytes name in_name namespace in_namespace created in_created rest first second third last =
+    ap (λ (read : Read (List ℕ)). read >>= behind_name) first
+    ∙ ap (λ (read : Read (List ℕ)). read >>= λ found. behind_namespace name found) second
+    ∙ ap (λ (read : Read (List ℕ)). read >>= λ found. behind_created name namespace found) third
+    ∙ ap (λ (read : Option (List ℕ)). read >>= λ left. last_of_head name namespace created left) last
+
 -- a head and what is behind it
 pub record TakesHead (bytes : List ℕ) (head : HeadTexts) (rest : List ℕ) : Type 0 where
   pub parts : bytes ≡ head_before (bill_with head []) rest
@@ -103,6 +113,16 @@ named_again number name version rest is_name is_version =
     ∙ ap (λ (read : Option (List ℕ)). read >>= λ left. behind_digits name left) (behind_text_again (decimal number) (to_version ++ (version ++ (10 ∷ rest))))
     ∙ ap (λ (read : Read (List ℕ)). read >>= λ found. behind_version name found) (field_again Line to_version version rest is_version.line is_version.utf8)
 
+-- the same by its fields
+pub named_read : (number : ℕ) (bytes name in_name mark digits version rest : List ℕ) → field_at Line to_package bytes ≡ Some (name, in_name) → behind_text to_number in_name ≡ Some mark → behind_number number mark ≡ Some digits
+    → field_at Line to_version digits ≡ Some (version, rest) → named_at number bytes ≡ Some ((name, version), rest)
+unfolding named_at
+named_read number bytes name in_name mark digits version rest first second third last =
+    ap (λ (read : Read (List ℕ)). read >>= λ found. behind_package number found) first
+    ∙ ap (λ (read : Option (List ℕ)). read >>= λ left. behind_mark number name left) second
+    ∙ ap (λ (read : Option (List ℕ)). read >>= λ left. behind_digits name left) third
+    ∙ ap (λ (read : Read (List ℕ)). read >>= λ found. behind_version name found) last
+
 record TakesNamed (number : ℕ) (bytes : List ℕ) (texts : Texts) (rest : List ℕ) : Type 0 where
   parts : bytes ≡ named_text number texts.0 texts.1 rest
   name : IsLine texts.0
@@ -159,6 +179,18 @@ licensed_again number concluded declared rest is_concluded is_declared =
     ∙ ap (λ (read : Option (List ℕ)). read >>= λ mark. behind_last number concluded declared mark) (behind_text_again to_last digits)
     ∙ ap (λ (read : Option (List ℕ)). read >>= λ left. behind_last_digits concluded declared left) (behind_text_again (decimal number) (10 ∷ rest))
     ∙ ap (λ (read : Option (List ℕ)). read >>= λ last. last_of_licensed concluded declared last) (behind_text_again (codes "\n") rest)
+
+-- the same by its fields
+pub licensed_read : (number : ℕ) (bytes concluded in_concluded declared in_declared mark digits rest : List ℕ) → field_at Line to_concluded bytes ≡ Some (concluded, in_concluded)
+    → field_at Line to_declared in_concluded ≡ Some (declared, in_declared) → behind_text to_last in_declared ≡ Some mark → behind_number number mark ≡ Some digits → behind_text (codes "\n") digits ≡ Some rest
+    → licensed_at number bytes ≡ Some ((concluded, declared), rest)
+unfolding licensed_at
+licensed_read number bytes concluded in_concluded declared in_declared mark digits rest first second third fourth last =
+    ap (λ (read : Read (List ℕ)). read >>= λ found. behind_concluded number found) first
+    ∙ ap (λ (read : Read (List ℕ)). read >>= λ found. behind_declared number concluded found) second
+    ∙ ap (λ (read : Option (List ℕ)). read >>= λ left. behind_last number concluded declared left) third
+    ∙ ap (λ (read : Option (List ℕ)). read >>= λ left. behind_last_digits concluded declared left) fourth
+    ∙ ap (λ (read : Option (List ℕ)). read >>= λ left. last_of_licensed concluded declared left) last
 
 record TakesLicensed (number : ℕ) (bytes : List ℕ) (texts : Texts) (rest : List ℕ) : Type 0 where
   parts : bytes ≡ licensed_text number texts.0 texts.1 rest
