@@ -1,8 +1,9 @@
 -- The lines of a head and of a package, and what is behind them.
-use Rattle.std.proofs.Common.{◌≡◌, ◌∙◌, refl, sym, ap, ℕ, ◌+◌, ◌<◌, zero, suc, drop, get_or, length, arith, List, [], ◌∷◌, ◌++◌, append_assoc, codes, decimal}
+use Rattle.std.proofs.Common.{◌≡◌, ◌∙◌, refl, sym, ap, ℕ, ◌+◌, ◌<◌, drop, get_or, length, List, [], ◌∷◌, ◌++◌, append_assoc, codes, decimal}
+use Rattle.std.proofs.lemmas.List.{drop_more}
 use Rattle.check_bill.specs.declared.bill.Bill.{Bill}
 use Rattle.check_bill.specs.declared.bill.BillPackage.{BillPackage}
-use Rattle.check_bill.specs.Lines.{head_before, package_before, packages_from}
+use Rattle.check_bill.specs.Lines.{head_before, licensed_before, named_before, package_before, packages_from}
 
 -- what the texts of a head stand behind
 abbrev pub to_name : List ℕ
@@ -80,12 +81,25 @@ module _ (number : ℕ) (krate : BillPackage) where
       (between to_declared krate.declared (from_last []) rest (from_last rest)
       (between to_last (decimal number) (10 ∷ []) rest (10 ∷ rest) refl)))))
 
--- ---- one turn of writing
+-- ---- writing
+
+-- a package that is written in two parts
+pub package_made : (number : ℕ) (krate : BillPackage) (old middle new : List ℕ) → middle ≡ old ++ named_before number krate [] → new ≡ middle ++ licensed_before number krate [] → new ≡ old ++ package_before number krate []
+package_made number krate old middle new first second =
+    let licensed : List ℕ = licensed_before number krate [] in
+    let version : List ℕ → List ℕ = λ (rest : List ℕ). to_version ++ (krate.version ++ (10 ∷ rest)) in
+    let name : List ℕ → List ℕ = λ (rest : List ℕ). to_number ++ (decimal number ++ version rest) in
+    let both : named_before number krate [] ++ licensed ≡ package_before number krate [] =
+    between to_package krate.name (name []) licensed (name licensed)
+    (between to_number (decimal number) (version []) licensed (version licensed)
+    (between to_version krate.version (10 ∷ []) licensed (10 ∷ licensed) refl)) in
+    second
+    ∙ ap (λ (text : List ℕ). text ++ licensed) first
+    ∙ append_assoc old (named_before number krate []) licensed
+    ∙ ap (λ (text : List ℕ). old ++ text) both
 
 next_of : (packages : List BillPackage) (place : ℕ) (krate : BillPackage) → place < length packages → krate ≡ get_or packages place krate → drop place packages ≡ krate ∷ drop (place + 1) packages
-next_of [] place krate inside is = absurd (omega arith)
-next_of (one ∷ packages) zero krate inside is = ap (λ (first : BillPackage). first ∷ packages) (sym is)
-next_of (one ∷ packages) (suc place) krate inside is = next_of packages place krate (omega arith) is
+next_of packages place krate inside is = drop_more packages place krate inside ∙ ap (λ (first : BillPackage). first ∷ drop (place + 1) packages) (sym is)
 
 pub package_written : (packages : List BillPackage) (place : ℕ) (krate : BillPackage) (old new start : List ℕ) → place < length packages → krate ≡ get_or packages place krate → new ≡ old ++ package_before (place + 1) krate []
     → old ++ packages_from (place + 1) (drop place packages) ≡ start → new ++ packages_from (place + 1 + 1) (drop (place + 1) packages) ≡ start

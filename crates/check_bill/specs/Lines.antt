@@ -22,19 +22,27 @@ head_before bill rest =
 abbrev pub reference : ℕ → List ℕ
 reference number = codes "SPDXRef-" ++ decimal number
 
--- an empty line and those of a package, and what is behind them
-abbrev pub package_before : ℕ → BillPackage → List ℕ → List ℕ
-package_before number krate rest =
+-- an empty line and what a package is called, and what is behind them
+abbrev pub named_before : ℕ → BillPackage → List ℕ → List ℕ
+named_before number krate rest =
     line [] []
     (line (codes "PackageName: ") krate.name
     (line (codes "SPDXID: ") (reference number)
-    (line (codes "PackageVersion: ") krate.version
-    (line (codes "PackageDownloadLocation: ") (codes "NOASSERTION")
+    (line (codes "PackageVersion: ") krate.version rest)))
+
+-- what is said of its licence, and what is behind it
+abbrev pub licensed_before : ℕ → BillPackage → List ℕ → List ℕ
+licensed_before number krate rest =
+    line (codes "PackageDownloadLocation: ") (codes "NOASSERTION")
     (line (codes "FilesAnalyzed: ") (codes "false")
     (line (codes "PackageLicenseConcluded: ") krate.concluded
     (line (codes "PackageLicenseDeclared: ") krate.declared
     (line (codes "PackageCopyrightText: ") (codes "NOASSERTION")
-    (line (codes "Relationship: ") (codes "SPDXRef-DOCUMENT DESCRIBES " ++ reference number) rest)))))))))
+    (line (codes "Relationship: ") (codes "SPDXRef-DOCUMENT DESCRIBES " ++ reference number) rest)))))
+
+-- the lines of a package, and what is behind them
+abbrev pub package_before : ℕ → BillPackage → List ℕ → List ℕ
+package_before number krate rest = named_before number krate (licensed_before number krate rest)
 
 -- packages that are numbered from a number on
 abbrev pub packages_from : ℕ → List BillPackage → List ℕ

@@ -1,7 +1,8 @@
 //! Writing a bill.
 ghost use Rattle.std.specs.Prelude.{◌≡◌, ◌++◌, ◌+◌, [], IfOk, OnOk, string_bytes};
 ghost use Rattle.check_bill.specs.Bills.{IsBill};
-ghost use Rattle.check_bill.specs.Lines.{head_before, lines_of, package_before, packages_from};
+ghost use Rattle.check_bill.specs.Lines.{head_before, licensed_before, lines_of, named_before};
+ghost use Rattle.check_bill.specs.Lines.{package_before, packages_from};
 ghost use Rattle.check_bill.specs.Answers.{Spells};
 
 use crate::bill::{Bill, BillPackage};
@@ -25,25 +26,42 @@ fn push_head(text: &mut String, bill: &Bill) -> Result<(), AllocError>
     )
 }
 
-/// Appends the lines of a package.
-fn push_package(
-    text: &mut String,
-    number: usize,
-    krate: &BillPackage,
-) -> Result<(), AllocError>
+/// Appends an empty line and what a package is called.
+fn push_named(text: &mut String, number: usize, krate: &BillPackage) -> Result<(), AllocError>
     ensures { OnOk result (string_bytes text.new
-        ≡ string_bytes text.old ++ package_before number krate.now []) }
+        ≡ string_bytes text.old ++ named_before number krate.now []) }
+{
+    let BillPackage { name, version, .. } = krate;
+    write!(
+        text,
+        "\nPackageName: {name}\nSPDXID: SPDXRef-{number}\nPackageVersion: {version}\n"
+    )
+}
+
+/// Appends what is said of its licence.
+fn push_licensed(text: &mut String, number: usize, krate: &BillPackage) -> Result<(), AllocError>
+    ensures { OnOk result (string_bytes text.new
+        ≡ string_bytes text.old ++ licensed_before number krate.now []) }
 {
     let BillPackage {
-        name,
-        version,
         concluded,
         declared,
+        ..
     } = krate;
     write!(
         text,
-        "\nPackageName: {name}\nSPDXID: SPDXRef-{number}\nPackageVersion: {version}\nPackageDownloadLocation: NOASSERTION\nFilesAnalyzed: false\nPackageLicenseConcluded: {concluded}\nPackageLicenseDeclared: {declared}\nPackageCopyrightText: NOASSERTION\nRelationship: SPDXRef-DOCUMENT DESCRIBES SPDXRef-{number}\n"
+        "PackageDownloadLocation: NOASSERTION\nFilesAnalyzed: false\nPackageLicenseConcluded: {concluded}\nPackageLicenseDeclared: {declared}\nPackageCopyrightText: NOASSERTION\nRelationship: SPDXRef-DOCUMENT DESCRIBES SPDXRef-{number}\n"
     )
+}
+
+/// Appends the lines of a package.
+fn push_package(text: &mut String, number: usize, krate: &BillPackage) -> Result<(), AllocError>
+    ensures { OnOk result (string_bytes text.new
+        ≡ string_bytes text.old ++ package_before number krate.now []) }
+{
+    push_named(text, number, krate)?;
+    push_licensed(text, number, krate)?;
+    Ok(())
 }
 
 /// Appends the lines of all packages, which are numbered from 1.
