@@ -3,7 +3,9 @@ pub mod Command
 pub mod Found
 pub mod Given
 pub mod Headline
+pub mod Judged
 pub mod Named
+pub mod Reads
 pub mod Report
 pub mod Script
 pub mod Steps

@@ -1,0 +1,4 @@
+mod Examples
+pub mod PieceLemmas
+pub mod PrintedItems
+pub mod ReadBack
