@@ -118,7 +118,7 @@ module _ (given : CommandArguments) (hearing : RequestHearing) (policy : ValidCo
   pub crates_are : selected_in (include_of policy) chosen ≡ crates_heard hearing
   crates_are =
       lists_alike graph rising (Selected graph choice (include_of policy)) (selected_in (include_of policy) chosen) (map krate_of licenses) (selected-lists graph choice chosen is (include_of policy)) selected
-      ∙ sym (krates_told (scanner_of_given given policy) policy.file_id (rules_of policy) (files_loaded given.request hearing) hearing.crates licenses last settled.turns)
+      ∙ sym (krates_told (scanner_of_given given policy) (rules_of policy) (files_loaded given.request hearing) hearing.crates licenses last settled.turns)
 
 module _ (given : CommandArguments) (carried : given.options.unsupported ≡ None) (told middle tells : Option Content) (begun mid after : ℕ) (old between more : List Call) (err : SinkSeen) (files : List File)
     (found : CratesFound) (has : HasCrates given (tree_seen told middle begun mid old between) err files found) where
