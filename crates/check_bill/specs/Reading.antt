@@ -117,12 +117,15 @@ unfoldable pub package_at : ℕ → List ℕ → Read BillPackage
 package_at number bytes = do
   named ← named_at number bytes
   licensed ← licensed_at number named.1
-  Some (record {
-    name = named.0.0;
-    version = named.0.1;
-    concluded = licensed.0.0;
-    declared = licensed.0.1;
-  }, licensed.1)
+  Some (
+    record {
+      name = named.0.0;
+      version = named.0.1;
+      concluded = licensed.0.0;
+      declared = licensed.0.1;
+    },
+    licensed.1,
+  )
 
 abbrev pub has_more : List ℕ → Bool
 has_more [] = false

@@ -32,7 +32,8 @@ pub(crate) struct PackageParts<'b> {
 pub(crate) fn read_head<'b>(bytes: &'b [u8]) -> Result<(HeadParts<'b>, &'b [u8]), BillError>
     ensures { Reads (λ read. (head_of read.0, read.1.now)) result (spec.head_at bytes.now) }
 {
-    let front = b"SPDXVersion: SPDX-2.3\nDataLicense: CC0-1.0\nSPDXID: SPDXRef-DOCUMENT\nDocumentName: ";
+    let front =
+        b"SPDXVersion: SPDX-2.3\nDataLicense: CC0-1.0\nSPDXID: SPDXRef-DOCUMENT\nDocumentName: ";
     let (name, rest) = read_field(bytes, front, TextForm::Word)?;
     let (namespace, rest) = read_field(rest, b"\nDocumentNamespace: ", TextForm::Word)?;
     let front = b"\nCreator: Tool: cargo-deny-0.20.2\nCreated: ";
@@ -65,10 +66,12 @@ fn read_licensed(bytes: &[u8], number: usize) -> Result<((&str, &str), &[u8]), B
     ensures { Reads (λ read. ((read.0.0.now, read.0.1.now), read.1.now)) result
         (spec.licensed_at number bytes.now) }
 {
-    let front = b"\nPackageDownloadLocation: NOASSERTION\nFilesAnalyzed: false\nPackageLicenseConcluded: ";
+    let front =
+        b"\nPackageDownloadLocation: NOASSERTION\nFilesAnalyzed: false\nPackageLicenseConcluded: ";
     let (concluded, rest) = read_field(bytes, front, TextForm::Line)?;
     let (declared, rest) = read_field(rest, b"\nPackageLicenseDeclared: ", TextForm::Line)?;
-    let front = b"\nPackageCopyrightText: NOASSERTION\nRelationship: SPDXRef-DOCUMENT DESCRIBES SPDXRef-";
+    let front =
+        b"\nPackageCopyrightText: NOASSERTION\nRelationship: SPDXRef-DOCUMENT DESCRIBES SPDXRef-";
     let rest = behind_text(rest, front)?;
     let rest = behind_number(rest, number)?;
     let rest = behind_text(rest, b"\n")?;
@@ -77,10 +80,7 @@ fn read_licensed(bytes: &[u8], number: usize) -> Result<((&str, &str), &[u8]), B
 
 /// The lines of the package that has a number.
 #[tactic(auto, unfolding(crate::specs::Reading::package_at))]
-fn read_parts<'b>(
-    bytes: &'b [u8],
-    number: usize,
-) -> Result<(PackageParts<'b>, &'b [u8]), BillError>
+fn read_parts<'b>(bytes: &'b [u8], number: usize) -> Result<(PackageParts<'b>, &'b [u8]), BillError>
     ensures { Reads (λ read. (package_of read.0, read.1.now)) result
         (spec.package_at number bytes.now) }
 {

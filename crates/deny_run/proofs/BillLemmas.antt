@@ -1,6 +1,5 @@
 -- A bill: which calls were made, how it ends over lawful input, and what it is never refused with.
 use Rattle.std.proofs.Common.{inl, inr, ℕ, List, Option, Some, None, Result, Ok, Err}
-use Rattle.tree_core.specs.Call.{CallAnswer}
 use Rattle.tree_core.specs.Faults.{Rose}
 use Rattle.tree_core.proofs.MadeLemmas.{some_made}
 use Rattle.tree_core.specs.declared.texts.fault.ReadFault.TheVariants.{Absent}
@@ -15,8 +14,7 @@ use Rattle.run_command.proofs.AbsentLemmas.{stops_never}
 use Rattle.run_command.proofs.LawfulLemmas.{NoRefusal, stops_lawful}
 use Rattle.run_command.proofs.StopLemmas.{stops_made}
 use Rattle.run_bill.specs.declared.billed.BilledCrates.{BilledCrates}
-use Rattle.run_bill.specs.declared.billed.ReportedBill.{ReportedBill}
-use Rattle.run_bill.specs.Billed.{Bills, BillsBy, Compares, ComparesFirst, FindsBill, RefusesName, Tells, WritesBill}
+use Rattle.run_bill.specs.Billed.{Bills, BillsBy, Compares, ComparesBy, ComparesFirst, FindsBill, RefusesName, Tells, WritesBill}
 use Rattle.deny_run.specs.Complete.{MayEndBill}
 use Rattle.deny_run.proofs.EndLemmas.{EndsBy}
 use Rattle.deny_run.proofs.VerifyLemmas.{no_fault}
@@ -27,13 +25,6 @@ bill_wanting (BillText id) is = tt
 bill_wanting (BillRead fault reads) is = tt
 bill_wanting BillSyntax is = tt
 bill_wanting _ is = is
-
--- a refusal of the file
-told_end : (made : ReportedBill) (count : ℕ) (answer : CallAnswer) (error : Error) → Tells (Err error) made count answer → MayEndBill error
-told_end made count answer Memory tells = tt
-told_end made count answer (BillRead fault reads) tells = tt
-told_end made count answer BillSyntax tells = tt
-told_end made count answer _ tells = absurd tells
 
 module _ (given : CommandArguments) (words : BillArgs) (tree : TreeSeen) (err out : SinkSeen) where
   -- ---- the calls
@@ -107,9 +98,16 @@ module _ (given : CommandArguments) (words : BillArgs) (tree : TreeSeen) (err ou
     writes_lawful (Err error) (inr cut) = absurd (no_fault out.before out.after error out_quiet cut.refused)
 
     module _ (path : List ℕ) where
+      -- a refusal of the file
+      told_lawful : (error : Error) → ComparesBy given words path tree err (Tells (Err error)) → MayEndBill error
+      told_lawful Memory compares = tt
+      told_lawful (BillRead fault reads) compares = tt
+      told_lawful BillSyntax compares = tt
+      told_lawful _ compares = absurd compares.is_so
+
       first_lawful : (error : Error) → ComparesFirst given words path tree err (Err error) → MayEndBill error
       first_lawful error (inl found) = found_lawful error found
-      first_lawful error (inr compares) = told_end compares.made _ compares.answer error compares.is_so
+      first_lawful error (inr compares) = told_lawful error compares
 
       compares_lawful : (answer : Result BilledCrates Error) → Compares given words path tree err out answer → EndsBy MayEndBill answer
       compares_lawful (Ok billed) compares = tt

@@ -121,7 +121,8 @@ pub(crate) fn reported_bill(
     ensures { IsReportedBill words.now (crates_judged judged) judged.report.crates result }
 {
     let bill = bill_of_judged(alloc, words, &judged)?;
-    let Report { crates, .. } = judged.report;
+    let JudgedCrates { report, .. } = judged;
+    let Report { crates, .. } = report;
     let reads = reads_of_reports(alloc, crates)?;
     Ok(ReportedBill { bill, reads })
 }

@@ -73,6 +73,10 @@ abbrev pub verify_of : Option Text → Result Subcommand ArgsError
 verify_of None = Err (BadValue (codes "FILE") [])
 verify_of (Some path) = Ok (Verify path)
 
+-- the bill that the rows ask for, beside the one that it is compared with
+abbrev pub bill_of : List Row → Option Text → Result Subcommand ArgsError
+bill_of rows against = and_then (λ args. Ok (Bill args)) (bill_args_of rows against)
+
 -- the subcommand of that name with these rows
 abbrev pub subcommand_named : Text → List Row → Text → Result Subcommand ArgsError
 subcommand_named name rows cwd =
@@ -80,8 +84,7 @@ subcommand_named name rows cwd =
     else if bytes_eq name (codes "list") then and_then (λ args. Ok (Listing args)) (list_args_of rows)
     else if bytes_eq name (codes "record") then Ok Record
     else if bytes_eq name (codes "verify") then verify_of (path_at cwd (codes "FILE") rows)
-    else if bytes_eq name (codes "bill") then
-    and_then (λ args. Ok (Bill args)) (bill_args_of rows (path_at cwd (codes "against") rows))
+    else if bytes_eq name (codes "bill") then bill_of rows (path_at cwd (codes "against") rows)
     else if bytes_eq name (codes "sample") then and_then sample_of (first_read sample_size_of (codes "N") rows)
     else Err (BadValue (codes "COMMAND") name)
 

@@ -3,7 +3,8 @@
 ghost use Rattle.std.specs.Prelude.{◌≡◌};
 ghost use Rattle.clap.specs.Words.{found_of, rows_of, subcommand_rows_of};
 ghost use Rattle.run_request.specs.Reading.{AnswersArgs};
-ghost use Rattle.run_request.specs.Request.{log_context_of, sample_of, subcommand_named, subcommand_asked, verify_of};
+ghost use Rattle.run_request.specs.Request.{bill_of, log_context_of, sample_of, verify_of};
+ghost use Rattle.run_request.specs.Request.{subcommand_named, subcommand_asked};
 
 use crate::bill::BillArgs;
 use crate::context::{KrateContext, path_at};
@@ -100,8 +101,7 @@ fn subcommand_named(
         verify_of(alloc, path)
     } else if name == "bill" {
         let against = path_at(alloc, below, "against", cwd)?;
-        let args = BillArgs::parse(alloc, below, against)?;
-        Ok(Subcommand::Bill(args))
+        bill_of(alloc, below, against)
     } else if name == "sample" {
         let size: Option<SampleSize> = read_first(alloc, below, "N")?;
         sample_of(alloc, size)
@@ -117,6 +117,17 @@ fn verify_of(alloc: Global, path: Option<PathBuf>) -> Result<Subcommand, ArgsErr
         Some(path) => Ok(Subcommand::Verify(path)),
         None => Err(ArgsError::bad_value(alloc, "FILE", "")),
     }
+}
+
+fn bill_of(
+    alloc: Global,
+    below: &ArgMatches<'_>,
+    against: Option<PathBuf>,
+) -> Result<Subcommand, ArgsError>
+    ensures { AnswersArgs (bill_of (rows_of (found_of below.now)) against) result }
+{
+    let args = BillArgs::parse(alloc, below, against)?;
+    Ok(Subcommand::Bill(args))
 }
 
 fn sample_of(alloc: Global, size: Option<SampleSize>) -> Result<Subcommand, ArgsError>

@@ -25,10 +25,13 @@ impl Rows for RowTexts {
                     out.want_memory();
                 }
             }
-            "strict" | "with the slash" | "lax" | "imprecise" | "size" | "certificate"
-            | "printed expression" => {
-                expressions::put(alloc, out, group, text)
-            }
+            "strict"
+            | "with the slash"
+            | "lax"
+            | "imprecise"
+            | "size"
+            | "certificate"
+            | "printed expression" => { expressions::put(alloc, out, group, text) }
             "places of a family" => families::put(alloc, out, text),
             "catalogue file" | "catalogue look-up" => listings::put_file(alloc, out, text),
             "folder of texts" => listings::put_folder(alloc, out, text),

@@ -1,9 +1,9 @@
 -- One crate more, and the end.
-use Rattle.std.proofs.Common.{◌≡◌, ◌∙◌, ◌++◌, [], ◌∷◌, append-nil, append_assoc, ap, inl, inr, map, sym}
+use Rattle.std.proofs.Common.{◌≡◌, ◌∙◌, ◌++◌, [], append-nil, ap, inl, inr, map, sym}
 use Rattle.std.specs.Iterator.Adapters.{zip_first, zip_second}
 use Rattle.std.specs.Slice.Iter.{iter_rest}
 use Rattle.graph_core.specs.selection.Listed.{record_behind}
-use Rattle.run_bill.specs.Bills.{package_of, packages_of}
+use Rattle.run_bill.specs.Bills.{packages_of}
 use Rattle.run_bill.proofs.PackageLemmas.{no_crates_left, no_reports_left}
 use Rattle.run_bill.proofs.packages.packages.Goals as goal
 
