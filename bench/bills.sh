@@ -17,10 +17,13 @@ printf '[licenses]\nallow = ["MIT"]\n' > deny.toml
 metadata() {
     awk -v n="$1" -v terms="$2" -v deep="${3:-0}" '
         function id(i) { return sprintf("c%d 1.0.0", i) }
+        function repeated(text, times,  half) {
+            if (times < 1) return ""
+            half = repeated(text, int(times / 2))
+            return half half (times % 2 ? text : "")
+        }
         BEGIN {
-            field = "MIT"
-            for (t = 1; t < terms; t++) field = field (deep ? " AND (MIT OR (MIT" : " OR MIT")
-            if (deep) for (t = 1; t < terms; t++) field = field "))"
+            field = "MIT" repeated(deep ? " AND (MIT OR (MIT" : " OR MIT", terms - 1) repeated("))", deep ? terms - 1 : 0)
             printf "{\"packages\":["
             for (i = 0; i < n; i++)
                 printf "%s{\"name\":\"c%d\",\"version\":\"1.0.0\",\"id\":\"%s\",\"license\":\"%s\",\"manifest_path\":\"%s/c%d/Cargo.toml\"}", (i ? "," : ""), i, id(i), field, folder, i
