@@ -1,6 +1,6 @@
 -- Clarifications behind one that holds change nothing.
-use Rattle.std.proofs.Common.{◌≡◌, ◌∙◌, List, ◌++◌, map, Option, Some, None, refl, ap}
-use Rattle.std.specs.Prelude.{filter, find, option_map}
+use Rattle.std.proofs.Common.{◌≡◌, ◌∙◌, List, ◌++◌, map, Option, Some, ap}
+use Rattle.std.specs.Prelude.{filter, option_map}
 use Rattle.std.specs.Option.{option_or}
 use Rattle.std.proofs.lemmas.List.{map-append}
 use Rattle.std.proofs.lemmas.List.Elements.{filter-append}

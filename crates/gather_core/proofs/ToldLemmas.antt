@@ -23,7 +23,7 @@ use Rattle.gather_license.specs.declared.settling.LicenseBasis.{LicenseBasis}
 use Rattle.gather_license.specs.declared.settling.LicenseBasis.TheVariants.{Clarified, Field, Files}
 use Rattle.gather_license.specs.Clarification.{ClarificationView, held_in}
 use Rattle.gather_license.specs.Priority.{by_seen, field_of, files_scanned, holding_clarification, seen_by, settling_by}
-use Rattle.gather_core.specs.Premises.{ByStands, CoordLies, InfoStands, PlaceLies, StandsIn, TextIs}
+use Rattle.gather_core.specs.Premises.{ByStands, CoordLies, InfoStands, StandsIn, TextIs}
 use Rattle.gather_core.specs.Told.{info_by, no_place}
 use Rattle.gather_core.specs.Turns.{TurnInput, field_text, missing_findings, basis_in, text_settled}
 

@@ -43,8 +43,8 @@ abbrev pub ExistsAnswers : Option TreeNode → Result Bool TreeError → Type 0
 ExistsAnswers there (Ok answer) = answer ≡ is_some there
 ExistsAnswers there (Err error) = Unit {0}
 
--- a look is refused with Failed or Memory alone
-abbrev pub FailsOrLacksMemory : Result Bool TreeError → Type 0
+-- a look, or a read of what was opened, is refused with Failed or Memory alone
+abbrev pub FailsOrLacksMemory : {T : Type 0} → Result T TreeError → Type 0
 FailsOrLacksMemory result = (result ≢ Err Absent) × (result ≢ Err WrongKind)
 
 -- entries are in byte order of their names

@@ -3,6 +3,7 @@ ghost use Rattle.std.specs.Prelude.{◌≡◌, ◌≢◌, ℕ, ◌↔◌, ◌<�
 ghost use Rattle.std.specs.Prelude.{IfOk, IfErr, IsOkAnd, IsTrue, OnOk, IsSorted, true, false, vec_len};
 ghost use Rattle.std.specs.Option.{ForSome};
 ghost use Rattle.std.specs.List.{filter};
+ghost use Rattle.std.specs.Str.{IsUtf8};
 ghost use Rattle.std.specs.declared.io.ErrorKind.{ErrorKind};
 ghost use Rattle.std.specs.Io.{ReadsAtMost};
 ghost use Rattle.std.specs.Io.KnownBytes.{Consumes, IsAtEnd, ReadConsumes};
@@ -326,6 +327,7 @@ fn read_to_limit<F: Read>(
     ensures bytes { IfOk result
         (λ bytes. Consumes (F.remaining file.old) (F.remaining file.new) bytes.items) }
     ensures end { OnOk result (IsAtEnd (F.remaining file.new)) }
+    ensures refusal { FailsOrLacksMemory result }
 {
     let mut bytes = first_bytes(file, alloc, told.min(limit))?;
     let mut piece = Vec::from_elem(alloc, 0u8, next)?;
@@ -361,6 +363,7 @@ fn first_bytes<F: Read>(file: &mut F, alloc: Global, told: usize) -> Result<Vec<
     ensures most { IfOk result (λ bytes. vec_len bytes ≤ told) }
     ensures bytes { IfOk result
         (λ bytes. Consumes (F.remaining file.old) (F.remaining file.new) bytes.items) }
+    ensures refusal { FailsOrLacksMemory result }
 {
     let mut bytes = Vec::from_elem(alloc, 0u8, told)?;
     if told > 0 {
@@ -374,6 +377,7 @@ fn first_bytes<F: Read>(file: &mut F, alloc: Global, told: usize) -> Result<Vec<
 fn piece_read<F: Read>(file: &mut F, piece: &mut [u8]) -> Result<usize, TreeError>
     ensures bound { ReadsAtMost result piece.new }
     ensures bytes { ReadConsumes (F.remaining file.old) (F.remaining file.new) result piece.new }
+    ensures refusal { FailsOrLacksMemory result }
 {
     match read_piece(file, piece) {
         Ok(count) => Ok(count),
@@ -434,6 +438,7 @@ fn list_opened<S: System, D: Read>(
     ensures told { IfOk result
         (λ entries. TellsNames (D.remaining folder.old) (D.remaining folder.new) (system_names entries)) }
     ensures ordered { IfOk result IsInNameOrder }
+    ensures refusal { FailsOrLacksMemory result }
 {
     let names = names_in(alloc, folder)?;
     entries_named(system, alloc, path, names)
@@ -446,7 +451,8 @@ fn entries_named<S: System>(
     path: &str,
     names: Vec<Text>,
 ) -> Result<FolderEntries, TreeError>
-    ensures { IfOk result (λ entries. system_names entries ≡ names.items) }
+    ensures named { IfOk result (λ entries. system_names entries ≡ names.items) }
+    ensures refusal { FailsOrLacksMemory result }
 {
     let mut entries = FolderEntries::new(alloc);
     'names: for name in names {
@@ -480,7 +486,9 @@ fn is_file_entry<S: System>(
     alloc: Global,
     folder: &str,
     name: &str,
-) -> Result<bool, TreeError> {
+) -> Result<bool, TreeError>
+    ensures refusal { FailsOrLacksMemory result }
+{
     let place = join(alloc, folder, name)?;
     if let Some(found) = looked(system.look(place.as_path()))? {
         return Ok(found.is_file());
@@ -493,6 +501,7 @@ fn names_in<D: Read>(alloc: Global, folder: &mut D) -> Result<Vec<Text>, TreeErr
     ensures told { IfOk result
         (λ names. TellsNames (D.remaining folder.old) (D.remaining folder.new) names.items) }
     ensures ordered { IfOk result (λ names. IsSorted (slice_cmp nat_cmp) names.items) }
+    ensures refusal { FailsOrLacksMemory result }
 {
     let bytes = read_to_limit(folder, alloc, usize::MAX, 0, NAMES)?;
     let mut names = split_names(alloc, &bytes)?;
@@ -502,7 +511,8 @@ fn names_in<D: Read>(alloc: Global, folder: &mut D) -> Result<Vec<Text>, TreeErr
 
 /// The names of entries among those that are reported, each of which ends with the byte 0.
 fn split_names(alloc: Global, bytes: &[u8]) -> Result<Vec<Text>, TreeError>
-    ensures { IfOk result (λ names. names.items ≡ names_in_listing bytes.now) }
+    ensures names { IfOk result (λ names. names.items ≡ names_in_listing bytes.now) }
+    ensures refusal { FailsOrLacksMemory result }
 {
     let mut names = Vec::new(alloc);
     'names: for name in bytes.split(|byte| *byte == 0) {
@@ -513,7 +523,9 @@ fn split_names(alloc: Global, bytes: &[u8]) -> Result<Vec<Text>, TreeError>
 
 /// Appends the name of an entry, which is text.
 fn push_name(names: &mut Vec<Text>, alloc: Global, name: &[u8]) -> Result<(), TreeError>
-    ensures { OnOk result (names.new.items ≡ names.old.items ++ filter names_entry (name.now ∷ [])) }
+    ensures pushed { OnOk result (names.new.items ≡ names.old.items ++ filter names_entry (name.now ∷ [])) }
+    ensures refusal { FailsOrLacksMemory result }
+    ensures fails { result ≡ Err TreeError.Failed → ¬ (IsUtf8 name.now) }
 {
     let Ok(name) = str::from_utf8(name) else {
         return Err(TreeError::Failed);

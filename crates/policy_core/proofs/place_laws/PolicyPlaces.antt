@@ -29,7 +29,7 @@ use Rattle.policy_parts.specs.entries.Exceptions.{exceptions_of}
 use Rattle.policy_parts.specs.entries.Licensees.{licensees_of}
 use Rattle.policy_core.specs.place_laws.Places.{KeepsPlacesIn, keeps_nothing, keeps_each, keeps_where}
 use Rattle.policy_core.specs.place_laws.Parts.{private_keeps, target_keeps, graph_keeps}
-use Rattle.policy_core.proofs.place_laws.PlaceLemmas.{TellsPlaces, map_stays, then_stays, wanted_stays, range_stays, i64_stays, u32_stays, list_stays, table_stays, given_kept, list_kept, key_tells, passed_tells, rows_stay}
+use Rattle.policy_core.proofs.place_laws.PlaceLemmas.{TellsPlaces, map_stays, then_stays, wanted_stays, range_stays, i64_stays, u32_stays, table_stays, given_kept, list_kept, key_tells, passed_tells, rows_stay}
 use Rattle.policy_core.proofs.place_laws.PartLemmas.{lint_stays, flag_tells, texts_tell, private_stays, output_stays, targets_stay, graph_stays}
 use Rattle.policy_core.specs.place_laws.Entries.{licensee_keeps, ExceptionKeeps, ClarificationKeeps}
 use Rattle.policy_core.specs.place_laws.Policies.{ConfigKeeps, RootKeeps}

@@ -1,6 +1,5 @@
 use Rattle.std.proofs.Common.{◌≡◌, ◌∙◌, ◌++◌, List, refl, sym, ap, subst}
 use Rattle.std.specs.List.{All}
-use Rattle.std.specs.Prelude.{unwrap_or}
 use Rattle.diag_core.specs.declared.label.Coord.{Coord}
 use Rattle.diag_core.specs.declared.pack.Diag.{Diag}
 use Rattle.graph_core.specs.Krate.{CrateRecord, record_of}
@@ -9,7 +8,6 @@ use Rattle.gather_core.proofs.findings.GrowLemmas.{grows_itself}
 use Rattle.gather_core.proofs.findings.LabelLemmas.{lie-append}
 use Rattle.gather_core.specs.declared.summary.KrateLicense.{KrateLicense}
 use Rattle.gather_core.specs.Premises.{Grows, InfoStands}
-use Rattle.gather_core.specs.Told.{no_place}
 use Rattle.gather_core.specs.Turns.{files_left, missing_findings, points_for, label_texts_for}
 use Rattle.gather_core.proofs.PlacedLemmas.{by_grown, places_grown}
 use Rattle.gather_core.proofs.ToldLemmas.{info_stands, missing_labels}
