@@ -1,65 +1,90 @@
-//! A licence gate in plain Rust over `serde_json`'s value, beside which the gate of this repository is measured, and the
-//! workspaces that both are measured on. It knows what these need: policies that allow licences, fields that are
-//! expressions, manifests that name them. `plain_gate make KIND COUNT` makes a workspace in the working folder,
-//! `plain_gate check` checks the one there and answers as `cargo-deny --metadata-path .. --config .. check licenses` does.
+//! A licence gate in plain Rust over `serde_json`'s value, beside which the gate of this repository is measured (bench/gates.sh). It
+//! keeps no more than it needs: it borrows from one value of the metadata, looks up a crate's keys where they are wanted, reads
+//! each manifest and licence file into one text, searches it and lets it go, and writes each finding as it comes.
+//!
+//! It takes the words of `cargo-deny`, and answers `check licenses`, `list` and `sample` as that does, byte for byte, over what
+//! bench/workspaces.rs makes: policies that are a list of allowed licences, fields that are expressions, manifests that name
+//! them, licence files with known texts. A policy, a field or a file of another kind ends it with status 1. What it has no use for
+//! it does not look at: other keys of the metadata, with their faults, and line ends in names.
+mod answers;
+mod expressions;
+mod licence_texts;
+
+use answers::{Form, Label, Layout, Listed, Printer, Severity, after};
+use expressions::{Catalog, Policy, Term, expression};
+use licence_texts::{ISC, MIT};
 use serde_json::Value;
-use std::collections::{BTreeMap, BTreeSet, HashMap, HashSet};
+use std::borrow::Cow;
+use std::collections::HashMap;
 use std::fmt::Write as _;
-use std::fs;
-use std::io::Write as _;
-use std::path::Path;
+use std::fs::{self, File};
+use std::io::{self, BufWriter, Read, Write};
+use std::iter::once;
 use std::process::ExitCode;
 
+// ---- files
+
+/// The files of crates.
+trait Tree {
+    /// Reads a file into a text, in place of what it has.
+    fn read(&self, path: &str, text: &mut String) -> Option<()>;
+
+    /// The names of the files of a folder that may hold licences.
+    fn licence_files(&self, folder: &str) -> Option<Vec<String>>;
+}
+
+struct Disk;
+
+impl Tree for Disk {
+    fn read(&self, path: &str, text: &mut String) -> Option<()> {
+        text.clear();
+        File::open(path).ok()?.read_to_string(text).ok().map(drop)
+    }
+
+    fn licence_files(&self, folder: &str) -> Option<Vec<String>> {
+        let mut names = Vec::new();
+        for entry in fs::read_dir(folder).ok()? {
+            let entry = entry.ok()?;
+            let name = entry.file_name().into_string().ok()?;
+            let kind = entry.file_type().ok()?;
+            let is_file = kind.is_file() || kind.is_symlink() && fs::metadata(entry.path()).is_ok_and(|there| there.is_file());
+            if is_file && is_licence_name(&name) {
+                names.push(name);
+            }
+        }
+        names.sort_unstable();
+        Some(names)
+    }
+}
+
+fn is_licence_name(name: &str) -> bool {
+    name.starts_with("LICENSE") || name.starts_with("COPYING")
+}
+
+/// Folders in memory, each with the names of its files, which are empty.
+struct Made(HashMap<String, Vec<&'static str>>);
+
+impl Tree for Made {
+    fn read(&self, path: &str, text: &mut String) -> Option<()> {
+        text.clear();
+        let (folder, name) = path.rsplit_once('/')?;
+        self.0.get(folder)?.contains(&name).then_some(())
+    }
+
+    fn licence_files(&self, folder: &str) -> Option<Vec<String>> {
+        let names = self.0.get(folder)?.iter().filter(|name| is_licence_name(name));
+        Some(names.map(|name| name.to_string()).collect())
+    }
+}
+
 // ---- metadata
-
-struct Krate {
-    id: String,
-    manifest: String,
-    field: Option<String>,
-}
-
-struct Edge {
-    to: usize,
-    normal: bool,
-    dev: bool,
-    build: bool,
-}
-
-struct Graph {
-    crates: Vec<Krate>,
-    edges: Vec<Vec<Edge>>,
-    members: Vec<usize>,
-    root: Option<usize>,
-}
 
 fn text<'v>(value: &'v Value, key: &str) -> Option<&'v str> {
     value.get(key)?.as_str()
 }
 
-fn list<'v>(value: &'v Value, key: &str) -> Option<&'v Vec<Value>> {
-    value.get(key)?.as_array()
-}
-
-fn krate(value: &Value) -> Option<Krate> {
-    Some(Krate {
-        id: text(value, "id")?.to_string(),
-        manifest: text(value, "manifest_path")?.to_string(),
-        field: text(value, "license").map(str::to_string),
-    })
-}
-
-fn edge(value: &Value, places: &HashMap<&str, usize>) -> Option<Edge> {
-    let to = *places.get(text(value, "pkg")?)?;
-    let mut edge = Edge { to, normal: false, dev: false, build: false };
-    for kind in list(value, "dep_kinds")? {
-        match text(kind, "kind") {
-            None => edge.normal = true,
-            Some("dev") => edge.dev = true,
-            Some("build") => edge.build = true,
-            Some(_) => return None,
-        }
-    }
-    Some(edge)
+fn list<'v>(value: &'v Value, key: &str) -> Option<&'v [Value]> {
+    value.get(key)?.as_array().map(Vec::as_slice)
 }
 
 fn holds_float(value: &Value) -> bool {
@@ -71,460 +96,481 @@ fn holds_float(value: &Value) -> bool {
     }
 }
 
-/// The graph of a text, its crates in the order of their ids.
-fn graph(text_read: &str) -> Option<Graph> {
-    let value: Value = serde_json::from_str(text_read).ok()?;
-    if holds_float(&value) {
-        return None;
+fn metadata(text: &str) -> Option<Value> {
+    let value = serde_json::from_str(text).ok()?;
+    (!holds_float(&value)).then_some(value)
+}
+
+/// A package and its edges.
+struct Node<'v> {
+    package: &'v Value,
+    deps: &'v [Value],
+    is_found: bool,
+}
+
+/// Whether an edge is walked that leads from a crate for which dev dependencies do not count.
+fn counts(dep: &Value) -> bool {
+    let Some(kinds) = list(dep, "dep_kinds") else { return true };
+    kinds.iter().any(|kind| matches!(text(kind, "kind"), None | Some("build")))
+}
+
+/// The graph's nodes by their ids, and the crates that a walk has found.
+struct Walk<'v> {
+    nodes: HashMap<&'v str, Node<'v>>,
+    found: Vec<(&'v str, &'v Value)>,
+    waiting: Vec<&'v [Value]>,
+}
+
+impl<'v> Walk<'v> {
+    fn new(value: &'v Value, resolve: &'v Value) -> Option<Walk<'v>> {
+        let packages = list(value, "packages")?;
+        let mut nodes = HashMap::with_capacity(packages.len());
+        for package in packages {
+            nodes.insert(text(package, "id")?, Node { package, deps: &[], is_found: false });
+        }
+        for node in list(resolve, "nodes")? {
+            nodes.get_mut(text(node, "id")?)?.deps = list(node, "deps").unwrap_or_default();
+        }
+        (nodes.len() == packages.len()).then_some(Walk { nodes, found: Vec::new(), waiting: Vec::new() })
     }
-    let mut crates: Vec<Krate> = list(&value, "packages")?.iter().map(krate).collect::<Option<_>>()?;
-    crates.sort_by(|a, b| a.id.cmp(&b.id));
-    let places: HashMap<&str, usize> = crates.iter().enumerate().map(|(place, krate)| (krate.id.as_str(), place)).collect();
-    if places.len() != crates.len() {
-        return None;
+
+    fn visit(&mut self, id: &'v str) -> Option<()> {
+        let node = self.nodes.get_mut(id)?;
+        if !node.is_found {
+            node.is_found = true;
+            self.found.push((id, node.package));
+            self.waiting.push(node.deps);
+        }
+        Some(())
     }
+}
+
+/// The packages that the roots reach without dev dependencies, in the order of their ids.
+fn selected(value: &Value) -> Option<Vec<(&str, &Value)>> {
     let resolve = value.get("resolve")?;
-    let mut edges: Vec<Vec<Edge>> = crates.iter().map(|_| Vec::new()).collect();
-    for node in list(resolve, "nodes")? {
-        let place = *places.get(text(node, "id")?)?;
-        edges[place] = list(node, "deps")?.iter().map(|dep| edge(dep, &places)).collect::<Option<_>>()?;
+    let mut walk = Walk::new(value, resolve)?;
+    match text(resolve, "root") {
+        Some(root) => walk.visit(root)?,
+        None => list(value, "workspace_members")?.iter().try_for_each(|id| walk.visit(id.as_str()?))?,
     }
-    let members = list(&value, "workspace_members")?
-        .iter()
-        .map(|id| places.get(id.as_str()?).copied())
-        .collect::<Option<_>>()?;
-    let root = text(resolve, "root").map(|id| places.get(id).copied());
-    if root == Some(None) {
-        return None;
+    while let Some(deps) = walk.waiting.pop() {
+        deps.iter().filter(|dep| counts(dep)).try_for_each(|dep| walk.visit(text(dep, "pkg")?))?;
     }
-    drop(places);
-    Some(Graph { crates, edges, members, root: root.flatten() })
+    walk.found.sort_unstable_by_key(|found| found.0);
+    Some(walk.found)
 }
 
-// ---- selection
+// ---- licence files
 
-/// The places of the crates that the roots reach without dev dependencies.
-fn selected(graph: &Graph) -> Vec<bool> {
-    let mut found = vec![false; graph.crates.len()];
-    let mut waiting: Vec<usize> = match graph.root {
-        Some(root) => vec![root],
-        None => graph.members.clone(),
-    };
-    for place in &waiting {
-        found[*place] = true;
+/// Each byte of a word in small letters, and 0 for all others.
+const SMALL: [u8; 256] = small_letters();
+
+const fn small_letters() -> [u8; 256] {
+    let mut small = [0; 256];
+    let mut byte = 0;
+    while byte < 128 {
+        if (byte as u8).is_ascii_alphanumeric() {
+            small[byte] = (byte as u8).to_ascii_lowercase();
+        }
+        byte += 1;
     }
-    while let Some(place) = waiting.pop() {
-        for edge in &graph.edges[place] {
-            let _ = edge.dev;
-            if (edge.normal || edge.build) && !found[edge.to] {
-                found[edge.to] = true;
-                waiting.push(edge.to);
+    small
+}
+
+/// The words of a text in small letters, each with a blank behind it, without the lines that say whose it is.
+fn write_words(text: &str, words: &mut Vec<u8>) {
+    words.resize(text.len() + 1, 0);
+    let out = &mut words[..];
+    let (mut line, mut end) = (0, 0);
+    let mut bytes = text.bytes();
+    while let Some(mut byte) = bytes.next() {
+        if SMALL[byte as usize] != 0 {
+            while SMALL[byte as usize] != 0 {
+                out[end] = SMALL[byte as usize];
+                end += 1;
+                byte = bytes.next().unwrap_or(b'\n');
+            }
+            out[end] = b' ';
+            end += 1;
+        }
+        if byte == b'\n' || bytes.len() == 0 {
+            end = if is_notice(&out[line..end]) { line } else { end };
+            line = end;
+        }
+    }
+    words.truncate(end);
+}
+
+fn is_notice(line: &[u8]) -> bool {
+    let Some(rest) = line.strip_prefix(b"copyright ") else { return false };
+    let second = rest.split(|byte| *byte == b' ').next().unwrap_or_default();
+    second == b"c" || !second.is_empty() && second.iter().all(u8::is_ascii_digit)
+}
+
+/// The texts that are known, as words, each with its licence.
+fn known_texts() -> Vec<(Vec<u8>, &'static str)> {
+    let headings = ["", "MIT License\n", "The MIT License\n", "The MIT License (MIT)\n"];
+    let of_mit = headings.map(|heading| (heading, MIT, "MIT"));
+    let of_isc = ["", "ISC License\n"].map(|heading| (heading, ISC, "ISC"));
+    let texts = of_mit.into_iter().chain(of_isc);
+    texts
+        .map(|(heading, body, name)| {
+            let mut words = Vec::new();
+            write_words(&format!("{heading}{body}"), &mut words);
+            (words, name)
+        })
+        .collect()
+}
+
+/// Reads licence files, into texts that are kept from one to the next.
+struct Reader<'t, T> {
+    tree: &'t T,
+    known: Vec<(Vec<u8>, &'static str)>,
+    path: String,
+    text: String,
+    words: Vec<u8>,
+}
+
+impl<'t, T: Tree> Reader<'t, T> {
+    fn new(tree: &'t T) -> Reader<'t, T> {
+        Reader { tree, known: known_texts(), path: String::new(), text: String::new(), words: Vec::new() }
+    }
+
+    /// The licence of a file.
+    fn licence(&mut self, folder: &str, name: &str) -> Option<&'static str> {
+        self.path.clear();
+        let _ = write!(self.path, "{folder}/{name}");
+        self.tree.read(&self.path, &mut self.text)?;
+        write_words(&self.text, &mut self.words);
+        self.known.iter().find(|known| known.0 == self.words).map(|known| known.1)
+    }
+
+    /// The licences of a folder's files as an expression, with the names of the files; nothing where there are none.
+    fn licences(&mut self, folder: &str) -> Option<(Cow<'static, str>, Vec<String>)> {
+        let files = self.tree.licence_files(folder)?;
+        let mut licences = Cow::Borrowed("");
+        for name in &files {
+            let licence = self.licence(folder, name)?;
+            if licences.is_empty() {
+                licences = Cow::Borrowed(licence);
+            } else {
+                let _ = write!(licences.to_mut(), " AND {licence}");
             }
         }
+        Some((licences, files))
     }
-    found
-}
-
-// ---- expressions
-
-/// A term of a field: its name, with what stands behind `WITH`, and where it stands.
-struct Term {
-    start: usize,
-    name: String,
-}
-
-enum Node {
-    Term(usize),
-    Both(Box<Node>, Box<Node>),
-    Either(Box<Node>, Box<Node>),
-}
-
-struct Parser<'t> {
-    words: Vec<(usize, &'t str)>,
-    next: usize,
-    terms: Vec<Term>,
-}
-
-/// The words of a field: names, parentheses, and a slash, which stands for OR.
-fn words(field: &str) -> Vec<(usize, &str)> {
-    let mut words = Vec::new();
-    let mut begun: Option<usize> = None;
-    for (place, byte) in field.bytes().enumerate() {
-        let is_single = matches!(byte, b'(' | b')' | b'/');
-        if is_single || byte.is_ascii_whitespace() {
-            if let Some(start) = begun.take() {
-                words.push((start, &field[start..place]));
-            }
-            if is_single {
-                words.push((place, &field[place..place + 1]));
-            }
-        } else if begun.is_none() {
-            begun = Some(place);
-        }
-    }
-    if let Some(start) = begun {
-        words.push((start, &field[start..]));
-    }
-    words
-}
-
-impl<'t> Parser<'t> {
-    fn word(&self) -> Option<&'t str> {
-        self.words.get(self.next).map(|word| word.1)
-    }
-
-    fn takes(&mut self, word: &str) -> bool {
-        let is_there = self.word() == Some(word);
-        self.next += usize::from(is_there);
-        is_there
-    }
-
-    fn either(&mut self, known: &Known) -> Option<Node> {
-        let mut node = self.both(known)?;
-        while self.takes("OR") || self.takes("/") {
-            node = Node::Either(Box::new(node), Box::new(self.both(known)?));
-        }
-        Some(node)
-    }
-
-    fn both(&mut self, known: &Known) -> Option<Node> {
-        let mut node = self.single(known)?;
-        while self.takes("AND") {
-            node = Node::Both(Box::new(node), Box::new(self.single(known)?));
-        }
-        Some(node)
-    }
-
-    fn single(&mut self, known: &Known) -> Option<Node> {
-        if self.takes("(") {
-            let node = self.either(known)?;
-            return self.takes(")").then_some(node);
-        }
-        let (start, word) = *self.words.get(self.next)?;
-        if !known.licences.contains(word) {
-            return None;
-        }
-        self.next += 1;
-        let mut name = word.to_string();
-        if self.takes("WITH") {
-            let exception = self.word().filter(|word| known.exceptions.contains(word))?;
-            self.next += 1;
-            name = format!("{name} WITH {exception}");
-        }
-        self.terms.push(Term { start, name });
-        Some(Node::Term(self.terms.len() - 1))
-    }
-}
-
-fn expression(field: &str, known: &Known) -> Option<(Node, Vec<Term>)> {
-    let mut parser = Parser { words: words(field), next: 0, terms: Vec::new() };
-    let node = parser.either(known)?;
-    (parser.next == parser.words.len()).then_some((node, parser.terms))
-}
-
-fn holds(node: &Node, is_allowed: &[bool]) -> bool {
-    match node {
-        Node::Term(place) => is_allowed[*place],
-        Node::Both(left, right) => holds(left, is_allowed) && holds(right, is_allowed),
-        Node::Either(left, right) => holds(left, is_allowed) || holds(right, is_allowed),
-    }
-}
-
-// ---- the policy
-
-struct Known {
-    licences: HashSet<&'static str>,
-    exceptions: HashSet<&'static str>,
-}
-
-/// The entries of the list `allow`, each with the place of its text.
-fn allowed(policy: &str) -> Option<Vec<(usize, &str)>> {
-    let mut place = policy.find("allow = [")? + 9;
-    let end = place + policy[place..].find(']')?;
-    let mut entries = Vec::new();
-    while let Some(begun) = policy[place..end].find('"') {
-        let start = place + begun + 1;
-        let length = policy[start..end].find('"')?;
-        entries.push((start, &policy[start..start + length]));
-        place = start + length + 1;
-    }
-    Some(entries)
-}
-
-// ---- places
-
-/// The line and the column of a place, from 1.
-fn location(text: &str, place: usize) -> (usize, usize) {
-    let start = text[..place].rfind('\n').map_or(0, |feed| feed + 1);
-    let line = text[..place].bytes().filter(|byte| *byte == b'\n').count() + 1;
-    (line, text[start..place].chars().count() + 1)
-}
-
-/// Where the licence field of a manifest stands.
-fn field_place(manifest: &str) -> Option<(usize, &str)> {
-    let mut from = 0;
-    while let Some(found) = manifest[from..].find("license") {
-        let key = from + found + 7;
-        from = key;
-        let Some(rest) = manifest[key..].trim_start().strip_prefix('=') else { continue };
-        let Some(value) = rest.trim_start().strip_prefix(['"', '\'']) else { continue };
-        let start = manifest.len() - value.len();
-        let Some(length) = value.find(['"', '\'']) else { continue };
-        return Some((start, &value[..length]));
-    }
-    None
 }
 
 // ---- the check
 
-/// What is found of a crate whose licence is rejected.
-fn tell(out: &mut String, path: &str, manifest: &str, start: usize, terms: &[Term], is_allowed: &[bool]) {
-    let (line, column) = location(manifest, start);
-    out.push_str("error[rejected]: failed to satisfy license requirements\n");
-    let _ = writeln!(out, "  ::: {path}:{line}:{column}: license expression retrieved via Cargo.toml `license`");
-    for (term, is_allowed) in terms.iter().zip(is_allowed) {
-        let (line, column) = location(manifest, start + term.start);
-        let told = if *is_allowed { "accepted: license is explicitly allowed" } else { "rejected: license is not explicitly allowed" };
-        let _ = writeln!(out, "  --> {path}:{line}:{column}: {told}");
+/// Where the licence field of a manifest stands, with its value.
+fn field_place(manifest: &str) -> Option<(usize, &str)> {
+    manifest.match_indices("license").find_map(|(start, key)| {
+        let rest = manifest[start + key.len()..].trim_start().strip_prefix('=')?;
+        let value = rest.trim_start().strip_prefix(['"', '\''])?;
+        Some((manifest.len() - value.len(), &value[..value.find(['"', '\''])?]))
+    })
+}
+
+/// Where an expression stands: the parts of its file's name, its line and column; and where it comes from.
+struct Source<'s> {
+    file: [&'s str; 2],
+    place: (usize, usize),
+    origin: Cow<'s, str>,
+}
+
+/// How many crates have each verdict.
+#[derive(Default)]
+struct Verdicts {
+    accepted: usize,
+    rejected: usize,
+    unlicensed: usize,
+}
+
+struct Check<'c, T, W: Write> {
+    reader: Reader<'c, T>,
+    catalog: &'c Catalog<'c>,
+    policy: Policy<'c>,
+    printer: Printer<W>,
+    terms: Vec<Term>,
+    verdicts: Verdicts,
+}
+
+impl<T: Tree, W: Write> Check<'_, T, W> {
+    fn check(&mut self, id: &str, package: &Value) -> Option<()> {
+        let path = text(package, "manifest_path")?;
+        match text(package, "license") {
+            Some(field) => self.check_field(id, path, field),
+            None => self.check_files(id, path, package),
+        }
+    }
+
+    fn check_field(&mut self, id: &str, path: &str, field: &str) -> Option<()> {
+        let mut manifest = std::mem::take(&mut self.reader.text);
+        let is_read = self.reader.tree.read(path, &mut manifest).is_some();
+        let place = if is_read { field_place(&manifest).filter(|found| found.1 == field) } else { None };
+        let is_accepted = self.judge(field, false)?;
+        self.tell(is_accepted, field, || {
+            let (file, place) = match place {
+                Some((start, _)) => ([path, ""], after((1, 1), &manifest[..start])),
+                None => ([id, "-synthesized.toml"], (4, 12)),
+            };
+            Source { file, place, origin: Cow::Borrowed("Cargo.toml `license`") }
+        })?;
+        self.reader.text = manifest;
+        Some(())
+    }
+
+    fn check_files(&mut self, id: &str, path: &str, package: &Value) -> Option<()> {
+        let (name, version) = (text(package, "name")?, text(package, "version")?);
+        self.printer.tell(
+            Severity::Warning,
+            "no-license-field",
+            format_args!("license expression was not specified in manifest for crate '{name} = {version}'"),
+            ["", ""],
+            [],
+        )?;
+        let (licences, files) = self.reader.licences(path.rsplit_once('/')?.0)?;
+        if licences.is_empty() {
+            return self.tell_unlicensed(id, name, version);
+        }
+        let is_accepted = self.judge(&licences, true)?;
+        self.tell(is_accepted, &licences, || Source {
+            file: [id, "-synthesized.toml"],
+            place: (5, 15),
+            origin: Cow::Owned(format!("license files: {}", files.join(", "))),
+        })
+    }
+
+    /// Whether an expression is accepted; its terms stay.
+    fn judge(&mut self, text: &str, takes_deprecated: bool) -> Option<bool> {
+        let Check { catalog, policy, terms, .. } = self;
+        expression(text, catalog, takes_deprecated, terms, |asked| policy.hit(asked))
+    }
+
+    /// Prints the verdict of an expression whose terms were judged, if it is to be printed.
+    fn tell<'s>(&mut self, is_accepted: bool, text: &str, source: impl FnOnce() -> Source<'s>) -> Option<()> {
+        let (severity, code, message) = if is_accepted {
+            self.verdicts.accepted += 1;
+            (Severity::Note, "accepted", "license requirements satisfied")
+        } else {
+            self.verdicts.rejected += 1;
+            (Severity::Error, "rejected", "failed to satisfy license requirements")
+        };
+        if !self.printer.prints(severity) {
+            self.printer.count(severity);
+            return Some(());
+        }
+        let Source { file, place, origin } = source();
+        let whole = Label { arrow: ":::", place, message: ["license expression retrieved via ", &origin], span: text };
+        let labels = self.terms.iter().map(|term| Label {
+            arrow: "-->",
+            place: after(place, &text[..term.start]),
+            message: if term.hit.is_some() { ["accepted: license is explicitly allowed", ""] } else { ["rejected: license is not explicitly allowed", ""] },
+            span: &text[term.start..term.end],
+        });
+        self.printer.tell(severity, code, format_args!("{message}"), file, once(whole).chain(labels))
+    }
+
+    fn tell_unlicensed(&mut self, id: &str, name: &str, version: &str) -> Option<()> {
+        self.verdicts.unlicensed += 1;
+        let label = Label { arrow: "-->", place: (2, 9), message: ["", ""], span: name };
+        self.printer.tell(
+            Severity::Warning,
+            "unlicensed",
+            format_args!("a valid license expression could not be retrieved for the crate"),
+            [id, "-synthesized.toml"],
+            [label],
+        )?;
+        self.printer.tell(Severity::Error, "unlicensed", format_args!("{name} = {version} is unlicensed"), ["", ""], [])
+    }
+
+    /// Prints the policy's entries that no term needed.
+    fn tell_unused(&mut self, path: &str, severity: Severity) -> Option<()> {
+        let Check { policy, printer, .. } = self;
+        if !printer.prints(severity) {
+            policy.unused().for_each(|_| printer.count(severity));
+            return Some(());
+        }
+        policy.locate();
+        policy.unused().try_for_each(|entry| {
+            let label = Label { arrow: "-->", place: entry.place, message: ["unmatched license allowance", ""], span: entry.name };
+            printer.tell(severity, "license-not-encountered", format_args!("license was not encountered"), [path, ""], [label])
+        })
     }
 }
 
-fn known() -> Known {
-    Known { licences: LICENCES.iter().copied().collect(), exceptions: EXCEPTIONS.iter().copied().collect() }
+// ---- the commands
+
+/// What the words ask for.
+#[derive(Default)]
+struct Request {
+    metadata: String,
+    config: String,
+    catalog: String,
+    level: String,
+    format: String,
+    allowed: Vec<String>,
+    list_format: String,
+    layout: String,
+    rest: Vec<String>,
 }
 
-fn check(folder: &str) -> Option<(String, bool)> {
-    let known = known();
-    let policy_path = format!("{folder}/deny.toml");
-    let policy = fs::read_to_string(&policy_path).ok()?;
-    let mut entries = allowed(&policy)?;
-    entries.sort_by_key(|entry| entry.1);
-    let mut by_name: HashMap<&str, usize> = HashMap::new();
-    for (number, (_, name)) in entries.iter().enumerate() {
-        by_name.entry(name).or_insert(number);
-    }
-    let graph = graph(&fs::read_to_string(format!("{folder}/metadata.json")).ok()?)?;
-    let is_selected = selected(&graph);
-    let mut is_used = vec![false; entries.len()];
-    let mut files: BTreeMap<String, String> = BTreeMap::new();
-    let mut out = String::new();
-    let mut has_errors = false;
-    for krate in graph.crates.iter().zip(&is_selected).filter_map(|(krate, is_in)| is_in.then_some(krate)) {
-        let field = krate.field.as_deref()?;
-        let (node, terms) = expression(field, &known)?;
-        if !files.contains_key(&krate.manifest) {
-            if let Ok(text) = fs::read_to_string(&krate.manifest) {
-                files.insert(krate.manifest.clone(), text);
+fn request(mut words: impl Iterator<Item = String>) -> Option<Request> {
+    let mut request = Request::default();
+    while let Some(word) = words.next() {
+        let is_list = request.rest.first().is_some_and(|command| command == "list");
+        let place = match word.as_str() {
+            "--metadata-path" => &mut request.metadata,
+            "--config" => &mut request.config,
+            "--catalog" => &mut request.catalog,
+            "-L" => &mut request.level,
+            "-l" => &mut request.layout,
+            "-f" if is_list => &mut request.list_format,
+            "-f" => &mut request.format,
+            _ => {
+                let list = if word == "-A" { &mut request.allowed } else { &mut request.rest };
+                list.push(if word == "-A" { words.next()? } else { word });
+                continue;
             }
-        }
-        let place = files.get(&krate.manifest).and_then(|text| field_place(text)).filter(|found| found.1 == field);
-        let numbers: Vec<Option<usize>> = terms.iter().map(|term| by_name.get(term.name.as_str()).copied()).collect();
-        for number in numbers.iter().flatten() {
-            is_used[*number] = true;
-        }
-        let is_allowed: Vec<bool> = numbers.iter().map(Option::is_some).collect();
-        if !holds(&node, &is_allowed) {
-            has_errors = true;
-            tell(&mut out, &krate.manifest, &files[&krate.manifest], place?.0, &terms, &is_allowed);
-        }
+        };
+        *place = words.next()?;
     }
-    for ((start, _), _) in entries.iter().zip(&is_used).filter(|(_, is_used)| !**is_used) {
-        let (line, column) = location(&policy, *start);
-        out.push_str("warning[license-not-encountered]: license was not encountered\n");
-        let _ = writeln!(out, "  --> {policy_path}:{line}:{column}: unmatched license allowance");
-    }
-    Some((out, has_errors))
+    Some(request)
 }
 
-// ---- workspaces
-
-/// Numbers that look drawn, and are the same each time.
-struct Numbers(u64);
-
-impl Numbers {
-    fn below(&mut self, bound: usize) -> usize {
-        self.0 = self.0.wrapping_mul(6_364_136_223_846_793_005).wrapping_add(1_442_695_040_888_963_407);
-        ((self.0 >> 33) as usize) % bound.max(1)
+fn level(request: &Request) -> Option<Severity> {
+    match request.level.as_str() {
+        "off" => Some(Severity::Off),
+        "error" => Some(Severity::Error),
+        "" | "warn" => Some(Severity::Warning),
+        _ => None,
     }
 }
 
-const REGISTRY: &str = "registry+https://github.com/rust-lang/crates.io-index";
-
-const FIELDS: [&str; 8] = [
-    "MIT OR Apache-2.0", "MIT", "Apache-2.0", "MIT/Apache-2.0", "BSD-3-Clause", "(MIT OR Apache-2.0) AND Unicode-3.0", "ISC",
-    "Apache-2.0 WITH LLVM-exception OR Apache-2.0 OR MIT",
-];
-
-/// A crate of a workspace that is made.
-struct Made {
-    name: String,
-    version: String,
-    id: String,
-    manifest: String,
-    field: &'static str,
-    edges: Vec<usize>,
+/// The catalogue's file that is named, or the built-in one.
+fn catalogue(request: &Request) -> Option<Cow<'static, str>> {
+    if request.catalog.is_empty() {
+        return Some(Cow::Borrowed(include_str!("built-in.txt")));
+    }
+    fs::read_to_string(&request.catalog).ok().map(Cow::Owned)
 }
 
-/// A crate of a workspace with a file a crate, without edges; each is a member.
-fn small(folder: &str, index: usize) -> Made {
-    Made {
-        name: format!("c{index}"),
-        version: "1.0.0".to_string(),
-        id: format!("c{index}"),
-        manifest: format!("{folder}/c{index}/Cargo.toml"),
-        field: "Apache-2.0 OR MIT",
-        edges: Vec::new(),
-    }
+fn check_all<T: Tree, W: Write>(check: &mut Check<'_, T, W>, metadata: &Value, path: &str, unused: Severity) -> Option<()> {
+    selected(metadata)?.into_iter().try_for_each(|(id, package)| check.check(id, package))?;
+    check.tell_unused(path, unused)
 }
 
-/// A crate of a registry, as cargo writes it, with edges to later ones.
-fn real(folder: &str, numbers: &mut Numbers, index: usize, count: usize) -> Made {
-    let name = format!("{}-{}{index}", ["serde", "tokio", "windows", "proc", "wasm"][numbers.below(5)], ["core", "macro", "sys", "util"][numbers.below(4)]);
-    let version = format!("{}.{}.{}", numbers.below(3), numbers.below(40), numbers.below(200));
-    let mut edges: BTreeSet<usize> = BTreeSet::new();
-    if index + 1 < count {
-        edges.insert(index + 1);
-        for _ in 0..numbers.below(9) {
-            edges.insert(index + 1 + numbers.below((count - index - 1).min(400)));
-        }
-    }
-    Made {
-        id: format!("{REGISTRY}#{name}@{version}"),
-        manifest: format!("{folder}/registry/{name}-{version}/Cargo.toml"),
-        field: FIELDS[numbers.below(8)],
-        name,
-        version,
-        edges: edges.into_iter().collect(),
-    }
-}
-
-fn package(out: &mut String, made: &Made, crates: &[Made], numbers: &mut Numbers, is_full: bool) {
-    let Made { name, version, id, manifest, field, .. } = made;
-    let _ = write!(out, r#"{{"name":"{name}","version":"{version}","id":"{id}","license":"{field}","manifest_path":"{manifest}""#);
-    if is_full {
-        let _ = write!(out, r#","license_file":null,"description":"What the crate {name} does, in a line or two","source":"{REGISTRY}","dependencies":["#);
-        for (number, place) in made.edges.iter().enumerate() {
-            let _ = write!(
-                out,
-                r#"{}{{"name":"{}","source":"{REGISTRY}","req":"^1.0","kind":null,"rename":null,"optional":false,"uses_default_features":true,"features":["std","alloc"],"target":"cfg(windows)","registry":null}}"#,
-                if number > 0 { "," } else { "" },
-                crates[*place].name
-            );
-        }
-        out.push_str(r#"],"targets":["#);
-        for number in 0..numbers.below(8) + 1 {
-            let _ = write!(
-                out,
-                r#"{}{{"kind":["test"],"crate_types":["bin"],"name":"{name}_{number}","src_path":"{manifest}/../tests/{name}_{number}.rs","edition":"2021","doc":false,"doctest":false,"test":true}}"#,
-                if number > 0 { "," } else { "" }
-            );
-        }
-        out.push_str(r#"],"features":{"default":["std"]"#);
-        for number in 0..numbers.below(20) {
-            let _ = write!(out, r#","feature-{number}":["dep:other-{number}","std","alloc"]"#);
-        }
-        let _ = write!(
-            out,
-            r#"}},"metadata":{{"docs":{{"rs":{{"all-features":true,"targets":["x86_64-unknown-linux-gnu"]}}}}}},"publish":null,"authors":["A. Person <a@example.org>"],"categories":["encoding"],"keywords":["one","two"],"readme":"README.md","repository":"https://example.org/{name}","homepage":null,"documentation":null,"edition":"2021","links":null,"default_run":null,"rust_version":"1.70""#
-        );
-    }
-    out.push('}');
-}
-
-fn metadata(folder: &str, crates: &[Made], is_full: bool) -> String {
-    let mut numbers = Numbers(1);
-    let mut out = String::from(r#"{"packages":["#);
-    for (index, made) in crates.iter().enumerate() {
-        out.push_str(if index > 0 { "," } else { "" });
-        package(&mut out, made, crates, &mut numbers, is_full);
-    }
-    let members = if is_full { &crates[..1] } else { crates };
-    let ids: Vec<String> = members.iter().map(|made| format!("\"{}\"", made.id)).collect();
-    let _ = write!(out, r#"],"workspace_members":[{}],"workspace_root":"{folder}","resolve":{{"root":null,"nodes":["#, ids.join(","));
-    for (index, made) in crates.iter().enumerate() {
-        let _ = write!(out, r#"{}{{"id":"{}","deps":["#, if index > 0 { "," } else { "" }, made.id);
-        for (number, place) in made.edges.iter().enumerate() {
-            let to = &crates[*place];
-            let _ = write!(
-                out,
-                r#"{}{{"name":"{}","pkg":"{}","dep_kinds":[{{"kind":null,"target":null}}]}}"#,
-                if number > 0 { "," } else { "" },
-                to.name,
-                to.id
-            );
-        }
-        out.push_str(r#"],"features":["default","std"]}"#);
-    }
-    out.push_str(r#"]},"target_directory":"/t","version":1,"metadata":null}"#);
-    out
-}
-
-fn write_files(made: &Made) -> std::io::Result<()> {
-    let folder = Path::new(&made.manifest).parent().unwrap_or(Path::new("."));
-    fs::create_dir_all(folder)?;
-    let comment = "# a line that names the license and so is tried, in a manifest!\n".repeat(31);
-    fs::write(&made.manifest, format!("[package]\nname = \"{}\"\n{comment}license = \"{}\"\n", made.name, made.field))?;
-    fs::write(folder.join("LICENSE"), "Permission is hereby granted, free of charge, to any person who\n".repeat(90))
-}
-
-/// `small`: a file a crate, all of them rejected. `real`: crates of a registry with their files. `wide`: the same without files.
-/// `one`: one crate beside much that no row of metadata names.
-fn make(folder: &str, kind: &str, count: usize) -> std::io::Result<()> {
-    let mut numbers = Numbers(7);
-    let crates: Vec<Made> = match kind {
-        "small" => (0..count).map(|index| small(folder, index)).collect(),
-        "one" => vec![small(folder, 0)],
-        _ => (0..count).map(|index| real(folder, &mut numbers, index, count)).collect(),
+fn check(request: &Request) -> Option<ExitCode> {
+    let form = if request.format == "json" { Form::Json } else { Form::Human };
+    let catalogue = catalogue(request)?;
+    let catalog = Catalog::new(&catalogue);
+    let policy = fs::read_to_string(&request.config).ok()?;
+    let mut check = Check {
+        reader: Reader::new(&Disk),
+        policy: Policy::new(&policy, &catalog)?,
+        catalog: &catalog,
+        printer: Printer::new(BufWriter::new(io::stderr().lock()), form, level(request)?),
+        terms: Vec::new(),
+        verdicts: Verdicts::default(),
     };
-    if kind != "wide" {
-        crates.iter().try_for_each(write_files)?;
+    let metadata = metadata(&fs::read_to_string(&request.metadata).ok()?)?;
+    let is_note = request.allowed.iter().any(|code| code == "license-not-encountered");
+    check_all(&mut check, &metadata, &request.config, if is_note { Severity::Note } else { Severity::Warning })?;
+    let has_errors = check.printer.end()?;
+    if form == Form::Human && level(request)? != Severity::Off {
+        println!("licenses {}", if has_errors { "FAILED" } else { "ok" });
     }
-    let mut text = metadata(folder, &crates, kind == "real" || kind == "wide");
-    if kind == "one" {
-        text.truncate(text.len() - "null}".len());
-        let items: Vec<String> = (0..count).map(|index| format!(r#"{{"name":"item-{index}","kinds":["one","two"],"number":{index}}}"#)).collect();
-        let _ = write!(text, "[{}]}}", items.join(","));
-    }
-    fs::write("metadata.json", text)?;
-    let allow = if kind == "small" { r#""0BSD", "Zlib""# } else { r#""MIT", "Apache-2.0", "BSD-3-Clause", "Unicode-3.0", "ISC""# };
-    fs::write("deny.toml", format!("[licenses]\nallow = [{allow}]\n"))
+    Some(ExitCode::from(if has_errors { 4 } else { 0 }))
 }
 
-const LICENCES: [&str; 84] = [
-    "FTL", "ICU", "IJG", "ISC", "MIT", "Vim", "W3C", "X11", "0BSD", "HPND", "NCSA", "Ruby", "Zlib", "curl", "MIT-0", "Pixar",
-    "WTFPL", "BSL-1.0", "CC0-1.0", "EPL-1.0", "EPL-2.0", "GPL-1.0", "GPL-2.0", "GPL-3.0", "MPL-1.0", "MPL-1.1", "MPL-2.0",
-    "OFL-1.0", "OFL-1.1", "OpenSSL", "PSF-2.0", "UPL-1.0", "AGPL-3.0", "BUSL-1.1", "CDDL-1.0", "CDDL-1.1", "EUPL-1.1",
-    "EUPL-1.2", "GFDL-1.3", "LGPL-2.0", "LGPL-2.1", "LGPL-3.0", "CC-BY-3.0", "CC-BY-4.0", "Unlicense", "Apache-1.0",
-    "Apache-1.1", "Apache-2.0", "PostgreSQL", "Python-2.0", "Unicode-3.0", "bzip2-1.0.6", "Artistic-1.0", "Artistic-2.0",
-    "BSD-1-Clause", "BSD-2-Clause", "BSD-3-Clause", "BSD-4-Clause", "CC-BY-SA-3.0", "CC-BY-SA-4.0", "GPL-1.0-only",
-    "GPL-2.0-only", "GPL-3.0-only", "MulanPSL-2.0", "AGPL-3.0-only", "BlueOak-1.0.0", "GFDL-1.3-only", "LGPL-2.0-only",
-    "LGPL-2.1-only", "LGPL-3.0-only", "GPL-1.0-or-later", "GPL-2.0-or-later", "GPL-3.0-or-later", "Unicode-DFS-2016",
-    "AGPL-3.0-or-later", "GFDL-1.3-or-later", "LGPL-2.0-or-later", "LGPL-2.1-or-later", "LGPL-3.0-or-later",
-    "BSD-3-Clause-Clear", "BSD-2-Clause-Patent", "CDLA-Permissive-2.0", "zlib-acknowledgement", "MPL-2.0-no-copyleft-exception",
-];
+/// The licences of a crate, in byte order.
+fn licences_of<T: Tree>(package: &Value, reader: &mut Reader<'_, T>, catalog: &Catalog, terms: &mut Vec<Term>) -> Option<Vec<String>> {
+    let field = text(package, "license");
+    let texts = match field {
+        Some(field) => Cow::Borrowed(field),
+        None => reader.licences(text(package, "manifest_path")?.rsplit_once('/')?.0)?.0,
+    };
+    terms.clear();
+    if !texts.is_empty() {
+        expression(&texts, catalog, field.is_none(), terms, |_| None)?;
+    }
+    let mut licences: Vec<String> = terms.iter().map(|term| term.printed(&texts)).collect();
+    licences.sort_unstable();
+    licences.dedup();
+    Some(licences)
+}
 
-const EXCEPTIONS: [&str; 10] = [
-    "Autoconf-exception-3.0", "Bison-exception-2.2", "Classpath-exception-2.0", "Font-exception-2.0", "GCC-exception-3.1",
-    "Linux-syscall-note", "LLVM-exception", "OCaml-LGPL-linking-exception", "openvpn-openssl-exception", "Swift-exception",
-];
+fn listing(request: &Request) -> Option<ExitCode> {
+    let catalogue = catalogue(request)?;
+    let catalog = Catalog::new(&catalogue);
+    let policy = fs::read_to_string(&request.config).ok()?;
+    Policy::new(&policy, &catalog)?;
+    let metadata = metadata(&fs::read_to_string(&request.metadata).ok()?)?;
+    let layout = if request.layout == "crate" { Layout::Crate } else { Layout::License };
+    let mut listed = Listed::new(BufWriter::new(io::stdout().lock()), &request.list_format, layout)?;
+    let (mut reader, mut terms) = (Reader::new(&Disk), Vec::new());
+    for (_, package) in selected(&metadata)? {
+        let licences = licences_of(package, &mut reader, &catalog, &mut terms)?;
+        listed.add(format!("{}@{}", text(package, "name")?, text(package, "version")?), licences)?;
+    }
+    listed.end()?;
+    Some(ExitCode::SUCCESS)
+}
+
+/// Metadata of crates, each of which leads to two further ones.
+fn made_metadata(count: usize) -> String {
+    let fields = [r#""MIT""#, r#""MIT OR Apache-2.0""#, r#""GPL-3.0-only""#, "null"];
+    let comma = |is_there: bool| if is_there { "," } else { "" };
+    let mut text = String::from(r#"{"packages":["#);
+    for index in 0..count {
+        let (comma, field) = (comma(index > 0), fields[index % 4]);
+        let _ = write!(text, r#"{comma}{{"name":"c{index}","version":"1.0.{index}","id":"c{index}","manifest_path":"/s/c{index}/Cargo.toml","license":{field}}}"#);
+    }
+    text.push_str(r#"],"workspace_members":["c0"],"workspace_root":"/s","resolve":{"root":"c0","nodes":["#);
+    for index in 0..count {
+        let _ = write!(text, r#"{}{{"id":"c{index}","deps":["#, comma(index > 0));
+        for to in (2 * index + 1..2 * index + 3).filter(|to| *to < count) {
+            let _ = write!(text, r#"{}{{"pkg":"c{to}"}}"#, comma(to % 2 == 0));
+        }
+        text.push_str("]}");
+    }
+    text.push_str("]}}");
+    text
+}
+
+/// The folders of these crates.
+fn made_tree(count: usize) -> Made {
+    Made((0..count).map(|index| (format!("/s/c{index}"), vec!["Cargo.toml"])).collect())
+}
+
+fn sample(count: usize) -> Option<ExitCode> {
+    let catalog = Catalog::new(include_str!("built-in.txt"));
+    let tree = made_tree(count);
+    let mut check = Check {
+        reader: Reader::new(&tree),
+        policy: Policy::new("[licenses]\nallow = [\"MIT\"]\n", &catalog)?,
+        catalog: &catalog,
+        printer: Printer::new(io::sink(), Form::Human, Severity::Off),
+        terms: Vec::new(),
+        verdicts: Verdicts::default(),
+    };
+    let metadata = metadata(&made_metadata(count))?;
+    check_all(&mut check, &metadata, "/s/p.toml", Severity::Warning)?;
+    let Verdicts { accepted, rejected, unlicensed } = check.verdicts;
+    println!("crates {count}\naccepted {accepted}\nrejected {rejected}\nunlicensed {unlicensed}");
+    Some(ExitCode::SUCCESS)
+}
 
 fn main() -> ExitCode {
-    let words: Vec<String> = std::env::args().skip(1).collect();
-    let words: Vec<&str> = words.iter().map(String::as_str).collect();
-    let folder = std::env::current_dir().map(|folder| folder.display().to_string()).unwrap_or_default();
-    match words[..] {
-        ["make", kind, count] => match make(&folder, kind, count.parse().unwrap_or(10)) {
-            Ok(()) => ExitCode::SUCCESS,
-            Err(_) => ExitCode::FAILURE,
-        },
-        ["check"] => match check(&folder) {
-            Some((told, has_errors)) => {
-                let _ = std::io::stderr().write_all(told.as_bytes());
-                println!("licenses {}", if has_errors { "FAILED" } else { "ok" });
-                ExitCode::from(if has_errors { 4 } else { 0 })
-            }
-            None => ExitCode::FAILURE,
-        },
-        _ => ExitCode::FAILURE,
-    }
+    let answer = request(std::env::args().skip(1)).and_then(|request| {
+        let rest: Vec<&str> = request.rest.iter().map(String::as_str).collect();
+        match rest[..] {
+            ["check", "licenses"] => check(&request),
+            ["list"] => listing(&request),
+            ["sample", count] => sample(count.parse().ok()?),
+            _ => None,
+        }
+    });
+    answer.unwrap_or(ExitCode::FAILURE)
 }

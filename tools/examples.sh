@@ -50,7 +50,7 @@ metadata() {
 }
 
 # The words are those that `cargo deny` passes on; the policy is found beside the manifest.
-for name in first workspace policy files rejected; do
+for name in first workspace policy files rejected reviewed; do
     metadata "$top/examples/$name"
     compare "$name" "$top/examples/$name" "'$program' deny --metadata-path '$room/metadata.json' check licenses"
 done
@@ -61,6 +61,14 @@ metadata "$top/examples/rejected"
 compare rejected-json "$top/examples/rejected" "'$program' deny --metadata-path '$room/metadata.json' -f json check licenses"
 metadata "$top/examples/policy"
 compare policy-old "$top/examples/policy" "'$program' deny --metadata-path '$room/metadata.json' --config old.toml check licenses"
+
+# An exception that is tied to a file: a record that was right before a word of the file changed, and a check behind that.
+folder="$room/reviewed"
+cp -R "$top/examples/reviewed" "$folder"
+metadata "$folder"
+asks="'$program' --metadata-path '$room/metadata.json'"
+compare reviewed-record "$folder" "$asks record >verdicts && sed -i s/any/each/ libs/tide/TERMS && $asks verify verdicts"
+compare reviewed-changed "$folder" "$asks check licenses"
 
 # A crate without a field, whose licence file is a pipe that nobody writes to, or a device.
 odd="$room/odd"

@@ -30,7 +30,7 @@ most_more {X} size xs x before after grows here each =
 -- ---- verdicts, packs and hits
 
 verdicts_push : (policy : Policy) (asked : List GatheredCrate) (verdicts : List Verdict) (one : GatheredCrate) (verdict : Verdict) → AreVerdicts policy asked verdicts
-    → IsVerdict policy one.krate (expression_of one.info) verdict → AreVerdicts policy (asked ++ one ∷ []) (verdicts ++ verdict ∷ [])
+    → IsVerdict policy one.krate one.exceptions (expression_of one.info) verdict → AreVerdicts policy (asked ++ one ∷ []) (verdicts ++ verdict ∷ [])
 verdicts_push policy [] [] one verdict are is = (is, tt)
 verdicts_push policy [] (first ∷ verdicts) one verdict are is = absurd are
 verdicts_push policy (here ∷ asked) [] one verdict are is = absurd are
@@ -92,7 +92,7 @@ pub record SoFar (policy : ValidConfig) (licenses : List KrateLicense) (reports 
 
 pub one_more : (policy : ValidConfig) (licenses : List KrateLicense) (reports : List CrateReport) (flags : Flags) (old new : ErrorSink) (license : KrateLicense) (report : CrateReport) (pack : PackOf)
     (later : Flags) (last : ErrorSink) → SoFar policy licenses reports flags old new
-    → IsVerdict (policy_of policy) (gathered_of_license license).krate (expression_of license.lic_info) report.verdict → report ≡ report_of license report.verdict
+    → IsVerdict (policy_of policy) (gathered_of_license license).krate license.exceptions (expression_of license.lic_info) report.verdict → report ≡ report_of license report.verdict
     → pack ≡ pack_by (is_skipped report.verdict) (policy_of policy) (gathered_of_license license)
     → ((before : List Hit) → flags ≡ flags_by policy before → later ≡ flags_by policy (before ++ hits_by (is_skipped report.verdict) (policy_of policy) (gathered_of_license license)))
     → last ≡ record new { packs = new.packs ++ pack_overridden new.overrides pack ∷ [] } → SoFar policy (licenses ++ license ∷ []) (reports ++ report ∷ []) later old last

@@ -3,7 +3,6 @@ use Rattle.std.proofs.Common.{◌≡◌, refl, sym, ap, subst, ℕ, zero, suc, �
 use Rattle.std.specs.Prelude.{Any, slice_index_or}
 use Rattle.std.specs.Option.{option_to_list}
 use Rattle.spdx_terms.specs.declared.term.ExpressionReq.{ExpressionReq}
-use Rattle.graph_core.specs.Krate.{CrateRecord}
 use Rattle.spdx_core.specs.declared.certificates.verdict.Hit.{Hit}
 use Rattle.spdx_core.specs.declared.certificates.verdict.Hit.TheVariants.{Allowed, Exception}
 use Rattle.spdx_core.specs.declared.certificates.verdict.Verdict.{Verdict}
@@ -20,8 +19,8 @@ use Rattle.check_core.specs.Turns.{GatheredCrate, hits_by, hits_of}
 use Rattle.check_core.specs.Verdicts.{is_skipped}
 
 pub terms_are_told : TermsAreTold
-terms_are_told policy krate nfo [] = tt
-terms_are_told policy krate nfo (term ∷ terms) = (refl, terms_are_told policy krate nfo terms)
+terms_are_told policy counted nfo [] = tt
+terms_are_told policy counted nfo (term ∷ terms) = (refl, terms_are_told policy counted nfo terms)
 
 -- ---- some item of a list
 
@@ -85,40 +84,40 @@ module _ (policy : Policy) (hit : Hit) where
   one_of (Some one) (inl same) = ap Some same
   one_of (Some one) (inr none) = absurd none
 
-  term_of : (krate : CrateRecord) (terms : List ExpressionReq) → IsHit (hits_in (term_hits policy krate terms)) → Among (λ (term : ExpressionReq). hit_of policy krate term.req ≡ Some hit) terms
-  term_of krate [] is = absurd is
-  term_of krate (term ∷ terms) is =
-      elim (among_both (λ one. one ≡ hit) (option_to_list (hit_of policy krate term.req)) (hits_in (term_hits policy krate terms)) is) [
-        | inl first ↦ inl (one_of (hit_of policy krate term.req) first)
-        | inr second ↦ inr (term_of krate terms second)
+  term_of : (counted : List ℕ) (terms : List ExpressionReq) → IsHit (hits_in (term_hits policy counted terms)) → Among (λ (term : ExpressionReq). hit_of policy counted term.req ≡ Some hit) terms
+  term_of counted [] is = absurd is
+  term_of counted (term ∷ terms) is =
+      elim (among_both (λ one. one ≡ hit) (option_to_list (hit_of policy counted term.req)) (hits_in (term_hits policy counted terms)) is) [
+        | inl first ↦ inl (one_of (hit_of policy counted term.req) first)
+        | inr second ↦ inr (term_of counted terms second)
       ]
 
-  hit_in : (krate : CrateRecord) (terms : List ExpressionReq) → Among (λ (term : ExpressionReq). hit_of policy krate term.req ≡ Some hit) terms → IsHit (hits_in (term_hits policy krate terms))
-  hit_in krate [] found = absurd found
-  hit_in krate (term ∷ terms) (inl is) =
-      among_first (λ one. one ≡ hit) (option_to_list (hit_of policy krate term.req)) (hits_in (term_hits policy krate terms))
+  hit_in : (counted : List ℕ) (terms : List ExpressionReq) → Among (λ (term : ExpressionReq). hit_of policy counted term.req ≡ Some hit) terms → IsHit (hits_in (term_hits policy counted terms))
+  hit_in counted [] found = absurd found
+  hit_in counted (term ∷ terms) (inl is) =
+      among_first (λ one. one ≡ hit) (option_to_list (hit_of policy counted term.req)) (hits_in (term_hits policy counted terms))
       (subst (λ (found : Option Hit). IsHit (option_to_list found)) (sym is) (inl refl))
-  hit_in krate (term ∷ terms) (inr found) =
-      among_second (λ one. one ≡ hit) (option_to_list (hit_of policy krate term.req)) (hits_in (term_hits policy krate terms)) (hit_in krate terms found)
+  hit_in counted (term ∷ terms) (inr found) =
+      among_second (λ one. one ≡ hit) (option_to_list (hit_of policy counted term.req)) (hits_in (term_hits policy counted terms)) (hit_in counted terms found)
 
   -- ---- of crates
 
-  info_has : (krate : CrateRecord) (info : LicenseInfo) → IsHit (hits_of policy krate info) → HasTerm policy krate hit info
-  info_has krate Unlicensed is = absurd is
-  info_has krate (SpdxExpression expression nfo) is =
-      somewhere (λ (term : ExpressionReq). hit_of policy krate term.req ≡ Some hit) expression.terms (term_of krate expression.terms is)
+  info_has : (counted : List ℕ) (info : LicenseInfo) → IsHit (hits_of policy counted info) → HasTerm policy counted hit info
+  info_has counted Unlicensed is = absurd is
+  info_has counted (SpdxExpression expression nfo) is =
+      somewhere (λ (term : ExpressionReq). hit_of policy counted term.req ≡ Some hit) expression.terms (term_of counted expression.terms is)
 
-  has_info : (krate : CrateRecord) (info : LicenseInfo) → HasTerm policy krate hit info → IsHit (hits_of policy krate info)
-  has_info krate Unlicensed has = absurd has
-  has_info krate (SpdxExpression expression nfo) has =
-      hit_in krate expression.terms (among (λ (term : ExpressionReq). hit_of policy krate term.req ≡ Some hit) expression.terms has)
+  has_info : (counted : List ℕ) (info : LicenseInfo) → HasTerm policy counted hit info → IsHit (hits_of policy counted info)
+  has_info counted Unlicensed has = absurd has
+  has_info counted (SpdxExpression expression nfo) has =
+      hit_in counted expression.terms (among (λ (term : ExpressionReq). hit_of policy counted term.req ≡ Some hit) expression.terms has)
 
   needs_by : (asked : GatheredCrate) (verdict : Verdict) (b : Bool) → is_skipped verdict ≡ b → IsHit (hits_by b policy asked) → Needs policy hit asked verdict
   needs_by asked verdict true skips is = absurd is
-  needs_by asked verdict false skips is = record { asks = skips; term = info_has asked.krate asked.info is }
+  needs_by asked verdict false skips is = record { asks = skips; term = info_has asked.exceptions asked.info is }
 
   hit_by_crate : (asked : GatheredCrate) (verdict : Verdict) → Needs policy hit asked verdict → IsHit (hits_by (is_skipped verdict) policy asked)
-  hit_by_crate asked verdict needs = subst (λ (b : Bool). IsHit (hits_by b policy asked)) (sym needs.asks) (has_info asked.krate asked.info needs.term)
+  hit_by_crate asked verdict needs = subst (λ (b : Bool). IsHit (hits_by b policy asked)) (sym needs.asks) (has_info asked.exceptions asked.info needs.term)
 
   needed : (asked : List GatheredCrate) (verdicts : List Verdict) → IsHit (all_hits policy asked verdicts) → IsNeeded policy asked verdicts hit
   needed [] verdicts is = absurd is

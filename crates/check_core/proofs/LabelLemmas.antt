@@ -83,12 +83,12 @@ judged_lies : (files : List File) (accepted : Bool) (labels : List Label) (notes
 judged_lies files true labels notes lie = lie
 judged_lies files false labels notes lie = lie
 
-verdict_lies : (files : List File) (policy : Policy) (krate : CrateRecord) (info : LicenseInfo) (notes : List (List ℕ)) → InfoPoints files policy krate info
-    → FindingLies files (verdict_finding policy krate info notes)
-verdict_lies files policy krate Unlicensed notes points = All-nil (LabelLies files)
-verdict_lies files policy krate (SpdxExpression expression nfo) notes points =
-    let kept = term_hits policy krate expression.terms in
-    judged_lies files (is_allowed policy krate expression.terms expression.tree) (findings.verdict_labels expression nfo kept) notes
+verdict_lies : (files : List File) (policy : Policy) (krate : CrateRecord) (counted : List ℕ) (info : LicenseInfo) (notes : List (List ℕ)) → InfoPoints files policy counted info
+    → FindingLies files (verdict_finding policy krate counted info notes)
+verdict_lies files policy krate counted Unlicensed notes points = All-nil (LabelLies files)
+verdict_lies files policy krate counted (SpdxExpression expression nfo) notes points =
+    let kept = term_hits policy counted expression.terms in
+    judged_lies files (is_allowed policy counted expression.terms expression.tree) (findings.verdict_labels expression nfo kept) notes
     (All-from_recursion (LabelLies files) (findings.verdict_labels expression nfo kept) (
       pointing_lies files nfo expression.text (findings.whole_label nfo expression.text) points.whole,
       terms_lie files nfo expression.text expression.terms (findings.term_labels nfo expression.terms kept) points.terms,
@@ -122,8 +122,8 @@ findings_lie : (files : List File) (policy : Policy) (asked : GatheredCrate) (pr
 findings_lie files policy asked true lie points =
     All-from_recursion (FindingLies files) (findings.skipped_finding asked.krate ∷ []) (All-nil (LabelLies files), tt)
 findings_lie files policy asked false lie points =
-    All-push (FindingLies files) asked.gathered (verdict_finding policy asked.krate asked.info asked.notes) (gathered_lies files asked.gathered lie)
-    (verdict_lies files policy asked.krate asked.info asked.notes points)
+    All-push (FindingLies files) asked.gathered (verdict_finding policy asked.krate asked.exceptions asked.info asked.notes) (gathered_lies files asked.gathered lie)
+    (verdict_lies files policy asked.krate asked.exceptions asked.info asked.notes points)
 
 pack_lies : (files : List File) (policy : Policy) (asked : GatheredCrate) (private : Bool) → All (LabelLies files) (labels_of asked.gathered) → VerdictPoints files policy asked
     → PackLies files (pack_by private policy asked)
@@ -217,15 +217,15 @@ pub all_fit : (files : List File) (licenses : List KrateLicense) → All (IsPlac
 all_fit files licenses placed =
     All-weaker (IsPlacedAt files) (λ (license : KrateLicense). InfoFits license.lic_info) (λ license placed. info_fits files license.lic_info placed.expression) licenses placed
 
-info_points : (files : List File) (policy : Policy) (krate : CrateRecord) (info : LicenseInfo) → IsExpressionIn info → InfoStands files info → InfoPoints files policy krate info
-info_points files policy krate Unlicensed facts stands = tt
-info_points files policy krate (SpdxExpression expression nfo) facts stands = labels_point files expression nfo (term_hits policy krate expression.terms) facts stands
+info_points : (files : List File) (policy : Policy) (counted : List ℕ) (info : LicenseInfo) → IsExpressionIn info → InfoStands files info → InfoPoints files policy counted info
+info_points files policy counted Unlicensed facts stands = tt
+info_points files policy counted (SpdxExpression expression nfo) facts stands = labels_point files expression nfo (term_hits policy counted expression.terms) facts stands
 
 each_points : (files : List File) (policy : Policy) (licenses : List KrateLicense) → AllByRecursion (λ (license : KrateLicense). IsExpressionIn license.lic_info) licenses
     → AllByRecursion (IsPlacedAt files) licenses → AllByRecursion (VerdictPoints files policy) (gathered_of_licenses licenses)
 each_points files policy [] facts placed = tt
 each_points files policy (license ∷ licenses) facts placed =
-    (info_points files policy (gathered_of_license license).krate license.lic_info facts.0 placed.0.expression, each_points files policy licenses facts.1 placed.1)
+    (info_points files policy license.exceptions license.lic_info facts.0 placed.0.expression, each_points files policy licenses facts.1 placed.1)
 
 -- the labels of each verdict point at its expression
 pub all_point : (files : List File) (policy : Policy) (licenses : List KrateLicense) → All (λ (license : KrateLicense). IsExpressionIn license.lic_info) licenses

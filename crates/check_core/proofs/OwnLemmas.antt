@@ -1,5 +1,5 @@
 -- Equal known reads, equal verdicts.
-use Rattle.std.proofs.Common.{◌≡◌, ◌∙◌, refl, sym, ap, ap₂, subst, ℕ, Bool, true, false, ◌&&◌, cond, List, [], ◌∷◌, ◌++◌, map, Option, Some, None}
+use Rattle.std.proofs.Common.{◌≡◌, ◌∙◌, refl, sym, ap, ap₂, subst, ℕ, suc, Bool, true, false, ◌&&◌, cond, List, [], ◌∷◌, ◌++◌, map, Option, Some, None}
 use Rattle.std.specs.Prelude.{filter, not, option_map, unwrap_or}
 use Rattle.std.specs.List.{AllByRecursion, flat_map, fold}
 use Rattle.std.specs.Ordering.{is_lt}
@@ -20,11 +20,13 @@ use Rattle.gather_license.specs.expression.Scanned.{Scanner, file_scanned}
 use Rattle.gather_license.specs.Clarification.{ClarificationView, named_files, held_in, named_in}
 use Rattle.gather_license.specs.Priority.{LicenseAnswer, answer_in, by_seen, field_of, files_scanned, holding_clarification, priority_of, seen_by, settling_by}
 use Rattle.gather_core.specs.Entries.{clarifications_of, entries_of}
+use Rattle.gather_core.specs.Exceptions.{ExceptionEntry, ExceptionRules, counted_of, exception_rules, holds_for, is_for}
+use Rattle.policy_parts.specs.spec.Index.{places_from}
 use Rattle.policy_core.specs.valid.Policy.{Policy}
 use Rattle.policy_core.specs.valid.View.{policy_of}
 use Rattle.check_core.specs.evaluate.Evaluation.{term_hits}
 use Rattle.check_core.proofs.LawLemmas.{same_test}
-use Rattle.check_core.specs.Own.{HearTheSame, VerdictIsByKnownReads, VerdictIsOwn, known_reads_there, expression_by, paths_around, clarified_paths}
+use Rattle.check_core.specs.Own.{HearTheSame, VerdictIsByKnownReads, VerdictIsOwn, known_reads_there, expression_by, paths_around, clarified_paths, excepted_paths, exception_paths}
 use Rattle.check_core.specs.Verdicts.{skipped, unlicensed, accepted, rejected, IsCertifiedOrUnlicensed, IsVerdictShown, IsVerdict, is_skipped, judgement_in, verdict_of}
 
 -- ---- lists
@@ -150,12 +152,46 @@ module _ (one other : FolderReads) where
     same_each more (all_behind SameAt (clarified_paths first) (flat_map clarified_paths more) same),
   )
 
-  same_priority : (scanner : Scanner) (clarifications : List ClarificationView) (krate : CrateRecord) → HearTheSame clarifications krate one other
+  -- ---- exceptions
+
+  -- the exceptions that are for the crate and whose files are read alike hold alike
+  same_entry_by : (krate : CrateRecord) (entry : ExceptionEntry) (own : Bool) → AllByRecursion SameAt (cond own (map (λ named. named.path) entry.files) [])
+      → (own && holds one entry.files) ≡ (own && holds other entry.files)
+  same_entry_by krate entry true same = same_holds entry.files (same_named entry.files same)
+  same_entry_by krate entry false same = refl
+
+  same_places : (krate : CrateRecord) (n : ℕ) (entries : List ExceptionEntry) → AllByRecursion SameAt (flat_map (excepted_paths krate) entries)
+      → places_from n (holds_for krate one) entries ≡ places_from n (holds_for krate other) entries
+  same_places krate n [] same = refl
+  same_places krate n (entry ∷ entries) same =
+      ap₂ (λ (passes : Bool) (rest : List ℕ). cond passes (n ∷ rest) rest)
+      (same_entry_by krate entry (is_for krate entry) (all_front SameAt (excepted_paths krate entry) (flat_map (excepted_paths krate) entries) same))
+      (same_places krate (suc n) entries (all_behind SameAt (excepted_paths krate entry) (flat_map (excepted_paths krate) entries) same))
+
+  counted_by : (krate : CrateRecord) (entries : List ExceptionEntry) (each : Bool) → AllByRecursion SameAt (cond each (flat_map (excepted_paths krate) entries) [])
+      → counted_of (record { each_counts = each; entries = entries }) krate one ≡ counted_of (record { each_counts = each; entries = entries }) krate other
+  counted_by krate entries true same = same_places krate 0 entries same
+  counted_by krate entries false same = refl
+
+  -- what is read for the licence, and what is read for exceptions
+  all_around : (clarifications : List ClarificationView) (rules : ExceptionRules) (krate : CrateRecord) → HearTheSame clarifications rules krate one other
+      → AllByRecursion SameAt (paths_around one.listing clarifications rules krate)
+  all_around clarifications rules krate hear = recursion_from_All SameAt (paths_around one.listing clarifications rules krate) hear.files
+
+  same_counted : (clarifications : List ClarificationView) (rules : ExceptionRules) (krate : CrateRecord) → HearTheSame clarifications rules krate one other
+      → counted_of rules krate one ≡ counted_of rules krate other
+  same_counted clarifications rules krate hear =
+      counted_by krate rules.entries rules.each_counts
+      (all_behind SameAt (license_files_in one.listing krate.license_file ++ flat_map clarified_paths clarifications) (exception_paths rules krate)
+      (all_around clarifications rules krate hear))
+
+  same_priority : (scanner : Scanner) (clarifications : List ClarificationView) (rules : ExceptionRules) (krate : CrateRecord) → HearTheSame clarifications rules krate one other
       → priority_of scanner clarifications krate one ≡ priority_of scanner clarifications krate other
-  same_priority scanner clarifications krate hear =
+  same_priority scanner clarifications rules krate hear =
       let found = license_files_in one.listing krate.license_file in
       let files = named_files clarifications in
-      let all : AllByRecursion SameAt (paths_around one.listing clarifications krate) = recursion_from_All SameAt (paths_around one.listing clarifications krate) hear.files in
+      let all : AllByRecursion SameAt (found ++ flat_map clarified_paths clarifications) =
+      all_front SameAt (found ++ flat_map clarified_paths clarifications) (exception_paths rules krate) (all_around clarifications rules krate hear) in
       let each : AllByRecursion SameFor files = same_each clarifications (all_behind SameAt found (flat_map clarified_paths clarifications) all) in
       let wanted_same : wanted_of one krate.license_file files ≡ wanted_of other krate.license_file files =
       ap₂ (λ listing rest. license_files_in listing krate.license_file ++ rest) hear.listing (same_tried files each) in
@@ -191,54 +227,57 @@ same_items [] (y ∷ ys) same = let bad : [] ≡ Some y ∷ map Some ys = same i
 same_items (x ∷ xs) [] same = let bad : Some x ∷ map Some xs ≡ [] = same in cc
 same_items (x ∷ xs) (y ∷ ys) same = ap₂ (λ first rest. first ∷ rest) (ap (first_of x) same) (same_items xs ys (ap rest_of same))
 
-same_accepted : (policy : Policy) (krate : CrateRecord) (expression : Option ExpressionView) (choice places : List ℕ) (hits others : List Hit)
-    → IsCertifiedOrUnlicensed policy krate expression (Accepted choice hits) → IsCertifiedOrUnlicensed policy krate expression (Accepted places others) → Accepted choice hits ≡ Accepted places others
-same_accepted policy krate None choice places hits others first second = let bad : Accepted choice hits ≡ Unlicensed = first in cc
-same_accepted policy krate (Some expression) choice places hits others first second =
+same_accepted : (policy : Policy) (counted : List ℕ) (expression : Option ExpressionView) (choice places : List ℕ) (hits others : List Hit)
+    → IsCertifiedOrUnlicensed policy counted expression (Accepted choice hits) → IsCertifiedOrUnlicensed policy counted expression (Accepted places others) → Accepted choice hits ≡ Accepted places others
+same_accepted policy counted None choice places hits others first second = let bad : Accepted choice hits ≡ Unlicensed = first in cc
+same_accepted policy counted (Some expression) choice places hits others first second =
     let choices : choice ≡ places = ap (λ o. unwrap_or o choice) (sym first.first ∙ second.first) in
     ap₂ Accepted choices
-    (same_items hits others (first.place_by_place ∙ ap (map (hit_at (term_hits policy krate expression.terms))) choices ∙ sym second.place_by_place))
+    (same_items hits others (first.place_by_place ∙ ap (map (hit_at (term_hits policy counted expression.terms))) choices ∙ sym second.place_by_place))
 
-same_rejected : (policy : Policy) (krate : CrateRecord) (expression : Option ExpressionView) (least fewest blocks others : List ℕ)
-    → IsCertifiedOrUnlicensed policy krate expression (Rejected least blocks) → IsCertifiedOrUnlicensed policy krate expression (Rejected fewest others) → Rejected least blocks ≡ Rejected fewest others
-same_rejected policy krate None least fewest blocks others first second = let bad : Rejected least blocks ≡ Unlicensed = first in cc
-same_rejected policy krate (Some expression) least fewest blocks others first second =
+same_rejected : (policy : Policy) (counted : List ℕ) (expression : Option ExpressionView) (least fewest blocks others : List ℕ)
+    → IsCertifiedOrUnlicensed policy counted expression (Rejected least blocks) → IsCertifiedOrUnlicensed policy counted expression (Rejected fewest others) → Rejected least blocks ≡ Rejected fewest others
+same_rejected policy counted None least fewest blocks others first second = let bad : Rejected least blocks ≡ Unlicensed = first in cc
+same_rejected policy counted (Some expression) least fewest blocks others first second =
     ap₂ Rejected (ap (λ o. unwrap_or o least) (sym first.least_is ∙ second.least_is)) (first.blocks_are ∙ sym second.blocks_are)
 
-same_shown : (policy : Policy) (krate : CrateRecord) (expression : Option ExpressionView) (first second : Verdict) → judgement_in first ≡ judgement_in second
-    → IsVerdictShown (is_skipped first) policy krate expression first → IsVerdictShown (is_skipped second) policy krate expression second → first ≡ second
-same_shown policy krate expression Skipped Skipped same shown also = refl
-same_shown policy krate expression Skipped Unlicensed same shown also = let bad : skipped ≡ unlicensed = same in cc
-same_shown policy krate expression Skipped (Accepted choice hits) same shown also = let bad : skipped ≡ accepted = same in cc
-same_shown policy krate expression Skipped (Rejected least blocks) same shown also = let bad : skipped ≡ rejected = same in cc
-same_shown policy krate expression Unlicensed Skipped same shown also = let bad : unlicensed ≡ skipped = same in cc
-same_shown policy krate expression Unlicensed Unlicensed same shown also = refl
-same_shown policy krate expression Unlicensed (Accepted choice hits) same shown also = let bad : unlicensed ≡ accepted = same in cc
-same_shown policy krate expression Unlicensed (Rejected least blocks) same shown also = let bad : unlicensed ≡ rejected = same in cc
-same_shown policy krate expression (Accepted choice hits) Skipped same shown also = let bad : accepted ≡ skipped = same in cc
-same_shown policy krate expression (Accepted choice hits) Unlicensed same shown also = let bad : accepted ≡ unlicensed = same in cc
-same_shown policy krate expression (Accepted choice hits) (Accepted places others) same shown also = same_accepted policy krate expression choice places hits others shown also
-same_shown policy krate expression (Accepted choice hits) (Rejected least blocks) same shown also = let bad : accepted ≡ rejected = same in cc
-same_shown policy krate expression (Rejected least blocks) Skipped same shown also = let bad : rejected ≡ skipped = same in cc
-same_shown policy krate expression (Rejected least blocks) Unlicensed same shown also = let bad : rejected ≡ unlicensed = same in cc
-same_shown policy krate expression (Rejected least blocks) (Accepted choice hits) same shown also = let bad : rejected ≡ accepted = same in cc
-same_shown policy krate expression (Rejected least blocks) (Rejected fewest others) same shown also = same_rejected policy krate expression least fewest blocks others shown also
+same_shown : (policy : Policy) (counted : List ℕ) (expression : Option ExpressionView) (first second : Verdict) → judgement_in first ≡ judgement_in second
+    → IsVerdictShown (is_skipped first) policy counted expression first → IsVerdictShown (is_skipped second) policy counted expression second → first ≡ second
+same_shown policy counted expression Skipped Skipped same shown also = refl
+same_shown policy counted expression Skipped Unlicensed same shown also = let bad : skipped ≡ unlicensed = same in cc
+same_shown policy counted expression Skipped (Accepted choice hits) same shown also = let bad : skipped ≡ accepted = same in cc
+same_shown policy counted expression Skipped (Rejected least blocks) same shown also = let bad : skipped ≡ rejected = same in cc
+same_shown policy counted expression Unlicensed Skipped same shown also = let bad : unlicensed ≡ skipped = same in cc
+same_shown policy counted expression Unlicensed Unlicensed same shown also = refl
+same_shown policy counted expression Unlicensed (Accepted choice hits) same shown also = let bad : unlicensed ≡ accepted = same in cc
+same_shown policy counted expression Unlicensed (Rejected least blocks) same shown also = let bad : unlicensed ≡ rejected = same in cc
+same_shown policy counted expression (Accepted choice hits) Skipped same shown also = let bad : accepted ≡ skipped = same in cc
+same_shown policy counted expression (Accepted choice hits) Unlicensed same shown also = let bad : accepted ≡ unlicensed = same in cc
+same_shown policy counted expression (Accepted choice hits) (Accepted places others) same shown also = same_accepted policy counted expression choice places hits others shown also
+same_shown policy counted expression (Accepted choice hits) (Rejected least blocks) same shown also = let bad : accepted ≡ rejected = same in cc
+same_shown policy counted expression (Rejected least blocks) Skipped same shown also = let bad : rejected ≡ skipped = same in cc
+same_shown policy counted expression (Rejected least blocks) Unlicensed same shown also = let bad : rejected ≡ unlicensed = same in cc
+same_shown policy counted expression (Rejected least blocks) (Accepted choice hits) same shown also = let bad : rejected ≡ accepted = same in cc
+same_shown policy counted expression (Rejected least blocks) (Rejected fewest others) same shown also = same_rejected policy counted expression least fewest blocks others shown also
 
-same_verdict : (policy : Policy) (krate : CrateRecord) (expression : Option ExpressionView) (first second : Verdict) → IsVerdict policy krate expression first
-    → IsVerdict policy krate expression second → first ≡ second
-same_verdict policy krate expression first second is also =
+same_verdict : (policy : Policy) (krate : CrateRecord) (counted : List ℕ) (expression : Option ExpressionView) (first second : Verdict) → IsVerdict policy krate counted expression first
+    → IsVerdict policy krate counted expression second → first ≡ second
+same_verdict policy krate counted expression first second is also =
     let private : is.judged.private ≡ also.judged.private = same_test is.judged.private also.judged.private (λ p. p) (λ p. p) is.judged.tells also.judged.tells in
-    same_shown policy krate expression first second
-    (is.judged.is ∙ ap (λ (b : Bool). verdict_of b policy krate expression) private ∙ sym also.judged.is) is.shown also.shown
+    same_shown policy counted expression first second
+    (is.judged.is ∙ ap (λ (b : Bool). verdict_of b policy counted expression) private ∙ sym also.judged.is) is.shown also.shown
 
 -- ---- laws
 
 pub by_known_reads : VerdictIsByKnownReads
 by_known_reads scanner policy krate one other first second hear is also =
+    let rules = exception_rules policy in
     let same : expression_by scanner policy krate one ≡ expression_by scanner policy krate other =
-    ap (λ answer. option_map (λ (one : LicenseAnswer). one.expression) answer) (same_priority one other scanner (clarifications_of krate (entries_of policy)) krate hear) in
-    same_verdict (policy_of policy) krate (expression_by scanner policy krate one) first second is
-    (subst (λ (e : Option ExpressionView). IsVerdict (policy_of policy) krate e second) (sym same) also)
+    ap (λ answer. option_map (λ (one : LicenseAnswer). one.expression) answer) (same_priority one other scanner (clarifications_of krate (entries_of policy)) rules krate hear) in
+    let count : counted_of rules krate one ≡ counted_of rules krate other = same_counted one other (clarifications_of krate (entries_of policy)) rules krate hear in
+    same_verdict (policy_of policy) krate (counted_of rules krate one) (expression_by scanner policy krate one) first second is
+    (subst (λ (counted : List ℕ). IsVerdict (policy_of policy) krate counted (expression_by scanner policy krate one) second) (sym count)
+    (subst (λ (e : Option ExpressionView). IsVerdict (policy_of policy) krate (counted_of rules krate other) e second) (sym same) also))
 
 pub by_own : VerdictIsOwn
 by_own scanner policy krate one other = by_known_reads scanner policy krate (known_reads_there krate one) (known_reads_there krate other)

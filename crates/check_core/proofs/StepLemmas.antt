@@ -11,7 +11,7 @@ use Rattle.check_core.proofs.FrontLemmas.{is_behind, lies_inside}
 
 -- of a crate that is not passed over
 pub asked_bound : (policy : Policy) (asked : GatheredCrate) (passed : Bool) (before after : ℕ) → IsTrue passed ↔ IsPrivate policy asked.krate → passed ≡ false
-    → after ≤ before + entries_of_info policy asked.krate asked.info
+    → after ≤ before + entries_of_info policy asked.exceptions asked.info
     → (private : Bool) → IsTrue private ↔ IsPrivate policy asked.krate → after ≤ before + entries_for private policy asked
 asked_bound policy asked passed before after tells asks bound true same =
     let yes : passed ≡ true = tells.1 (same.0 refl) in let never : true ≡ false = sym yes ∙ asks in absurd (cc never)

@@ -2,6 +2,7 @@ pub mod AnswerLemmas
 pub mod EvaluationLemmas
 pub mod Examples
 pub mod FamilyLemmas
+pub mod GrantLemmas
 pub mod MoreLemmas
 pub mod PlaceLemmas
 pub mod PrivateLemmas

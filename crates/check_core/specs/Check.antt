@@ -18,7 +18,9 @@ use Rattle.check_core.specs.Verdicts.{IsVerdict, is_skipped}
 -- each crate has its verdict, in order
 abbrev pub AreVerdicts : Policy → List GatheredCrate → List Verdict → Type 0
 AreVerdicts policy asked verdicts =
-    AllZip (λ (one : GatheredCrate) verdict. IsVerdict policy one.krate (expression_of one.info) verdict) asked verdicts
+    AllZip
+    (λ (one : GatheredCrate) verdict. IsVerdict policy one.krate one.exceptions (expression_of one.info) verdict) asked
+    verdicts
 
 -- the packs of the crates, in order
 abbrev pub packs_of : Policy → List GatheredCrate → List Verdict → List PackOf

@@ -2,7 +2,6 @@
 use Rattle.std.specs.Prelude.{◌≡◌, ◌↔◌, ◌⊎◌, ℕ, false, List, [], ◌∷◌, Some, Any}
 use Rattle.std.specs.List.{AllZip}
 use Rattle.spdx_terms.specs.declared.term.ExpressionReq.{ExpressionReq}
-use Rattle.graph_core.specs.Krate.{CrateRecord}
 use Rattle.spdx_core.specs.declared.certificates.verdict.Hit.{Hit}
 use Rattle.spdx_core.specs.declared.certificates.verdict.Hit.TheVariants.{Allowed, Exception}
 use Rattle.spdx_core.specs.declared.certificates.verdict.Verdict.{Verdict}
@@ -22,22 +21,22 @@ use Rattle.check_core.specs.Verdicts.{is_skipped}
 
 -- each term of a crate's expression is reported at its own place by what allows it
 abbrev pub TermsAreTold : Type 0
-TermsAreTold = (policy : Policy) (krate : CrateRecord) (nfo : LicenseExprInfo) (terms : List ExpressionReq)
-    → AllZip (λ term label. label ≡ term_label nfo term.span (hit_of policy krate term.req)) terms
-    (term_labels nfo terms (term_hits policy krate terms))
+TermsAreTold = (policy : Policy) (counted : List ℕ) (nfo : LicenseExprInfo) (terms : List ExpressionReq)
+    → AllZip (λ term label. label ≡ term_label nfo term.span (hit_of policy counted term.req)) terms
+    (term_labels nfo terms (term_hits policy counted terms))
 
 -- ---- hits of crates
 
 -- a crate's expression has a term that this allows
-abbrev pub HasTerm : Policy → CrateRecord → Hit → LicenseInfo → Type 0
-HasTerm policy krate hit Unlicensed = ⊥
-HasTerm policy krate hit (SpdxExpression expression nfo) =
-    Any (λ (term : ExpressionReq). hit_of policy krate term.req ≡ Some hit) expression.terms
+abbrev pub HasTerm : Policy → List ℕ → Hit → LicenseInfo → Type 0
+HasTerm policy counted hit Unlicensed = ⊥
+HasTerm policy counted hit (SpdxExpression expression nfo) =
+    Any (λ (term : ExpressionReq). hit_of policy counted term.req ≡ Some hit) expression.terms
 
 -- so has a crate that is not skipped
 pub record Needs (policy : Policy) (hit : Hit) (asked : GatheredCrate) (verdict : Verdict) : Type 0 where
   pub asks : is_skipped verdict ≡ false
-  pub term : HasTerm policy asked.krate hit asked.info
+  pub term : HasTerm policy asked.exceptions hit asked.info
 
 -- some crate does
 abbrev pub IsNeeded : Policy → List GatheredCrate → List Verdict → Hit → Type 0

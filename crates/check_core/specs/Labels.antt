@@ -1,6 +1,5 @@
 -- Where the labels of what the check tells lie, and what those of terms cut out.
-use Rattle.std.specs.Prelude.{◌≡◌, List, ◌++◌, All, ⊤}
-use Rattle.graph_core.specs.Krate.{CrateRecord}
+use Rattle.std.specs.Prelude.{◌≡◌, ℕ, List, ◌++◌, All, ⊤}
 use Rattle.diag_core.specs.declared.overrides.ErrorSink.{ErrorSink}
 use Rattle.diag_core.specs.declared.pack.Diag.{Diag}
 use Rattle.diag_core.specs.File.{File}
@@ -26,10 +25,10 @@ GainLies files old new = (packs : List PackOf) × (new.packs ≡ old.packs ++ pa
 
 -- the labels of a verdict: the first cuts out the expression, and each further one just its own term, or where the text
 -- was written with escapes each is the whole string
-abbrev pub InfoPoints : List File → Policy → CrateRecord → LicenseInfo → Type 0
-InfoPoints files policy krate Unlicensed = ⊤
-InfoPoints files policy krate (SpdxExpression expression nfo) =
-    LabelsPoint files expression nfo (term_hits policy krate expression.terms)
+abbrev pub InfoPoints : List File → Policy → List ℕ → LicenseInfo → Type 0
+InfoPoints files policy counted Unlicensed = ⊤
+InfoPoints files policy counted (SpdxExpression expression nfo) =
+    LabelsPoint files expression nfo (term_hits policy counted expression.terms)
 
 abbrev pub VerdictPoints : List File → Policy → GatheredCrate → Type 0
-VerdictPoints files policy asked = InfoPoints files policy asked.krate asked.info
+VerdictPoints files policy asked = InfoPoints files policy asked.exceptions asked.info

@@ -54,15 +54,17 @@ code_and_notes code notes = record { code = Some code; notes = notes }
 pub record CheckRow : Type 0 where
   pub skips : Bool
   pub policy : Policy
+  pub counted : List ℕ
   pub info : LicenseInfo
   pub judgement : Judgement
   pub hits : List Hit
   pub findings : List CodeAndNotes
 
 -- with a finding and a note that were gathered
-abbrev gathered_crate : LicenseInfo → GatheredCrate
-gathered_crate info = record {
+abbrev gathered_crate : List ℕ → LicenseInfo → GatheredCrate
+gathered_crate counted info = record {
   krate = crate_a;
+  exceptions = counted;
   info = info;
   gathered = finding Warning GatherFailure [] [] [] ∷ [];
   notes = codes "a note" ∷ [];
@@ -73,28 +75,35 @@ abbrev pub judged_row : CheckRow → CheckRow
 judged_row row = record {
   skips = row.skips;
   policy = row.policy;
+  counted = row.counted;
   info = row.info;
-  judgement = verdict_of row.skips row.policy crate_a (expression_of row.info);
-  hits = hits_by row.skips row.policy (gathered_crate row.info);
-  findings = map seen_of (findings_by row.skips row.policy (gathered_crate row.info));
+  judgement = verdict_of row.skips row.policy row.counted (expression_of row.info);
+  hits = hits_by row.skips row.policy (gathered_crate row.counted row.info);
+  findings = map seen_of (findings_by row.skips row.policy (gathered_crate row.counted row.info));
 }
 
--- of a crate that is not passed over
-abbrev row : List LicenseReq → List Grant → LicenseInfo → Judgement → List ℕ → List Hit → CheckRow
-row licensees grants info judgement code hits = record {
+-- of a crate that is not passed over, by the exceptions at some places
+abbrev row_by : List ℕ → List LicenseReq → List Grant → LicenseInfo → Judgement → List ℕ → List Hit → CheckRow
+row_by counted licensees grants info judgement code hits = record {
   skips = false;
   policy = policy licensees grants;
+  counted = counted;
   info = info;
   judgement = judgement;
   hits = hits;
   findings = code_and_notes (codes "gather-failure") [] ∷ code_and_notes code (codes "a note" ∷ []) ∷ [];
 }
 
--- of one that is
+-- of one for which no exception counts
+abbrev row : List LicenseReq → List Grant → LicenseInfo → Judgement → List ℕ → List Hit → CheckRow
+row licensees grants info judgement code hits = row_by [] licensees grants info judgement code hits
+
+-- of one that is passed over
 abbrev accepted_row : LicenseInfo → CheckRow
 accepted_row info = record {
   skips = true;
   policy = policy (mit ∷ []) [];
+  counted = [];
   info = info;
   judgement = skipped;
   hits = [];
@@ -112,10 +121,18 @@ rows =
     ∷ row [] [] one_term rejected (codes "rejected") []
     -- of two equal entries the second is no hit
     ∷ row (mit ∷ mit ∷ []) [] one_term accepted (codes "accepted") (Allowed 0 ∷ [])
-    -- the first exception of the crate alone is asked, and before what is allowed
-    ∷ row [] (grant (codes "a") (isc ∷ []) ∷ grant (codes "a") (mit ∷ []) ∷ []) one_term rejected (codes "rejected") []
-    ∷ row (mit ∷ []) (grant (codes "b") (mit ∷ []) ∷ grant (codes "a") (isc ∷ mit ∷ []) ∷ []) one_term accepted
-    (codes "accepted") (Exception 1 1 ∷ [])
+    -- the exceptions that count are asked, each of them and no other, before what is allowed
+    ∷ row_by (0 ∷ []) [] (grant (codes "a") (isc ∷ []) ∷ grant (codes "a") (mit ∷ []) ∷ []) one_term rejected
+    (codes "rejected") []
+    ∷ row_by (0 ∷ 1 ∷ []) [] (grant (codes "a") (isc ∷ []) ∷ grant (codes "a") (mit ∷ []) ∷ []) one_term accepted
+    (codes "accepted") (Exception 1 0 ∷ [])
+    ∷ row_by (1 ∷ []) (mit ∷ []) (grant (codes "b") (mit ∷ []) ∷ grant (codes "a") (isc ∷ mit ∷ []) ∷ []) one_term
+    accepted (codes "accepted") (Exception 1 1 ∷ [])
+    -- each term by its own exception, and a crate that is rejected since one of two does not count
+    ∷ row_by (0 ∷ 1 ∷ []) [] (grant (codes "a") (isc ∷ []) ∷ grant (codes "a") (mit ∷ []) ∷ []) both_terms accepted
+    (codes "accepted") (Exception 1 0 ∷ Exception 0 0 ∷ [])
+    ∷ row_by (0 ∷ []) [] (grant (codes "a") (isc ∷ []) ∷ grant (codes "a") (mit ∷ []) ∷ []) both_terms rejected
+    (codes "rejected") (Exception 0 0 ∷ [])
     -- without an expression
     ∷ row (mit ∷ []) [] Unlicensed unlicensed (codes "unlicensed") []
     -- passed over, also without an expression

@@ -1,7 +1,6 @@
 -- How many entries the check asks at most.
 use Rattle.std.specs.Prelude.{◌↔◌, ℕ, ◌+◌, Bool, true, false, IsTrue, List, [], ◌∷◌}
 use Rattle.std.specs.List.{AllZip}
-use Rattle.graph_core.specs.Krate.{CrateRecord}
 use Rattle.gather_core.specs.declared.findings.license.LicenseInfo.{LicenseInfo}
 use Rattle.gather_core.specs.declared.findings.license.LicenseInfo.TheVariants.{SpdxExpression, Unlicensed}
 use Rattle.policy_core.specs.valid.Policy.{IsPrivate, Policy}
@@ -9,14 +8,14 @@ use Rattle.check_core.specs.evaluate.Entries.{entries_of_terms}
 use Rattle.check_core.specs.Turns.{GatheredCrate}
 
 -- those for the terms of a crate's expression; none where it has no expression
-abbrev pub entries_of_info : Policy → CrateRecord → LicenseInfo → ℕ
-entries_of_info policy krate Unlicensed = 0
-entries_of_info policy krate (SpdxExpression expression nfo) = entries_of_terms policy krate expression.terms
+abbrev pub entries_of_info : Policy → List ℕ → LicenseInfo → ℕ
+entries_of_info policy counted Unlicensed = 0
+entries_of_info policy counted (SpdxExpression expression nfo) = entries_of_terms policy counted expression.terms
 
 -- none for a crate that is passed over
 abbrev pub entries_for : Bool → Policy → GatheredCrate → ℕ
 entries_for true policy asked = 0
-entries_for false policy asked = entries_of_info policy asked.krate asked.info
+entries_for false policy asked = entries_of_info policy asked.exceptions asked.info
 
 -- which crates are passed over
 abbrev pub ArePassedOver : Policy → List GatheredCrate → List Bool → Type 0

@@ -12,6 +12,7 @@ use Rattle.check_core.specs.Turns.{GatheredCrate}
 abbrev pub gathered_of_license : KrateLicense → GatheredCrate
 gathered_of_license license = record {
   krate = krate_of license;
+  exceptions = license.exceptions;
   info = license.lic_info;
   gathered = license.diags;
   notes = license.notes;

@@ -6,7 +6,6 @@ ghost use Rattle.spdx_core.specs.declared.certificates.verdict.Hit.{Hit};
 ghost use Rattle.diag_core.specs.Overrides.{pack_overridden};
 ghost use Rattle.policy_core.specs.valid.View.{policy_of};
 ghost use Rattle.check_core.specs.evaluate.Entries.{entry_families};
-ghost use Rattle.check_core.specs.evaluate.Evaluation.{exception_numbers};
 ghost use Rattle.check_core.specs.evaluate.Private.{private_numbers};
 ghost use Rattle.check_core.specs.unused.Flags.{flags_by};
 ghost use Rattle.check_core.specs.unused.Laws.{EntriesLie};
@@ -84,7 +83,6 @@ fn judge_in_order<L: Ledger>(
     steps: &mut Steps<L>,
 ) -> Result<CrateReports, AllocError>
     requires room { All (λ license. spec.nodes_in license.lic_info ≤ checker.old.nodes) licenses }
-    requires exceptions { exception_numbers (policy_of policy.now) ≡ checker.old.numbers }
     requires families { entry_families (policy_of policy.now) ≡ checker.old.families }
     requires private { private_numbers (policy_of policy.now) ≡ checker.old.private }
     requires flags { checker.old.flags ≡ flags_by policy.now [] }
@@ -161,7 +159,8 @@ fn judge_with_room<L: Ledger>(
 /// The reports on the crates of a summary, in order. What is found goes into the sink: a pack of each crate, in
 /// order, and then always one of the policy's entries that allow no term, which may be empty. Where memory is
 /// refused the sink has the packs of some first crates. A step is counted for each entry that is asked for a term:
-/// those of the term's family, in the crate's exception and in what is allowed, at most once each.
+/// those of the term's family, in each exception that counts for the crate and in what is allowed, at most once
+/// each.
 #[tactic(auto, using(crate::proofs::LabelLemmas::all_fit))]
 pub fn check<L: Ledger>(
     alloc: Global,

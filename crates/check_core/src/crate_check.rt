@@ -2,14 +2,12 @@
 //! Called by `judge_with_room` of `check`; a checker's three parts may be made in any order.
 ghost use Rattle.std.specs.Prelude.{◌≡◌, ◌↔◌, ◌+◌, ◌≤◌, ◌++◌, ◌∷◌, ◌⊎◌, [], Bool, IsTrue, List, IfOk, OnErr, length};
 ghost use Rattle.std.specs.Prelude.{false};
-ghost use Rattle.graph_core.specs.Krate.{record_of};
 ghost use Rattle.spdx_core.specs.Reading.{postfix};
 ghost use Rattle.spdx_core.specs.declared.certificates.verdict.Hit.{Hit};
 ghost use Rattle.gather_core.specs.Gathered.{krate_of};
 ghost use Rattle.policy_core.specs.valid.Policy.{IsPrivate};
 ghost use Rattle.policy_core.specs.valid.View.{policy_of};
 ghost use Rattle.check_core.specs.evaluate.Entries.{entries_of_terms, entry_families};
-ghost use Rattle.check_core.specs.evaluate.Evaluation.{exception_numbers};
 ghost use Rattle.check_core.specs.evaluate.Private.{private_numbers};
 ghost use Rattle.check_core.specs.unused.Flags.{flags_by};
 ghost use Rattle.check_core.specs.unused.Unused as unused;
@@ -64,7 +62,6 @@ impl Model for Checker {
 
     ghost view = { λ c. record {
       nodes = c.evaluator.nodes;
-      numbers = c.evaluator.numbers;
       families = c.evaluator.families;
       private = c.private;
       flags = c.encountered;
@@ -122,7 +119,6 @@ impl Checker {
     ) -> Result<Checker, AllocError>
         ensures { IfOk result (λ checker. checker ≡ record {
           nodes = nodes;
-          numbers = exception_numbers (policy_of policy.now);
           families = entry_families (policy_of policy.now);
           private = private_numbers (policy_of policy.now);
           flags = flags_by policy.now [];
@@ -149,27 +145,27 @@ impl Checker {
         steps: &mut Steps<L>,
     ) -> Result<ToldVerdict, AllocError>
         requires room { length (postfix expr.now.tree) ≤ self.old.nodes }
-        requires exceptions { exception_numbers (policy_of policy.now) ≡ self.old.numbers }
         requires families { entry_families (policy_of policy.now) ≡ self.old.families }
         requires fits { PlaceFits nfo.now (length expr.now.text) }
         ensures nodes { self.new.nodes ≡ self.old.nodes }
-        ensures numbers { self.new.numbers ≡ self.old.numbers }
         ensures families { self.new.families ≡ self.old.families }
         ensures private { self.new.private ≡ self.old.private }
-        ensures verdict { let krate = record_of license.now.krate.now in
-            IfOk result (λ answer. IsCertified (policy_of policy.now) krate expr.now answer.verdict) }
-        ensures told { let krate = record_of license.now.krate.now in
+        ensures verdict { let counted = license.now.exceptions in
+            IfOk result (λ answer. IsCertified (policy_of policy.now) counted expr.now answer.verdict) }
+        ensures told { let asked = gathered_of_license license.now in
             let info = LicenseInfo.SpdxExpression expr.now nfo.now in IfOk result (λ answer.
-            answer.told ≡ verdict_finding (policy_of policy.now) krate info license.now.notes) }
+            answer.told ≡ verdict_finding (policy_of policy.now) asked.krate asked.exceptions info asked.notes) }
         ensures hits { let info = LicenseInfo.SpdxExpression expr.now nfo.now in
             (before : List Hit) → self.old.flags ≡ flags_by policy.now before
             → self.new.flags ≡ flags_by policy.now
-            (before ++ hits_of (policy_of policy.now) (record_of license.now.krate.now) info) }
+            (before ++ hits_of (policy_of policy.now) license.now.exceptions info) }
         ensures steps { steps.old ≤ steps.new }
-        ensures bound { let krate = record_of license.now.krate.now in
-            steps.new ≤ steps.old + entries_of_terms (policy_of policy.now) krate expr.now.terms }
+        ensures bound { let counted = license.now.exceptions in
+            steps.new ≤ steps.old + entries_of_terms (policy_of policy.now) counted expr.now.terms }
     {
-        let accepted = self.evaluator.evaluate(expr, license.krate, policy, steps);
+        let accepted = self
+            .evaluator
+            .evaluate(expr, &license.exceptions, policy, steps);
         self.encountered.mark_all(self.evaluator.hits());
         let verdict = self.evaluator.certificate(alloc, expr)?;
         let hits = self.evaluator.hits();
@@ -186,23 +182,22 @@ impl Checker {
         steps: &mut Steps<L>,
     ) -> Result<ToldVerdict, AllocError>
         requires room { nodes_in license.now.lic_info ≤ self.old.nodes }
-        requires exceptions { exception_numbers (policy_of policy.now) ≡ self.old.numbers }
         requires families { entry_families (policy_of policy.now) ≡ self.old.families }
         requires fits { InfoFits license.now.lic_info }
         ensures nodes { self.new.nodes ≡ self.old.nodes }
-        ensures numbers { self.new.numbers ≡ self.old.numbers }
         ensures families { self.new.families ≡ self.old.families }
         ensures private { self.new.private ≡ self.old.private }
         ensures verdict { let asked = gathered_of_license license.now in IfOk result (λ answer.
-            IsCertifiedOrUnlicensed (policy_of policy.now) asked.krate (expression_of asked.info) answer.verdict) }
+            IsCertifiedOrUnlicensed (policy_of policy.now) asked.exceptions (expression_of asked.info) answer.verdict) }
         ensures told { let asked = gathered_of_license license.now in IfOk result (λ answer.
-            answer.told ≡ verdict_finding (policy_of policy.now) asked.krate asked.info asked.notes) }
+            answer.told
+            ≡ verdict_finding (policy_of policy.now) asked.krate asked.exceptions asked.info asked.notes) }
         ensures hits { (before : List Hit) → self.old.flags ≡ flags_by policy.now before
             → self.new.flags ≡ flags_by policy.now
             (before ++ hits_by false (policy_of policy.now) (gathered_of_license license.now)) }
         ensures steps { steps.old ≤ steps.new }
         ensures bound { let asked = gathered_of_license license.now in
-            steps.new ≤ steps.old + entries_of_info (policy_of policy.now) asked.krate asked.info }
+            steps.new ≤ steps.old + entries_of_info (policy_of policy.now) asked.exceptions asked.info }
     {
         match &license.lic_info {
             LicenseInfo::SpdxExpression { expr, nfo } => {
@@ -221,15 +216,13 @@ impl Checker {
         steps: &mut Steps<L>,
     ) -> Result<JudgedCrate, AllocError>
         requires room { nodes_in license.lic_info ≤ self.old.nodes }
-        requires exceptions { exception_numbers (policy_of policy.now) ≡ self.old.numbers }
         requires families { entry_families (policy_of policy.now) ≡ self.old.families }
         requires fits { InfoFits license.lic_info }
         ensures nodes { self.new.nodes ≡ self.old.nodes }
-        ensures numbers { self.new.numbers ≡ self.old.numbers }
         ensures families { self.new.families ≡ self.old.families }
         ensures private { self.new.private ≡ self.old.private }
         ensures verdict { let asked = gathered_of_license license.entry in IfOk result (λ judged.
-            IsCertifiedOrUnlicensed (policy_of policy.now) asked.krate (expression_of asked.info)
+            IsCertifiedOrUnlicensed (policy_of policy.now) asked.exceptions (expression_of asked.info)
             judged.report.verdict) }
         ensures report { IfOk result (λ judged. judged.report ≡ report_of license.entry judged.report.verdict) }
         ensures pack { IfOk result (λ judged.
@@ -239,7 +232,7 @@ impl Checker {
             (before ++ hits_by false (policy_of policy.now) (gathered_of_license license.entry)) }
         ensures steps { steps.old ≤ steps.new }
         ensures bound { let asked = gathered_of_license license.entry in
-            steps.new ≤ steps.old + entries_of_info (policy_of policy.now) asked.krate asked.info }
+            steps.new ≤ steps.old + entries_of_info (policy_of policy.now) asked.exceptions asked.info }
     {
         let answer = self.answer(alloc, policy, &license, steps)?;
         tell(alloc, license, answer.verdict, answer.told)
@@ -256,16 +249,15 @@ impl Checker {
         steps: &mut Steps<L>,
     ) -> Result<JudgedCrate, AllocError>
         requires room { nodes_in license.lic_info ≤ self.old.nodes }
-        requires exceptions { exception_numbers (policy_of policy.now) ≡ self.old.numbers }
         requires families { entry_families (policy_of policy.now) ≡ self.old.families }
         requires private { private_numbers (policy_of policy.now) ≡ self.old.private }
         requires fits { InfoFits license.lic_info }
         ensures nodes { self.new.nodes ≡ self.old.nodes }
-        ensures numbers { self.new.numbers ≡ self.old.numbers }
         ensures families { self.new.families ≡ self.old.families }
         ensures private { self.new.private ≡ self.old.private }
         ensures verdict { let asked = gathered_of_license license.entry in IfOk result (λ judged.
-            IsVerdict (policy_of policy.now) asked.krate (expression_of asked.info) judged.report.verdict) }
+            IsVerdict (policy_of policy.now) asked.krate asked.exceptions (expression_of asked.info)
+            judged.report.verdict) }
         ensures report { IfOk result (λ judged. judged.report ≡ report_of license.entry judged.report.verdict) }
         ensures pack { let asked = gathered_of_license license.entry in IfOk result (λ judged.
             judged.pack ≡ pack_by (is_skipped judged.report.verdict) (policy_of policy.now) asked) }

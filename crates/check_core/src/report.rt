@@ -59,6 +59,7 @@ pub(crate) fn report_on(
         notes,
         diags,
         reads,
+        exceptions: _,
     } = license;
     let id = Text::copy(alloc, krate.id.as_str())?;
     let (expression, source) = parts_of(lic_info);

@@ -1,23 +1,23 @@
 -- Recorded entries and terms: what the tests of them say, and what the policy's hits are.
 use Rattle.std.proofs.Common.{◌≡◌, ◌∙◌, refl, sym, ap, subst, inl, inr, ℕ, zero, suc, ◌+◌, ◌<◌, Bool, true, false, true≢false, cond, ◌&&◌, ◌||◌, List, [], ◌∷◌, length, map, slice_get, Option, Some, None, is_some, option_map, arith}
 use Rattle.std.specs.List.{AllByRecursion, AllZip, list_all, list_any}
-use Rattle.std.specs.Option.{option_map_or, option_or, option_to_list}
+use Rattle.std.specs.Option.{option_map_or, option_or}
 use Rattle.std.proofs.lemmas.Bool.{or_parts}
 use Rattle.spdx_terms.specs.declared.term.ExpressionReq.{ExpressionReq}
 use Rattle.spdx_terms.specs.declared.term.LicenseReq.{LicenseReq}
 use Rattle.spdx_core.specs.declared.certificates.verdict.Hit.{Hit}
 use Rattle.spdx_core.specs.declared.certificates.verdict.Hit.TheVariants.{Allowed, Exception}
 use Rattle.spdx_core.specs.certificates.Certificates.{has_hit, hit_at}
-use Rattle.graph_core.specs.Krate.{CrateRecord}
 use Rattle.policy_parts.specs.spec.Index.{first_of, places_from}
-use Rattle.policy_core.specs.valid.Policy.{Policy, exception_hit, first_entry, first_exception, granted_licensees, hit_by, hit_of}
+use Rattle.policy_core.specs.valid.Policy.{Policy, exception_hit, first_entry, granted_hit, granted_licensees, hit_of}
 use Rattle.policy_core.specs.valid.Satisfied.{satisfies}
 use Rattle.policy_core.proofs.valid.SatisfiedLemmas.{decides}
 use Rattle.check_core.specs.evaluate.Evaluation.{term_hits}
 use Rattle.check_core.proofs.evaluate.PlaceLemmas.{found}
 use Rattle.check_verify.specs.Right.{AllowsTerm, HasEntry, HasNoEntry, SatisfiesAt}
-use Rattle.check_verify.specs.Terms.{are_allowed, counted_of, hit_or_none_by, is_allowed_by, is_among, satisfies_at}
+use Rattle.check_verify.specs.Terms.{are_allowed, hit_or_none_by, is_allowed_by, is_among, satisfies_at}
 use Rattle.check_verify.proofs.Choices.{Has, among_has, and_parts, has_among}
+use Rattle.check_verify.proofs.LawLemmas.{contains_has, has_contains}
 
 -- ---- what is there
 
@@ -118,54 +118,67 @@ some_map : (make : ℕ → Hit) (entry : Option ℕ) → is_some entry ≡ true 
 some_map make (Some place) e = refl
 some_map make None e = absurd (true≢false (sym e))
 
-counted_at : (counted : Option ℕ) (exception : ℕ) → Has (option_to_list counted) exception → counted ≡ Some exception
-counted_at None exception at = absurd at
-counted_at (Some other) exception (inl same) = ap Some (sym same)
-counted_at (Some other) exception (inr none) = absurd none
+module _ (policy : Policy) (counted : List ℕ) (term : LicenseReq) where
+  abbrev granted : List ℕ → Option Hit
+  granted places = granted_hit policy.exceptions places term
 
-module _ (policy : Policy) (krate : CrateRecord) (term : LicenseReq) where
+  abbrev by_allowed : Option Hit
+  by_allowed = option_map Allowed (first_entry policy.allowed term)
+
+  -- where one of some exceptions has a hit, they have
+  granted_some : (places : List ℕ) (exception : ℕ) → Has places exception → is_some (exception_hit policy.exceptions exception term) ≡ true → is_some (granted places) ≡ true
+  granted_some [] exception at e = absurd at
+  granted_some (place ∷ places) exception (inl same) e =
+      some_first (exception_hit policy.exceptions place term) (granted places) (ap (λ (one : ℕ). is_some (exception_hit policy.exceptions one term)) (sym same) ∙ e)
+  granted_some (place ∷ places) exception (inr at) e = some_or (exception_hit policy.exceptions place term) (granted places) (granted_some places exception at e)
+
   -- a term that an entry satisfies has a hit
-  allows_some : (hit : Hit) → AllowsTerm policy krate term hit → is_some (hit_of policy krate term) ≡ true
+  allows_some : (hit : Hit) → AllowsTerm policy counted term hit → is_some (hit_of policy counted term) ≡ true
   allows_some (Allowed entry) at =
-      some_or (exception_hit policy.exceptions (first_exception policy krate) term) (option_map Allowed (first_entry policy.allowed term))
-      (some_map Allowed (first_entry policy.allowed term) (some_entry policy.allowed term entry at))
+      some_or (granted counted) by_allowed (some_map Allowed (first_entry policy.allowed term) (some_entry policy.allowed term entry at))
   allows_some (Exception exception entry) at =
       let licensees = granted_licensees policy.exceptions exception in
-      some_first (exception_hit policy.exceptions (first_exception policy krate) term) (option_map Allowed (first_entry policy.allowed term))
-      (ap (λ (counted : Option ℕ). is_some (exception_hit policy.exceptions counted term)) at.0 ∙ some_map (Exception exception) (first_entry licensees term) (some_entry licensees term entry at.1))
+      some_first (granted counted) by_allowed
+      (granted_some counted exception (contains_has counted exception at.0) (some_map (Exception exception) (first_entry licensees term) (some_entry licensees term entry at.1)))
 
   -- and the entry of its hit satisfies it
-  allowed_by : (hit : Hit) (entry : Option ℕ) → first_entry policy.allowed term ≡ entry → option_map Allowed entry ≡ Some hit → AllowsTerm policy krate term hit
+  allowed_by : (hit : Hit) (entry : Option ℕ) → first_entry policy.allowed term ≡ entry → option_map Allowed entry ≡ Some hit → AllowsTerm policy counted term hit
   allowed_by hit None is e = absurd (none_apart hit e)
-  allowed_by hit (Some entry) is e = subst (AllowsTerm policy krate term) (some_is (Allowed entry) hit e) (entry_at policy.allowed term entry is)
+  allowed_by hit (Some entry) is e = subst (AllowsTerm policy counted term) (some_is (Allowed entry) hit e) (entry_at policy.allowed term entry is)
 
-  granted_by : (hit : Hit) (exception : ℕ) → first_exception policy krate ≡ Some exception → (entry : Option ℕ) → first_entry (granted_licensees policy.exceptions exception) term ≡ entry
-      → option_or (option_map (Exception exception) entry) (option_map Allowed (first_entry policy.allowed term)) ≡ Some hit → AllowsTerm policy krate term hit
-  granted_by hit exception counts None is e = allowed_by hit (first_entry policy.allowed term) refl e
-  granted_by hit exception counts (Some entry) is e =
-      subst (AllowsTerm policy krate term) (some_is (Exception exception entry) hit e) (counts, entry_at (granted_licensees policy.exceptions exception) term entry is)
+  granted_first : (hit : Hit) (place : ℕ) → Has counted place → (rest : Option Hit) → (option_or rest by_allowed ≡ Some hit → AllowsTerm policy counted term hit)
+      → (entry : Option ℕ) → first_entry (granted_licensees policy.exceptions place) term ≡ entry
+      → option_or (option_or (option_map (Exception place) entry) rest) by_allowed ≡ Some hit → AllowsTerm policy counted term hit
+  granted_first hit place counts rest more None is e = more e
+  granted_first hit place counts rest more (Some entry) is e =
+      subst (AllowsTerm policy counted term) (some_is (Exception place entry) hit e)
+      (has_contains counted place counts, entry_at (granted_licensees policy.exceptions place) term entry is)
 
-  allows_by : (hit : Hit) (counted : Option ℕ) → first_exception policy krate ≡ counted → hit_by policy counted term ≡ Some hit → AllowsTerm policy krate term hit
-  allows_by hit None is e = allowed_by hit (first_entry policy.allowed term) refl e
-  allows_by hit (Some exception) is e = granted_by hit exception is (first_entry (granted_licensees policy.exceptions exception) term) refl e
+  granted_by : (places : List ℕ) → ((one : ℕ) → Has places one → Has counted one) → (hit : Hit) → option_or (granted places) by_allowed ≡ Some hit → AllowsTerm policy counted term hit
+  granted_by [] inside hit e = allowed_by hit (first_entry policy.allowed term) refl e
+  granted_by (place ∷ places) inside hit e =
+      granted_first hit place (inside place (inl refl)) (granted places) (λ rest. granted_by places (λ one at. inside one (inr at)) hit rest)
+      (first_entry (granted_licensees policy.exceptions place) term) refl e
+
+  allows_by : (hit : Hit) → hit_of policy counted term ≡ Some hit → AllowsTerm policy counted term hit
+  allows_by hit e = granted_by counted (λ one at. at) hit e
 
   -- the test of a recorded hit
-  allowed_hit : (hit : Hit) → is_allowed_by policy (counted_of policy krate) term hit ≡ true → AllowsTerm policy krate term hit
+  allowed_hit : (hit : Hit) → is_allowed_by policy counted term hit ≡ true → AllowsTerm policy counted term hit
   allowed_hit (Allowed entry) e = entry_by policy.allowed entry term (slice_get policy.allowed entry) refl e
   allowed_hit (Exception exception entry) e =
       let licensees = granted_licensees policy.exceptions exception in
-      let parts = and_parts (is_among (counted_of policy krate) exception) (satisfies_at licensees entry term) e in (
-        counted_at (first_exception policy krate) exception (among_has (counted_of policy krate) exception parts.0),
+      let parts = and_parts (is_among counted exception) (satisfies_at licensees entry term) e in (
+        has_contains counted exception (among_has counted exception parts.0),
         entry_by licensees entry term (slice_get licensees entry) refl parts.1,
       )
 
-  hit_allowed : (hit : Hit) → AllowsTerm policy krate term hit → is_allowed_by policy (counted_of policy krate) term hit ≡ true
+  hit_allowed : (hit : Hit) → AllowsTerm policy counted term hit → is_allowed_by policy counted term hit ≡ true
   hit_allowed (Allowed entry) at = entry_test policy.allowed entry term at
   hit_allowed (Exception exception entry) at =
       let licensees = granted_licensees policy.exceptions exception in
-      both_true (is_among (counted_of policy krate) exception) (satisfies_at licensees entry term)
-      (ap (λ (counted : Option ℕ). is_among (option_to_list counted) exception) at.0 ∙ has_among (exception ∷ []) exception (inl refl))
-      (entry_test licensees entry term at.1)
+      both_true (is_among counted exception) (satisfies_at licensees entry term)
+      (has_among counted exception (contains_has counted exception at.0)) (entry_test licensees entry term at.1)
 
 -- ---- the hits of terms, place by place
 
@@ -185,86 +198,86 @@ there_hit f [] place hit e = absurd (none_apart hit e)
 there_hit f (term ∷ terms) zero hit e = (term, refl, e)
 there_hit f (term ∷ terms) (suc place) hit e = there_hit f terms place hit e
 
-module _ (policy : Policy) (krate : CrateRecord) (terms : List ExpressionReq) where
+module _ (policy : Policy) (counted : List ℕ) (terms : List ExpressionReq) where
   abbrev term_hit : ExpressionReq → Option Hit
-  term_hit term = hit_of policy krate term.req
+  term_hit term = hit_of policy counted term.req
 
   -- ---- entries
 
   abbrev allows_at : Hit → Option ExpressionReq → Bool
-  allows_at hit there = option_map_or (λ (term : ExpressionReq). is_allowed_by policy (counted_of policy krate) term.req hit) there false
+  allows_at hit there = option_map_or (λ (term : ExpressionReq). is_allowed_by policy counted term.req hit) there false
 
-  entry_here : (place : ℕ) (hit : Hit) (there : Option ExpressionReq) → slice_get terms place ≡ there → allows_at hit there ≡ true → HasEntry policy krate terms place hit
+  entry_here : (place : ℕ) (hit : Hit) (there : Option ExpressionReq) → slice_get terms place ≡ there → allows_at hit there ≡ true → HasEntry policy counted terms place hit
   entry_here place hit None is e = absurd (true≢false (sym e))
-  entry_here place hit (Some term) is e = record { term = term; is_there = is; allowed = allowed_hit policy krate term.req hit e }
+  entry_here place hit (Some term) is e = record { term = term; is_there = is; allowed = allowed_hit policy counted term.req hit e }
 
   -- the test of all of them
-  pub entries_of : (places : List ℕ) (hits : List Hit) → are_allowed policy (counted_of policy krate) terms places hits ≡ true → AllZip (HasEntry policy krate terms) places hits
+  pub entries_of : (places : List ℕ) (hits : List Hit) → are_allowed policy counted terms places hits ≡ true → AllZip (HasEntry policy counted terms) places hits
   entries_of [] [] e = tt
   entries_of [] (hit ∷ hits) e = absurd (true≢false (sym e))
   entries_of (place ∷ places) [] e = absurd (true≢false (sym e))
   entries_of (place ∷ places) (hit ∷ hits) e =
-      let parts = and_parts (allows_at hit (slice_get terms place)) (are_allowed policy (counted_of policy krate) terms places hits) e in
+      let parts = and_parts (allows_at hit (slice_get terms place)) (are_allowed policy counted terms places hits) e in
       (entry_here place hit (slice_get terms place) refl parts.0, entries_of places hits parts.1)
 
-  pub entries_allowed : (places : List ℕ) (hits : List Hit) → AllZip (HasEntry policy krate terms) places hits → are_allowed policy (counted_of policy krate) terms places hits ≡ true
+  pub entries_allowed : (places : List ℕ) (hits : List Hit) → AllZip (HasEntry policy counted terms) places hits → are_allowed policy counted terms places hits ≡ true
   entries_allowed [] [] each = refl
   entries_allowed [] (hit ∷ hits) each = absurd each
   entries_allowed (place ∷ places) [] each = absurd each
   entries_allowed (place ∷ places) (hit ∷ hits) each =
-      both_true (allows_at hit (slice_get terms place)) (are_allowed policy (counted_of policy krate) terms places hits)
-      (ap (allows_at hit) each.0.is_there ∙ hit_allowed policy krate each.0.term.req hit each.0.allowed) (entries_allowed places hits each.1)
+      both_true (allows_at hit (slice_get terms place)) (are_allowed policy counted terms places hits)
+      (ap (allows_at hit) each.0.is_there ∙ hit_allowed policy counted each.0.term.req hit each.0.allowed) (entries_allowed places hits each.1)
 
   -- each of their places has a hit
-  pub all_hit : (places : List ℕ) (hits : List Hit) → AllZip (HasEntry policy krate terms) places hits → list_all (has_hit (term_hits policy krate terms)) places ≡ true
+  pub all_hit : (places : List ℕ) (hits : List Hit) → AllZip (HasEntry policy counted terms) places hits → list_all (has_hit (term_hits policy counted terms)) places ≡ true
   all_hit [] [] each = refl
   all_hit [] (hit ∷ hits) each = absurd each
   all_hit (place ∷ places) [] each = absurd each
   all_hit (place ∷ places) (hit ∷ hits) each =
-      both_true (has_hit (term_hits policy krate terms) place) (list_all (has_hit (term_hits policy krate terms)) places)
-      (ap is_some (hit_there term_hit terms place each.0.term each.0.is_there) ∙ allows_some policy krate each.0.term.req hit each.0.allowed)
+      both_true (has_hit (term_hits policy counted terms) place) (list_all (has_hit (term_hits policy counted terms)) places)
+      (ap is_some (hit_there term_hit terms place each.0.term each.0.is_there) ∙ allows_some policy counted each.0.term.req hit each.0.allowed)
       (all_hit places hits each.1)
 
   -- those of the hits that are kept
-  pub entries_kept : (places : List ℕ) (hits : List Hit) → map Some hits ≡ map (hit_at (term_hits policy krate terms)) places → AllZip (HasEntry policy krate terms) places hits
+  pub entries_kept : (places : List ℕ) (hits : List Hit) → map Some hits ≡ map (hit_at (term_hits policy counted terms)) places → AllZip (HasEntry policy counted terms) places hits
   entries_kept [] [] e = tt
   entries_kept [] (hit ∷ hits) e = absurd (nil_apart (Some hit) (map Some hits) e)
-  entries_kept (place ∷ places) [] e = absurd (nil_apart (hit_at (term_hits policy krate terms) place) (map (hit_at (term_hits policy krate terms)) places) (sym e))
+  entries_kept (place ∷ places) [] e = absurd (nil_apart (hit_at (term_hits policy counted terms) place) (map (hit_at (term_hits policy counted terms)) places) (sym e))
   entries_kept (place ∷ places) (hit ∷ hits) e =
-      let kept = hit_at (term_hits policy krate terms) in
+      let kept = hit_at (term_hits policy counted terms) in
       let at = there_hit term_hit terms place hit (sym (same_head (Some hit) (kept place) (map Some hits) (map kept places) e)) in (
-        record { term = at.0; is_there = at.1; allowed = allows_by policy krate at.0.req hit (first_exception policy krate) refl at.2 },
+        record { term = at.0; is_there = at.1; allowed = allows_by policy counted at.0.req hit at.2 },
         entries_kept places hits (same_tail (Some hit) (kept place) (map Some hits) (map kept places) e),
       )
 
   -- ---- places without one
 
   abbrev hit_or_none : Option ExpressionReq → Bool
-  hit_or_none there = option_map_or (λ (term : ExpressionReq). is_some (hit_by policy (first_exception policy krate) term.req)) there true
+  hit_or_none there = option_map_or (λ (term : ExpressionReq). is_some (hit_of policy counted term.req)) there true
 
-  no_entry_here : (place : ℕ) (there : Option ExpressionReq) → slice_get terms place ≡ there → hit_or_none there ≡ false → HasNoEntry policy krate terms place
+  no_entry_here : (place : ℕ) (there : Option ExpressionReq) → slice_get terms place ≡ there → hit_or_none there ≡ false → HasNoEntry policy counted terms place
   no_entry_here place None is e = absurd (true≢false e)
-  no_entry_here place (Some term) is e = record { term = term; is_there = is; no_hit = none_is (hit_of policy krate term.req) e }
+  no_entry_here place (Some term) is e = record { term = term; is_there = is; no_hit = none_is (hit_of policy counted term.req) e }
 
   -- the test of all of them
-  pub no_entries_of : (places : List ℕ) → list_any (hit_or_none_by policy (first_exception policy krate) terms) places ≡ false → AllByRecursion (HasNoEntry policy krate terms) places
+  pub no_entries_of : (places : List ℕ) → list_any (hit_or_none_by policy counted terms) places ≡ false → AllByRecursion (HasNoEntry policy counted terms) places
   no_entries_of [] e = tt
   no_entries_of (place ∷ places) e =
-      let parts = or_parts (hit_or_none (slice_get terms place)) (list_any (hit_or_none_by policy (first_exception policy krate) terms) places) e in
+      let parts = or_parts (hit_or_none (slice_get terms place)) (list_any (hit_or_none_by policy counted terms) places) e in
       (no_entry_here place (slice_get terms place) refl parts.0, no_entries_of places parts.1)
 
-  pub no_entries_found : (places : List ℕ) → AllByRecursion (HasNoEntry policy krate terms) places → list_any (hit_or_none_by policy (first_exception policy krate) terms) places ≡ false
+  pub no_entries_found : (places : List ℕ) → AllByRecursion (HasNoEntry policy counted terms) places → list_any (hit_or_none_by policy counted terms) places ≡ false
   no_entries_found [] each = refl
   no_entries_found (place ∷ places) each =
-      both_false (hit_or_none (slice_get terms place)) (list_any (hit_or_none_by policy (first_exception policy krate) terms) places)
+      both_false (hit_or_none (slice_get terms place)) (list_any (hit_or_none_by policy counted terms) places)
       (ap hit_or_none each.0.is_there ∙ ap is_some each.0.no_hit) (no_entries_found places each.1)
 
   -- no hit is kept there
-  pub no_hit_kept : (place : ℕ) → HasNoEntry policy krate terms place → has_hit (term_hits policy krate terms) place ≡ false
+  pub no_hit_kept : (place : ℕ) → HasNoEntry policy counted terms place → has_hit (term_hits policy counted terms) place ≡ false
   no_hit_kept place none = ap is_some (hit_there term_hit terms place none.term none.is_there ∙ none.no_hit)
 
-  pub none_kept : (places : List ℕ) → ((place : ℕ) → Has places place → place < length terms) → AllByRecursion (λ place. has_hit (term_hits policy krate terms) place ≡ false) places
-      → AllByRecursion (HasNoEntry policy krate terms) places
+  pub none_kept : (places : List ℕ) → ((place : ℕ) → Has places place → place < length terms) → AllByRecursion (λ place. has_hit (term_hits policy counted terms) place ≡ false) places
+      → AllByRecursion (HasNoEntry policy counted terms) places
   none_kept [] inside each = tt
   none_kept (place ∷ places) inside each =
       let at = term_at terms place (inside place (inl refl)) in (

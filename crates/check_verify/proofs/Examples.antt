@@ -61,15 +61,21 @@ the_id = codes "a 1.0.0"
 abbrev crate_b : CrateRecord
 crate_b = record crate_a { name = codes "b"; id = codes "b 1.0.0" }
 
+-- of a crate for which no exception counts
 abbrev seen : CrateRecord → Bool → Option ExpressionView → SeenCrate
-seen krate private expression = record { krate = krate; private = private; expression = expression }
+seen krate private expression = record { krate = krate; exceptions = []; private = private; expression = expression }
 
 abbrev item : List ℕ → RecordVerdict → RecordItem
 item id verdict = record { id = id; verdict = verdict }
 
--- why a recorded verdict on the crate alone is not right
+-- why a recorded verdict on the crate alone is not right, by the exceptions that count for it
+abbrev reason_by : List ℕ → Policy → Option ExpressionView → RecordVerdict → Option NoReason
+reason_by counted policy expression verdict =
+    reason_of policy (record { krate = crate_a; exceptions = counted; private = false; expression = expression } ∷ []) (item the_id verdict ∷ [])
+
+-- where none counts
 abbrev reason : Policy → Option ExpressionView → RecordVerdict → Option NoReason
-reason policy expression verdict = reason_of policy (seen crate_a false expression ∷ []) (item the_id verdict ∷ [])
+reason policy expression verdict = reason_by [] policy expression verdict
 
 abbrev mit_alone : Policy
 mit_alone = policy (mit ∷ []) []
@@ -78,11 +84,14 @@ mit_alone = policy (mit ∷ []) []
 abbrev isc_and_mit : Policy
 isc_and_mit = policy (isc ∷ mit ∷ []) []
 
-abbrev exception_for : List ℕ → Policy
-exception_for name = policy (mit ∷ []) (grant name (mit ∷ []) ∷ [])
+abbrev an_exception : Policy
+an_exception = policy (mit ∷ []) (grant (codes "a") (mit ∷ []) ∷ [])
 
 abbrev two_exceptions : Policy
 two_exceptions = policy [] (grant (codes "a") (isc ∷ []) ∷ grant (codes "a") (mit ∷ []) ∷ [])
+
+abbrev alike_exceptions : Policy
+alike_exceptions = policy [] (grant (codes "a") (mit ∷ []) ∷ grant (codes "a") (mit ∷ []) ∷ [])
 
 abbrev by_the_first : RecordVerdict
 by_the_first = Accepted (0 ∷ []) (Allowed 0 ∷ [])
@@ -127,13 +136,28 @@ entries : (reason (policy (isc ∷ []) []) only_mit by_the_first ≡ Some (NotSa
     × (reason mit_alone only_mit (Accepted (0 ∷ []) (Allowed 1 ∷ [])) ≡ Some (NotSatisfied the_id))
 entries = (refl, refl, refl, refl)
 
--- that of an exception, or an allowed one, whichever is recorded; only the first exception of a crate counts
-of_exceptions : (reason (exception_for (codes "a")) only_mit by_the_first ≡ None)
-    × (reason (exception_for (codes "a")) only_mit (Accepted (0 ∷ []) (Exception 0 0 ∷ [])) ≡ None)
-    × (reason (exception_for (codes "a")) only_mit (Accepted (0 ∷ []) (Exception 0 1 ∷ [])) ≡ Some (NotSatisfied the_id))
-    × (reason (exception_for (codes "b")) only_mit (Accepted (0 ∷ []) (Exception 0 0 ∷ [])) ≡ Some (NotSatisfied the_id))
-    × (reason two_exceptions only_mit (Accepted (0 ∷ []) (Exception 1 0 ∷ [])) ≡ Some (NotSatisfied the_id))
+-- an entry of exception 0, 1 or 2
+abbrev by_exception : ℕ → ℕ → RecordVerdict
+by_exception exception entry = Accepted (0 ∷ []) (Exception exception entry ∷ [])
+
+-- that of an exception that counts, or an allowed one, whichever is recorded
+of_exceptions : (reason_by (0 ∷ []) an_exception only_mit by_the_first ≡ None)
+    × (reason_by (0 ∷ []) an_exception only_mit (by_exception 0 0) ≡ None)
+    × (reason_by (0 ∷ []) an_exception only_mit (by_exception 0 1) ≡ Some (NotSatisfied the_id))
+    × (reason an_exception only_mit (by_exception 0 0) ≡ Some (NotSatisfied the_id))
+    × (reason_by (0 ∷ []) two_exceptions only_mit (by_exception 1 0) ≡ Some (NotSatisfied the_id))
 of_exceptions = (refl, refl, refl, refl, refl)
+
+-- of several that count any may be recorded whose entry satisfies; a place behind the list is none
+of_several_exceptions : (reason_by (0 ∷ 1 ∷ []) two_exceptions only_mit (by_exception 1 0) ≡ None)
+    × (reason_by (0 ∷ 1 ∷ []) two_exceptions only_mit (by_exception 0 0) ≡ Some (NotSatisfied the_id))
+    × (reason_by (0 ∷ 1 ∷ []) alike_exceptions only_mit (by_exception 0 0) ≡ None)
+    × (reason_by (0 ∷ 1 ∷ []) alike_exceptions only_mit (by_exception 1 0) ≡ None)
+    × (reason_by (0 ∷ 1 ∷ []) alike_exceptions only_mit (by_exception 2 0) ≡ Some (NotSatisfied the_id))
+    × (reason_by (0 ∷ 1 ∷ 2 ∷ []) alike_exceptions only_mit (by_exception 2 0) ≡ Some (NotSatisfied the_id))
+    × (reason_by (1 ∷ []) two_exceptions only_mit (Rejected (0 ∷ [])) ≡ Some (HasHit the_id))
+    × (reason_by (0 ∷ []) two_exceptions only_mit (Rejected (0 ∷ [])) ≡ None)
+of_several_exceptions = (refl, refl, refl, refl, refl, refl, refl, refl)
 
 -- ---- places that stand in the way, also more than are needed
 
@@ -165,11 +189,16 @@ recorded = refl
 
 -- ---- steps: one a recorded hit, and the entries of its family for each recorded place of a rejected crate
 
-abbrev steps : Policy → Option ExpressionView → RecordVerdict → ℕ
-steps policy expression verdict = steps_for policy crate_a expression verdict
-
 abbrev versions : Policy
-versions = policy (gpl3 ∷ gpl3 ∷ mit ∷ []) (grant (codes "a") (gpl3 ∷ isc ∷ []) ∷ [])
+versions = policy (gpl3 ∷ gpl3 ∷ mit ∷ []) (grant (codes "a") (gpl3 ∷ isc ∷ []) ∷ grant (codes "a") (gpl3 ∷ []) ∷ [])
+
+-- where the first of two exceptions counts
+abbrev steps : Policy → Option ExpressionView → RecordVerdict → ℕ
+steps policy expression verdict = steps_for policy (0 ∷ []) expression verdict
+
+-- where both do
+by_both : steps_for versions (0 ∷ 1 ∷ []) mit_and_either (Rejected (1 ∷ 2 ∷ [])) ≡ 4
+by_both = refl
 
 how_many : (steps versions mit_and_either (Rejected (1 ∷ 2 ∷ [])) ≡ 3) × (steps versions mit_and_either (Rejected (2 ∷ 7 ∷ [])) ≡ 3)
     × (steps versions mit_and_either (Accepted (0 ∷ 2 ∷ []) (Allowed 2 ∷ Allowed 0 ∷ [])) ≡ 2)

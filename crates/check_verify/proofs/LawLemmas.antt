@@ -10,7 +10,7 @@ use Rattle.check_verify.proofs.Choices.{Has, all_at, all_from, among_has, any_fr
 
 -- ---- items of lists, by index and one by one
 
-has_contains : {A : Type 0} (xs : List A) (x : A) → Has xs x → Contains xs x
+pub has_contains : {A : Type 0} (xs : List A) (x : A) → Has xs x → Contains xs x
 has_contains [] x at = absurd at
 has_contains (y ∷ ys) x (inl same) = subst (λ z. Contains (y ∷ ys) z) (sym same) (Contains-append_left (y ∷ []) ys y (Contains-push [] y))
 has_contains (y ∷ ys) x (inr at) = Contains-append_right (y ∷ []) ys x (has_contains ys x at)
@@ -18,7 +18,7 @@ has_contains (y ∷ ys) x (inr at) = Contains-append_right (y ∷ []) ys x (has_
 none_there : {A : Type 0} (x : A) → Contains {X = A} [] x → ⊥
 none_there x held = absurd (omega (arith, held.1))
 
-contains_has : {A : Type 0} (xs : List A) (x : A) → Contains xs x → Has xs x
+pub contains_has : {A : Type 0} (xs : List A) (x : A) → Contains xs x → Has xs x
 contains_has [] x held = absurd (none_there x held)
 contains_has (y ∷ ys) x held =
     elim (Contains-append_cases (y ∷ []) ys x held) [

@@ -17,7 +17,7 @@ use Rattle.spdx_core.specs.certificates.Certificates.{has_hit}
 use Rattle.spdx_core.specs.certificates.Choices.{choices_of}
 use Rattle.spdx_core.proofs.certificates.LawLemmas.{no_blocks}
 use Rattle.graph_core.specs.Krate.{CrateRecord}
-use Rattle.policy_core.specs.valid.Policy.{Policy, first_exception}
+use Rattle.policy_core.specs.valid.Policy.{Policy}
 use Rattle.gather_core.specs.Gathered.{krate_of}
 use Rattle.gather_core.specs.findings.License.{expression_of}
 use Rattle.gather_core.specs.declared.summary.KrateLicense.{KrateLicense}
@@ -39,7 +39,7 @@ use Rattle.check_verify.specs.Laws.{IsItemOf, NoReasonIsRight, RecordedIsRight}
 use Rattle.check_verify.specs.Reasons.{answer_by, first_reason, ids_seen, reason_of, reason_with}
 use Rattle.check_verify.specs.Recorded.{recorded_of}
 use Rattle.check_verify.specs.Right.{IsRight, IsRightOf, IsShown, IsVerdictRight, HasNoEntry, ShowsAllowed, ShowsBlocked, judgement_recorded}
-use Rattle.check_verify.specs.Terms.{are_allowed, counted_of, hit_or_none_by, is_choice, meet_each}
+use Rattle.check_verify.specs.Terms.{are_allowed, hit_or_none_by, is_choice, meet_each}
 use Rattle.check_verify.specs.Verified.{IsSeen, IsVerified}
 use Rattle.check_verify.proofs.Choices.{Has, any_from, choice_has, find_at, has_choice}
 use Rattle.check_verify.proofs.EntryLemmas.{all_hit, entries_allowed, entries_kept, entries_of, nil_apart, no_entries_found, no_entries_of, no_hit_kept, none_kept, same_head, same_tail}
@@ -86,63 +86,63 @@ unlicensed_other : (b : Bool) → unlicensed ≡ cond b accepted rejected → �
 unlicensed_other true e = absurd (let bad : unlicensed ≡ accepted = e in cc)
 unlicensed_other false e = absurd (let bad : unlicensed ≡ rejected = e in cc)
 
-module _ (policy : Policy) (krate : CrateRecord) (view : ExpressionView) where
+module _ (policy : Policy) (counted : List ℕ) (view : ExpressionView) where
   abbrev allowed : Bool
-  allowed = is_allowed policy krate view.terms view.tree
+  allowed = is_allowed policy counted view.terms view.tree
 
   abbrev kept : ℕ → Bool
-  kept = has_hit (term_hits policy krate view.terms)
+  kept = has_hit (term_hits policy counted view.terms)
 
   abbrev Without : ℕ → Type 0
-  Without = HasNoEntry policy krate view.terms
+  Without = HasNoEntry policy counted view.terms
 
   abbrev blocked : ℕ → Bool
-  blocked = hit_or_none_by policy (first_exception policy krate) view.terms
+  blocked = hit_or_none_by policy counted view.terms
 
   -- a choice of which each place has its entry is allowed
-  choice_allows : (choice : List ℕ) (hits : List Hit) → ShowsAllowed policy krate view choice hits → allowed ≡ true
+  choice_allows : (choice : List ℕ) (hits : List Hit) → ShowsAllowed policy counted view choice hits → allowed ≡ true
   choice_allows choice hits shown =
       any_from (list_all kept) (choices_of view.tree) choice (choice_has view.tree choice ((choices_held view.tree choice).1 shown.is_choice))
-      (all_hit policy krate view.terms choice hits shown.entries)
+      (all_hit policy counted view.terms choice hits shown.entries)
 
   -- places without one that meet each choice leave none allowed
-  blocks_reject : (blocks : List ℕ) → ShowsBlocked policy krate view blocks → allowed ≡ false
+  blocks_reject : (blocks : List ℕ) → ShowsBlocked policy counted view blocks → allowed ≡ false
   blocks_reject blocks shown =
       not_true allowed (λ accepts.
-      no_blocks kept view.tree blocks accepts (All-weaker Without (λ place. kept place ≡ false) (no_hit_kept policy krate view.terms) blocks shown.no_entries) shown.meet_each)
+      no_blocks kept view.tree blocks accepts (All-weaker Without (λ place. kept place ≡ false) (no_hit_kept policy counted view.terms) blocks shown.no_entries) shown.meet_each)
 
-  accepted_right : (choice : List ℕ) (hits : List Hit) → choice_fault policy krate view choice hits ≡ None → (accepted ≡ cond allowed accepted rejected) × ShowsAllowed policy krate view choice hits
+  accepted_right : (choice : List ℕ) (hits : List Hit) → choice_fault policy counted view choice hits ≡ None → (accepted ≡ cond allowed accepted rejected) × ShowsAllowed policy counted view choice hits
   accepted_right choice hits e =
-      let tests = choice_passes (is_choice view.tree choice) (are_allowed policy (counted_of policy krate) view.terms choice hits) NotSatisfied NotAChoice e in
-      let shown : ShowsAllowed policy krate view choice hits =
-      record { is_choice = (choices_held view.tree choice).0 tests.0; entries = entries_of policy krate view.terms choice hits tests.1 } in
+      let tests = choice_passes (is_choice view.tree choice) (are_allowed policy counted view.terms choice hits) NotSatisfied NotAChoice e in
+      let shown : ShowsAllowed policy counted view choice hits =
+      record { is_choice = (choices_held view.tree choice).0 tests.0; entries = entries_of policy counted view.terms choice hits tests.1 } in
       (sym (cond-true allowed accepted rejected (choice_allows choice hits shown)), shown)
 
-  right_accepted : (choice : List ℕ) (hits : List Hit) → ShowsAllowed policy krate view choice hits → choice_fault policy krate view choice hits ≡ None
+  right_accepted : (choice : List ℕ) (hits : List Hit) → ShowsAllowed policy counted view choice hits → choice_fault policy counted view choice hits ≡ None
   right_accepted choice hits shown =
-      passes_choice (is_choice view.tree choice) (are_allowed policy (counted_of policy krate) view.terms choice hits) NotSatisfied NotAChoice
-      ((choices_held view.tree choice).1 shown.is_choice) (entries_allowed policy krate view.terms choice hits shown.entries)
+      passes_choice (is_choice view.tree choice) (are_allowed policy counted view.terms choice hits) NotSatisfied NotAChoice
+      ((choices_held view.tree choice).1 shown.is_choice) (entries_allowed policy counted view.terms choice hits shown.entries)
 
-  rejected_right : (blocks : List ℕ) → blocks_fault policy krate view blocks ≡ None → (rejected ≡ cond allowed accepted rejected) × ShowsBlocked policy krate view blocks
+  rejected_right : (blocks : List ℕ) → blocks_fault policy counted view blocks ≡ None → (rejected ≡ cond allowed accepted rejected) × ShowsBlocked policy counted view blocks
   rejected_right blocks e =
       let tests = blocks_pass (list_any blocked blocks) (meet_each view.tree blocks) HasHit NotBlocking e in
-      let shown : ShowsBlocked policy krate view blocks =
-      record { no_entries = All-from_recursion Without blocks (no_entries_of policy krate view.terms blocks tests.0); meet_each = (meeting_told view.tree blocks).0 tests.1 } in
+      let shown : ShowsBlocked policy counted view blocks =
+      record { no_entries = All-from_recursion Without blocks (no_entries_of policy counted view.terms blocks tests.0); meet_each = (meeting_told view.tree blocks).0 tests.1 } in
       (sym (cond-false allowed accepted rejected (blocks_reject blocks shown)), shown)
 
-  right_rejected : (blocks : List ℕ) → ShowsBlocked policy krate view blocks → blocks_fault policy krate view blocks ≡ None
+  right_rejected : (blocks : List ℕ) → ShowsBlocked policy counted view blocks → blocks_fault policy counted view blocks ≡ None
   right_rejected blocks shown =
       pass_blocks (list_any blocked blocks) (meet_each view.tree blocks) HasHit NotBlocking
-      (no_entries_found policy krate view.terms blocks (recursion_from_All Without blocks shown.no_entries)) ((meeting_told view.tree blocks).1 shown.meet_each)
+      (no_entries_found policy counted view.terms blocks (recursion_from_All Without blocks shown.no_entries)) ((meeting_told view.tree blocks).1 shown.meet_each)
 
 -- ---- a verdict
 
-module _ (policy : Policy) (krate : CrateRecord) where
+module _ (policy : Policy) (counted : List ℕ) where
   abbrev fault_by : Bool → Option ExpressionView → RecordVerdict → Option VerdictFault
-  fault_by private expression recorded = cond private (skipped_fault recorded) (asked_fault policy krate expression recorded)
+  fault_by private expression recorded = cond private (skipped_fault recorded) (asked_fault policy counted expression recorded)
 
   right_by : (private : Bool) (expression : Option ExpressionView) (recorded : RecordVerdict) → fault_by private expression recorded ≡ None
-      → (judgement_recorded recorded ≡ verdict_of private policy krate expression) × IsShown policy krate expression recorded
+      → (judgement_recorded recorded ≡ verdict_of private policy counted expression) × IsShown policy counted expression recorded
   right_by true expression Skipped e = (refl, tt)
   right_by true expression Unlicensed e = absurd (some_apart Variant e)
   right_by true expression (Accepted choice hits) e = absurd (some_apart Variant e)
@@ -153,11 +153,11 @@ module _ (policy : Policy) (krate : CrateRecord) where
   right_by false None (Rejected blocks) e = absurd (some_apart Variant e)
   right_by false (Some view) Skipped e = absurd (some_apart Variant e)
   right_by false (Some view) Unlicensed e = absurd (some_apart Variant e)
-  right_by false (Some view) (Accepted choice hits) e = accepted_right policy krate view choice hits e
-  right_by false (Some view) (Rejected blocks) e = rejected_right policy krate view blocks e
+  right_by false (Some view) (Accepted choice hits) e = accepted_right policy counted view choice hits e
+  right_by false (Some view) (Rejected blocks) e = rejected_right policy counted view blocks e
 
-  none_by : (private : Bool) (expression : Option ExpressionView) (recorded : RecordVerdict) → judgement_recorded recorded ≡ verdict_of private policy krate expression
-      → IsShown policy krate expression recorded → fault_by private expression recorded ≡ None
+  none_by : (private : Bool) (expression : Option ExpressionView) (recorded : RecordVerdict) → judgement_recorded recorded ≡ verdict_of private policy counted expression
+      → IsShown policy counted expression recorded → fault_by private expression recorded ≡ None
   none_by true expression Skipped is shown = refl
   none_by true expression Unlicensed is shown = absurd (let bad : unlicensed ≡ skipped = is in cc)
   none_by true expression (Accepted choice hits) is shown = absurd (let bad : accepted ≡ skipped = is in cc)
@@ -166,10 +166,10 @@ module _ (policy : Policy) (krate : CrateRecord) where
   none_by false None Unlicensed is shown = refl
   none_by false None (Accepted choice hits) is shown = absurd shown
   none_by false None (Rejected blocks) is shown = absurd shown
-  none_by false (Some view) Skipped is shown = absurd (skipped_other (is_allowed policy krate view.terms view.tree) is)
-  none_by false (Some view) Unlicensed is shown = absurd (unlicensed_other (is_allowed policy krate view.terms view.tree) is)
-  none_by false (Some view) (Accepted choice hits) is shown = right_accepted policy krate view choice hits shown
-  none_by false (Some view) (Rejected blocks) is shown = right_rejected policy krate view blocks shown
+  none_by false (Some view) Skipped is shown = absurd (skipped_other (is_allowed policy counted view.terms view.tree) is)
+  none_by false (Some view) Unlicensed is shown = absurd (unlicensed_other (is_allowed policy counted view.terms view.tree) is)
+  none_by false (Some view) (Accepted choice hits) is shown = right_accepted policy counted view choice hits shown
+  none_by false (Some view) (Rejected blocks) is shown = right_rejected policy counted view blocks shown
 
 -- ---- a record
 
@@ -188,7 +188,7 @@ module _ (policy : Policy) where
   each_right (seen ∷ crates) [] same e = absurd (nil_apart seen.krate.id (ids_seen crates) (sym same))
   each_right (seen ∷ crates) (item ∷ items) same e =
       let parts = none_parts (reason_with seen.krate.id) (fault_of policy seen item.verdict) (first_reason policy crates items) e in
-      let right = right_by policy seen.krate seen.private seen.expression item.verdict parts.0 in
+      let right = right_by policy seen.exceptions seen.private seen.expression item.verdict parts.0 in
       (record { verdict = right.0; shown = right.1 }, each_right crates items (same_tail item.id seen.krate.id (ids_of items) (ids_seen crates) same) parts.1)
 
   right_each : (crates : List SeenCrate) (items : List RecordItem) → AllZip (IsVerdictRight policy) crates items → first_reason policy crates items ≡ None
@@ -197,7 +197,7 @@ module _ (policy : Policy) where
   right_each (seen ∷ crates) [] each = absurd each
   right_each (seen ∷ crates) (item ∷ items) each =
       parts_none (reason_with seen.krate.id) (fault_of policy seen item.verdict) (first_reason policy crates items)
-      (none_by policy seen.krate seen.private seen.expression item.verdict each.0.verdict each.0.shown) (right_each crates items each.1)
+      (none_by policy seen.exceptions seen.private seen.expression item.verdict each.0.verdict each.0.shown) (right_each crates items each.1)
 
   module _ (crates : List SeenCrate) (items : List RecordItem) where
     abbrev same_ids : Bool
@@ -227,24 +227,24 @@ recorded_kind verdict.Unlicensed = refl
 recorded_kind (verdict.Accepted choice hits) = refl
 recorded_kind (verdict.Rejected least blocks) = refl
 
-recorded_shown : (policy : Policy) (krate : CrateRecord) (expression : Option ExpressionView) (one : Verdict) → IfSome expression (λ view. IsExpression view.text view.terms view.tree)
-    → IsVerdictShown (is_skipped one) policy krate expression one → IsShown policy krate expression (recorded_of one)
-recorded_shown policy krate expression verdict.Skipped facts shown = tt
-recorded_shown policy krate expression verdict.Unlicensed facts shown = tt
-recorded_shown policy krate None (verdict.Accepted choice hits) facts shown = absurd cc
-recorded_shown policy krate (Some view) (verdict.Accepted choice hits) facts shown = record {
-  is_choice = (choices_held view.tree choice).0 (has_choice view.tree choice (find_at (list_all (has_hit (term_hits policy krate view.terms))) (choices_of view.tree) choice shown.first).0);
-  entries = entries_kept policy krate view.terms choice hits shown.place_by_place;
+recorded_shown : (policy : Policy) (counted : List ℕ) (expression : Option ExpressionView) (one : Verdict) → IfSome expression (λ view. IsExpression view.text view.terms view.tree)
+    → IsVerdictShown (is_skipped one) policy counted expression one → IsShown policy counted expression (recorded_of one)
+recorded_shown policy counted expression verdict.Skipped facts shown = tt
+recorded_shown policy counted expression verdict.Unlicensed facts shown = tt
+recorded_shown policy counted None (verdict.Accepted choice hits) facts shown = absurd cc
+recorded_shown policy counted (Some view) (verdict.Accepted choice hits) facts shown = record {
+  is_choice = (choices_held view.tree choice).0 (has_choice view.tree choice (find_at (list_all (has_hit (term_hits policy counted view.terms))) (choices_of view.tree) choice shown.first).0);
+  entries = entries_kept policy counted view.terms choice hits shown.place_by_place;
 }
-recorded_shown policy krate None (verdict.Rejected least blocks) facts shown = absurd cc
-recorded_shown policy krate (Some view) (verdict.Rejected least blocks) facts shown =
-    let kept = has_hit (term_hits policy krate view.terms) in
+recorded_shown policy counted None (verdict.Rejected least blocks) facts shown = absurd cc
+recorded_shown policy counted (Some view) (verdict.Rejected least blocks) facts shown =
+    let kept = has_hit (term_hits policy counted view.terms) in
     let inside : (place : ℕ) → Has blocks place → place < length view.terms =
     λ place held. (blocks_within kept 0 (length view.terms) view.tree facts.places place (subst (λ (places : List ℕ). Has places place) shown.blocks_are held)).1 in
     record {
       no_entries =
-          All-from_recursion (HasNoEntry policy krate view.terms) blocks
-          (none_kept policy krate view.terms blocks inside (recursion_from_All (λ place. kept place ≡ false) blocks shown.without_hit));
+          All-from_recursion (HasNoEntry policy counted view.terms) blocks
+          (none_kept policy counted view.terms blocks inside (recursion_from_All (λ place. kept place ≡ false) blocks shown.without_hit));
       meet_each = shown.meet_each;
     }
 
@@ -253,8 +253,8 @@ module _ (policy : Policy) where
   recorded_right seen item of =
       let private : of.is.judged.private ≡ seen.private = same_test of.is.judged.private seen.private (λ p. p) (λ p. p) of.is.judged.tells of.flagged in
       record {
-        verdict = ap judgement_recorded of.recorded ∙ recorded_kind of.verdict ∙ of.is.judged.is ∙ ap (λ (b : Bool). verdict_of b policy seen.krate seen.expression) private;
-        shown = subst (IsShown policy seen.krate seen.expression) (sym of.recorded) (recorded_shown policy seen.krate seen.expression of.verdict of.expression of.is.shown);
+        verdict = ap judgement_recorded of.recorded ∙ recorded_kind of.verdict ∙ of.is.judged.is ∙ ap (λ (b : Bool). verdict_of b policy seen.exceptions seen.expression) private;
+        shown = subst (IsShown policy seen.exceptions seen.expression) (sym of.recorded) (recorded_shown policy seen.exceptions seen.expression of.verdict of.expression of.is.shown);
       }
 
   all_recorded : (crates : List SeenCrate) (items : List RecordItem) → AllZip (IsItemOf policy) crates items → (ids_of items ≡ ids_seen crates) × AllZip (IsVerdictRight policy) crates items
@@ -276,7 +276,7 @@ none_told (Some reason) e = absurd (let bad : No reason ≡ Yes = e in cc)
 
 module _ (policy : Policy) where
   abbrev pub IsRightAbout : KrateLicense → RecordItem → Type 0
-  IsRightAbout license item = IsRightOf policy (krate_of license) (expression_of license.lic_info) item
+  IsRightAbout license item = IsRightOf policy (krate_of license) license.exceptions (expression_of license.lic_info) item
 
   right_about : (license : KrateLicense) (seen : SeenCrate) (item : RecordItem) → IsSeen policy license seen → item.id ≡ seen.krate.id → IsVerdictRight policy seen item → IsRightAbout license item
   right_about license seen item of id right = record {
@@ -284,10 +284,10 @@ module _ (policy : Policy) where
     verdict = record {
       private = seen.private;
       tells = of.private;
-      is = right.verdict ∙ ap₂ (λ (krate : CrateRecord) (expression : Option ExpressionView). verdict_of seen.private policy krate expression) of.krate of.expression;
+      is = right.verdict ∙ ap₂ (λ (counted : List ℕ) (expression : Option ExpressionView). verdict_of seen.private policy counted expression) of.exceptions of.expression;
     };
-    shown = subst (λ (expression : Option ExpressionView). IsShown policy (krate_of license) expression item.verdict) of.expression
-        (subst (λ (krate : CrateRecord). IsShown policy krate seen.expression item.verdict) of.krate right.shown);
+    shown = subst (λ (expression : Option ExpressionView). IsShown policy license.exceptions expression item.verdict) of.expression
+        (subst (λ (counted : List ℕ). IsShown policy counted seen.expression item.verdict) of.exceptions right.shown);
   }
 
   all_about : (licenses : List KrateLicense) (crates : List SeenCrate) (items : List RecordItem) → AllZip (IsSeen policy) licenses crates → ids_of items ≡ ids_seen crates

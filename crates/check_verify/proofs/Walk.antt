@@ -1,5 +1,5 @@
 -- From one crate to the next.
-use Rattle.std.proofs.Common.{◌≡◌, ◌∙◌, refl, sym, ap, subst, ℕ, suc, ◌+◌, ◌<◌, Bool, true, false, ◌&&◌, cond, bytes_eq, List, [], ◌∷◌, ◌++◌, length, take, drop, map, get_or, Option, Some, None}
+use Rattle.std.proofs.Common.{◌≡◌, ◌∙◌, refl, sym, ap, subst, ℕ, suc, ◌+◌, ◌<◌, Bool, true, false, ◌&&◌, cond, bytes_eq, List, [], ◌∷◌, ◌++◌, length, take, drop, get_or, Option, Some, None}
 use Rattle.std.specs.Borrow.{Bor}
 use Rattle.std.specs.List.{AllZip}
 use Rattle.std.specs.Option.{option_or}
@@ -127,7 +127,7 @@ module _ (policy : Policy) where
   seen_all [] [] each = tt
   seen_all [] (private ∷ flags) each = absurd each
   seen_all (license ∷ licenses) [] each = absurd each
-  seen_all (license ∷ licenses) (private ∷ flags) each = (record { krate = refl; private = each.0; expression = refl }, seen_all licenses flags each.1)
+  seen_all (license ∷ licenses) (private ∷ flags) each = (record { krate = refl; exceptions = refl; private = each.0; expression = refl }, seen_all licenses flags each.1)
 
   ids_all : (licenses : List KrateLicense) (flags : List Bool) → AllZip (IsFlagged policy) licenses flags → ids_seen (all_seen licenses flags) ≡ ids_gathered licenses
   ids_all [] [] each = refl

@@ -33,14 +33,15 @@ abbrev pub NoReasonIsRight : Type 0
 NoReasonIsRight = (policy : Policy) (crates : List SeenCrate) (items : List RecordItem)
     → (reason_of policy crates items ≡ None) ↔ IsRight policy crates items
 
--- What `record` writes of a crate: its id, and what is recorded of the verdict that the check gives. The crate is
--- flagged as the policy has it; its expression has, as each that is read, the places of its terms.
+-- What `record` writes of a crate: its id, and what is recorded of the verdict that the check gives by the exceptions
+-- that count for it. The crate is flagged as the policy has it; its expression has, as each that is read, the places of
+-- its terms.
 pub record IsItemOf (policy : Policy) (seen : SeenCrate) (item : RecordItem) : Type 0 where
   pub flagged : IsTrue seen.private ↔ IsPrivate policy seen.krate
   pub expression : IfSome seen.expression (λ view. IsExpression view.text view.terms view.tree)
   pub id : item.id ≡ seen.krate.id
   pub verdict : Verdict
-  pub is : IsVerdict policy seen.krate seen.expression verdict
+  pub is : IsVerdict policy seen.krate seen.exceptions seen.expression verdict
   pub recorded : item.verdict ≡ recorded_of verdict
 
 -- against that there is none

@@ -1,19 +1,18 @@
 -- Whether recorded places and entries are right about the terms of an expression.
-use Rattle.std.specs.Prelude.{ℕ, ◌==◌, Bool, false, true, ◌&&◌, List, [], ◌∷◌, slice_get, Option, is_some, replicate}
+use Rattle.std.specs.Prelude.{ℕ, ◌==◌, Bool, false, true, ◌&&◌, List, [], ◌∷◌, slice_get, is_some, replicate}
 use Rattle.std.specs.Prelude.{set}
 use Rattle.std.specs.List.{list_any, list_all}
-use Rattle.std.specs.Option.{option_map_or, option_to_list}
+use Rattle.std.specs.Option.{option_map_or}
 use Rattle.std.specs.Str.{bytes_eq}
 use Rattle.spdx_terms.specs.declared.term.ExpressionReq.{ExpressionReq}
 use Rattle.spdx_terms.specs.declared.term.LicenseReq.{LicenseReq}
 use Rattle.spdx_core.specs.Grammar.{ExpressionTree}
-use Rattle.graph_core.specs.Krate.{CrateRecord}
 use Rattle.spdx_core.specs.declared.certificates.verdict.Hit.{Hit}
 use Rattle.spdx_core.specs.declared.certificates.verdict.Hit.TheVariants.{Allowed, Exception}
 use Rattle.spdx_core.specs.certificates.Choices.{choices_of}
-use Rattle.policy_core.specs.valid.Policy.{Policy, first_exception, granted_licensees, hit_by}
+use Rattle.policy_core.specs.valid.Policy.{Policy, granted_licensees, hit_of}
 use Rattle.policy_core.specs.valid.Satisfied.{satisfies}
-use Rattle.check_core.specs.evaluate.Entries.{entries_by}
+use Rattle.check_core.specs.evaluate.Entries.{entries_of}
 
 -- a number is in a list
 abbrev pub is_among : List ℕ → ℕ → Bool
@@ -28,10 +27,6 @@ abbrev pub meet_each : ExpressionTree → List ℕ → Bool
 meet_each tree places = list_all (λ choice. list_any (is_among places) choice) (choices_of tree)
 
 -- ---- entries
-
--- the exceptions that count for a crate: the first that matches it, alone
-abbrev pub counted_of : Policy → CrateRecord → List ℕ
-counted_of policy krate = option_to_list (first_exception policy krate)
 
 -- the entry at a place satisfies a term; behind the end of the list there is none
 abbrev pub satisfies_at : List LicenseReq → ℕ → LicenseReq → Bool
@@ -54,15 +49,15 @@ are_allowed policy counted terms (place ∷ places) (hit ∷ hits) =
     && are_allowed policy counted terms places hits
 
 -- a place is outside an expression, or its term has a hit
-abbrev pub hit_or_none_by : Policy → Option ℕ → List ExpressionReq → ℕ → Bool
+abbrev pub hit_or_none_by : Policy → List ℕ → List ExpressionReq → ℕ → Bool
 hit_or_none_by policy counted terms place =
-    option_map_or (λ (term : ExpressionReq). is_some (hit_by policy counted term.req)) (slice_get terms place) true
+    option_map_or (λ (term : ExpressionReq). is_some (hit_of policy counted term.req)) (slice_get terms place) true
 
--- How many entries are asked at most for the term at a place: those of its licence family in the exception that counts
+-- How many entries are asked at most for the term at a place: those of its licence family in each exception that counts
 -- and in what is allowed. For a place outside of the expression it is none.
-abbrev pub entries_at : Policy → Option ℕ → List ExpressionReq → ℕ → ℕ
+abbrev pub entries_at : Policy → List ℕ → List ExpressionReq → ℕ → ℕ
 entries_at policy counted terms place =
-    option_map_or (λ (term : ExpressionReq). entries_by policy counted term.req) (slice_get terms place) 0
+    option_map_or (λ (term : ExpressionReq). entries_of policy counted term.req) (slice_get terms place) 0
 
 -- ---- lists with something at some places. Only the contracts of private calls cite these.
 

@@ -7,8 +7,7 @@ use Rattle.spdx_core.specs.Reading.{ExpressionView}
 use Rattle.gather_core.specs.findings.License.{expression_of}
 use Rattle.gather_core.specs.declared.summary.KrateLicense.{KrateLicense}
 use Rattle.gather_core.specs.Gathered.{krate_of}
-use Rattle.graph_core.specs.Krate.{CrateRecord}
-use Rattle.policy_core.specs.valid.Policy.{IsPrivate, Policy, first_exception}
+use Rattle.policy_core.specs.valid.Policy.{IsPrivate, Policy}
 use Rattle.check_record.specs.declared.items.RecordItem.{RecordItem}
 use Rattle.check_record.specs.declared.items.RecordVerdict.{RecordVerdict}
 use Rattle.check_record.specs.declared.items.RecordVerdict.TheVariants.{Skipped, Unlicensed, Accepted, Rejected}
@@ -18,9 +17,11 @@ use Rattle.check_verify.specs.Crates.{SeenCrate}
 use Rattle.check_verify.specs.Reasons.{answer_by, first_reason, reason_of}
 use Rattle.check_verify.specs.Terms.{entries_at}
 
--- a crate is seen as it was gathered, and flagged where the policy passes it over
+-- a crate is seen as it was gathered, with the exceptions that count for it now, and flagged where the policy passes it
+-- over
 pub record IsSeen (policy : Policy) (license : KrateLicense) (seen : SeenCrate) : Type 0 where
   pub krate : seen.krate ≡ krate_of license
+  pub exceptions : seen.exceptions ≡ license.exceptions
   pub private : IsTrue seen.private ↔ IsPrivate policy (krate_of license)
   pub expression : seen.expression ≡ expression_of license.lic_info
 
@@ -38,8 +39,12 @@ abbrev pub IsFlagged : Policy → KrateLicense → Bool → Type 0
 IsFlagged policy license private = IsTrue private ↔ IsPrivate policy (krate_of license)
 
 abbrev pub seen_as : KrateLicense → Bool → SeenCrate
-seen_as license private =
-    record { krate = krate_of license; private = private; expression = expression_of license.lic_info }
+seen_as license private = record {
+  krate = krate_of license;
+  exceptions = license.exceptions;
+  private = private;
+  expression = expression_of license.lic_info;
+}
 
 abbrev pub all_seen : List KrateLicense → List Bool → List SeenCrate
 all_seen [] flags = []
@@ -59,15 +64,15 @@ terms_in expression = option_map_or (λ (view : ExpressionView). view.terms) exp
 
 -- One for each recorded hit, and for each recorded place of a rejected crate as many as there are entries for its term:
 -- those of its licence family.
-abbrev pub steps_for : Policy → CrateRecord → Option ExpressionView → RecordVerdict → ℕ
-steps_for policy krate expression Skipped = 0
-steps_for policy krate expression Unlicensed = 0
-steps_for policy krate expression (Accepted choice hits) = length hits
-steps_for policy krate expression (Rejected blocks) =
-    sum_by (entries_at policy (first_exception policy krate) (terms_in expression)) blocks
+abbrev pub steps_for : Policy → List ℕ → Option ExpressionView → RecordVerdict → ℕ
+steps_for policy counted expression Skipped = 0
+steps_for policy counted expression Unlicensed = 0
+steps_for policy counted expression (Accepted choice hits) = length hits
+steps_for policy counted expression (Rejected blocks) =
+    sum_by (entries_at policy counted (terms_in expression)) blocks
 
 abbrev pub steps_at : Policy → KrateLicense → RecordItem → ℕ
-steps_at policy license item = steps_for policy (krate_of license) (expression_of license.lic_info) item.verdict
+steps_at policy license item = steps_for policy license.exceptions (expression_of license.lic_info) item.verdict
 
 abbrev pub all_steps : Policy → List KrateLicense → List RecordItem → ℕ
 all_steps policy [] items = 0

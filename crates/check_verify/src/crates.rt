@@ -1,12 +1,9 @@
 //! What is wrong with a crate's recorded verdict.
 //! Called by `first_reason` of `verifying`; either test may run first, the fault that is named is in a clause.
 ghost use Rattle.std.specs.Prelude.{◌≡◌, ◌+◌, ◌≤◌, IfOk, None, Some, length, map, sum_by};
-ghost use Rattle.graph_core.specs.Krate.{record_of};
-ghost use Rattle.policy_core.specs.valid.Policy.{first_exception};
 ghost use Rattle.policy_core.specs.valid.View.{policy_of};
 ghost use Rattle.gather_core.specs.findings.License.{expression_of};
 ghost use Rattle.check_verify.specs.Crates as spec;
-ghost use Rattle.check_verify.specs.Crates.{SeenCrate};
 ghost use Rattle.check_core.specs.evaluate.Entries.{entry_families};
 ghost use Rattle.check_verify.specs.Terms.{entries_at};
 ghost use Rattle.check_verify.specs.Verified.{steps_for};
@@ -18,19 +15,17 @@ use check_core::evaluate::EntryIndex;
 use check_record::RecordVerdict;
 use deny_text::Steps;
 use gather_core::LicenseInfo;
-use graph_core::Krate;
 use policy_core::valid::CountedPolicy;
+use policy_parts::spec::Places;
 use spdx_core::Expression;
 use spdx_core::certificates::Hit;
 use std::alloc::{AllocError, Global};
 use std::sync::ledger::Ledger;
 
-/// A crate with the exception that counts for it, and where the entries of each licence family are in the
-/// policy.
+/// The exceptions that count for a crate, and where the entries of each licence family are in the policy.
 #[derive(Clone, Copy)]
 pub struct CrateInPolicy<'k> {
-    pub krate: &'k Krate,
-    pub counted: Option<usize>,
+    pub counted: &'k Places,
     pub index: &'k EntryIndex,
 }
 
@@ -44,11 +39,9 @@ fn choice_fault<L: Ledger>(
     hits: &[Hit],
     steps: &mut Steps<L>,
 ) -> Result<Option<VerdictFault>, AllocError>
-    requires counted { asked.now.counted
-        ≡ first_exception (policy_of policy.now) (record_of asked.now.krate.now) }
     requires families { entry_families (policy_of policy.now) ≡ asked.now.index.now }
-    ensures fault { let krate = record_of asked.now.krate.now in IfOk result (λ fault.
-        fault ≡ spec.choice_fault (policy_of policy.now) krate expr.now choice.now hits.now) }
+    ensures fault { let counted = asked.now.counted.now in IfOk result (λ fault.
+        fault ≡ spec.choice_fault (policy_of policy.now) counted expr.now choice.now hits.now) }
     ensures steps { steps.old ≤ steps.new }
     ensures bound { steps.new ≤ steps.old + length hits.now }
 {
@@ -72,14 +65,12 @@ fn blocks_fault<L: Ledger>(
     blocks: &[usize],
     steps: &mut Steps<L>,
 ) -> Result<Option<VerdictFault>, AllocError>
-    requires counted { asked.now.counted
-        ≡ first_exception (policy_of policy.now) (record_of asked.now.krate.now) }
     requires families { entry_families (policy_of policy.now) ≡ asked.now.index.now }
-    ensures fault { let krate = record_of asked.now.krate.now in IfOk result (λ fault.
-        fault ≡ spec.blocks_fault (policy_of policy.now) krate expr.now blocks.now) }
+    ensures fault { let counted = asked.now.counted.now in IfOk result (λ fault.
+        fault ≡ spec.blocks_fault (policy_of policy.now) counted expr.now blocks.now) }
     ensures steps { steps.old ≤ steps.new }
     ensures bound { steps.new
-        ≤ steps.old + sum_by (entries_at (policy_of policy.now) asked.now.counted expr.now.terms) blocks.now }
+        ≤ steps.old + sum_by (entries_at (policy_of policy.now) asked.now.counted.now expr.now.terms) blocks.now }
 {
     if any_has_hit(
         policy,
@@ -107,15 +98,12 @@ fn certificate_fault<L: Ledger>(
     verdict: &RecordVerdict,
     steps: &mut Steps<L>,
 ) -> Result<Option<VerdictFault>, AllocError>
-    requires counted { asked.now.counted
-        ≡ first_exception (policy_of policy.now) (record_of asked.now.krate.now) }
     requires families { entry_families (policy_of policy.now) ≡ asked.now.index.now }
-    ensures fault { let krate = record_of asked.now.krate.now in IfOk result (λ fault.
-        fault ≡ spec.certificate_fault (policy_of policy.now) krate expr.now verdict.now) }
+    ensures fault { let counted = asked.now.counted.now in IfOk result (λ fault.
+        fault ≡ spec.certificate_fault (policy_of policy.now) counted expr.now verdict.now) }
     ensures steps { steps.old ≤ steps.new }
     ensures bound { steps.new
-        ≤ steps.old + steps_for (policy_of policy.now) (record_of asked.now.krate.now)
-        (Some expr.now) verdict.now }
+        ≤ steps.old + steps_for (policy_of policy.now) asked.now.counted.now (Some expr.now) verdict.now }
 {
     match verdict {
         RecordVerdict::Accepted { choice, hits } => {
@@ -165,15 +153,13 @@ fn asked_fault<L: Ledger>(
     verdict: &RecordVerdict,
     steps: &mut Steps<L>,
 ) -> Result<Option<VerdictFault>, AllocError>
-    requires counted { asked.now.counted
-        ≡ first_exception (policy_of policy.now) (record_of asked.now.krate.now) }
     requires families { entry_families (policy_of policy.now) ≡ asked.now.index.now }
-    ensures fault { let krate = record_of asked.now.krate.now in IfOk result (λ fault.
-        fault ≡ spec.asked_fault (policy_of policy.now) krate (expression_of info.now) verdict.now) }
+    ensures fault { let counted = asked.now.counted.now in IfOk result (λ fault.
+        fault ≡ spec.asked_fault (policy_of policy.now) counted (expression_of info.now) verdict.now) }
     ensures steps { steps.old ≤ steps.new }
     ensures bound { steps.new
-        ≤ steps.old + steps_for (policy_of policy.now) (record_of asked.now.krate.now)
-        (expression_of info.now) verdict.now }
+        ≤ steps.old + steps_for (policy_of policy.now) asked.now.counted.now (expression_of info.now)
+        verdict.now }
 {
     match info {
         LicenseInfo::SpdxExpression { expr, .. } => {
@@ -193,16 +179,13 @@ pub fn fault_of<L: Ledger>(
     verdict: &RecordVerdict,
     steps: &mut Steps<L>,
 ) -> Result<Option<VerdictFault>, AllocError>
-    requires counted { asked.now.counted
-        ≡ first_exception (policy_of policy.now) (record_of asked.now.krate.now) }
     requires families { entry_families (policy_of policy.now) ≡ asked.now.index.now }
-    ensures fault { let krate = record_of asked.now.krate.now in
-        let seen : SeenCrate = record { krate = krate; private = private; expression = expression_of info.now } in
-        IfOk result (λ fault. fault ≡ spec.fault_of (policy_of policy.now) seen verdict.now) }
+    ensures fault { let counted = asked.now.counted.now in IfOk result (λ fault.
+        fault ≡ spec.fault_by private (policy_of policy.now) counted (expression_of info.now) verdict.now) }
     ensures steps { steps.old ≤ steps.new }
     ensures bound { steps.new
-        ≤ steps.old + steps_for (policy_of policy.now) (record_of asked.now.krate.now)
-        (expression_of info.now) verdict.now }
+        ≤ steps.old + steps_for (policy_of policy.now) asked.now.counted.now (expression_of info.now)
+        verdict.now }
 {
     if private {
         Ok(skipped_fault(verdict))

@@ -8,7 +8,6 @@ ghost use Rattle.gather_core.specs.Gathered.{krate_of};
 ghost use Rattle.policy_core.specs.valid.Policy.{IsPrivate};
 ghost use Rattle.policy_core.specs.valid.View.{policy_of};
 ghost use Rattle.check_core.specs.evaluate.Entries.{entry_families};
-ghost use Rattle.check_core.specs.evaluate.Evaluation.{exception_numbers};
 ghost use Rattle.check_record.specs.Items.{ids_of};
 ghost use Rattle.check_verify.specs.Verified.{IsFirst, IsFlagged, IsVerified, all_steps, ids_gathered};
 
@@ -19,7 +18,6 @@ use check_record::{Record, RecordItem};
 use deny_text::{Steps, Text};
 use gather_core::{KrateLicense, Summary};
 use policy_core::valid::CountedPolicy;
-use policy_parts::spec::SpecIndex;
 use std::alloc::{AllocError, Global};
 use std::sync::ledger::Ledger;
 
@@ -57,14 +55,12 @@ fn same_ids(licenses: &[KrateLicense<'_>], items: &[RecordItem]) -> bool
 fn first_reason<L: Ledger>(
     alloc: Global,
     policy: &CountedPolicy<'_, L>,
-    exceptions: &SpecIndex,
     index: &EntryIndex,
     licenses: &[KrateLicense<'_>],
     flags: &[bool],
     items: &[RecordItem],
     steps: &mut Steps<L>,
 ) -> Result<Option<NoReason>, AllocError>
-    requires numbers { exception_numbers (policy_of policy.now) ≡ exceptions.now }
     requires families { entry_families (policy_of policy.now) ≡ index.now }
     requires flags { AllZip (IsFlagged (policy_of policy.now)) licenses.now flags.now }
     ensures reason { IfOk result (IsFirst (policy_of policy.now) licenses.now flags.now items.now) }
@@ -77,8 +73,7 @@ fn first_reason<L: Ledger>(
         };
         let license = &licenses[place];
         let asked = CrateInPolicy {
-            krate: license.krate,
-            counted: policy.first_exception(exceptions, license.krate),
+            counted: &license.exceptions,
             index,
         };
         let private = flags[place];
@@ -121,19 +116,9 @@ pub fn verify<L: Ledger>(
     if !same_ids(licenses, items) {
         return Ok(VerifyAnswer::No(NoReason::Crates));
     }
-    let exceptions = policy.exception_index(alloc)?;
     let index = EntryIndex::of(alloc, policy)?;
     let flags = flags.as_slice();
-    match first_reason(
-        alloc,
-        policy,
-        &exceptions,
-        &index,
-        licenses,
-        flags,
-        items,
-        steps,
-    )? {
+    match first_reason(alloc, policy, &index, licenses, flags, items, steps)? {
         Some(reason) => Ok(VerifyAnswer::No(reason)),
         None => Ok(VerifyAnswer::Yes),
     }

@@ -1,7 +1,9 @@
 -- A text on one line, written piece by piece.
-use Rattle.std.proofs.Common.{◌≡◌, ◌≢◌, refl, ap, ap₂, sym, ◌∙◌, ℕ, suc, ◌<◌, List, [], ◌∷◌, ◌++◌, append_assoc, length, get_or, arith, Result, Ok, Err, is_ok, OnOk, if◌then◌else◌}
+use Rattle.std.proofs.Common.{◌≡◌, ◌≢◌, refl, ap, ap₂, sym, ◌∙◌, ℕ, suc, ◌<◌, List, [], ◌∷◌, ◌++◌, append_assoc, length, get_or, arith, Result, Ok, Err, is_ok, OnOk, if◌then◌else◌, Bool, true, false, ◌||◌}
 use borrow.Author.Tests.{ne_eqb}
 use Rattle.std.proofs.lemmas.Bool.{cond-false}
+use Rattle.std.specs.List.{list_any}
+use Rattle.diag_core.specs.Position.{is_line_feed}
 use Rattle.diag_print.specs.Human.{flat_byte, flat_text}
 
 -- no byte is a line feed
@@ -34,3 +36,12 @@ flat_step old middle new line after rest whole cut lacks first second e =
 pub OnOk-appended : {T E : Type 0} (result : Result T E) (old rest new whole : List ℕ) → new ≡ (if is_ok result then old ++ rest else old) → old ++ rest ≡ whole → OnOk result (new ≡ whole)
 OnOk-appended (Ok value) old rest new whole appended e = appended ∙ e
 OnOk-appended (Err error) old rest new whole appended e = tt
+
+flat_by : (b : Bool) (byte : ℕ) (text : List ℕ) → (list_any is_line_feed text ≡ false → flat_text text ≡ text) → (b || list_any is_line_feed text) ≡ false → (if b then 32 else byte) ∷ flat_text text ≡ byte ∷ text
+flat_by true byte text rest none = let bad : true ≡ false = none in cc
+flat_by false byte text rest none = ap (λ others. byte ∷ others) (rest none)
+
+-- a text in which no line feed is found stays as it is
+pub flat-none : (text : List ℕ) → list_any is_line_feed text ≡ false → flat_text text ≡ text
+flat-none [] none = refl
+flat-none (byte ∷ text) none = flat_by (is_line_feed byte) byte text (flat-none text) none

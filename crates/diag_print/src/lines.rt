@@ -10,6 +10,9 @@ use crate::json_line::push_json_line;
 use diag_core::{Diagnostic, Files};
 use std::alloc::{AllocError, Global};
 
+/// The bytes that the lines of a finding have room for from the start.
+const LINES_ROOM: usize = 512;
+
 /// Appends the lines for a person. They are made apart, so that all are appended or none.
 fn push_human(
     out: &mut String,
@@ -21,7 +24,7 @@ fn push_human(
     ensures ok { OnOk result (string_bytes out.new ≡ string_bytes out.old ++ human_lines files.now diag.now) }
     ensures err { OnErr result (string_bytes out.new ≡ string_bytes out.old) }
 {
-    let mut lines = String::new(alloc);
+    let mut lines = String::with_capacity(alloc, LINES_ROOM)?;
     push_lines(&mut lines, files, diag)?;
     out.push_str(lines.as_str())
 }

@@ -27,13 +27,13 @@ use Rattle.gather_license.specs.declared.settle.SettledLicense.{SettledLicense}
 use Rattle.gather_license.specs.Calls.{IsByReads}
 use Rattle.gather_license.specs.Clarification.{ClarificationView, named_files}
 use Rattle.gather_license.specs.Priority.{folder_of, is_nothing, looks_at_files, records_of}
-use Rattle.gather_license.specs.Settled.{IsSettledBy}
-use Rattle.gather_core.specs.declared.turn.LocatedLicense.{LocatedLicense}
+use Rattle.gather_license.specs.Settled.{IsSettledFrom}
 use Rattle.gather_core.specs.Calls.{IsByOwnReads, StarvesTaking}
-use Rattle.gather_core.specs.Taken.{IsLocatedWhere, IsTaken, is_clarified, turn_with}
-use Rattle.gather_core.specs.Turns.{asks_manifest, field_text, in_order, located_where, not_asked, records_in}
+use Rattle.gather_core.specs.Exceptions.{ExceptionRules}
+use Rattle.gather_core.specs.Taken.{IsBegunFrom, IsLocatedWhere, is_clarified, turn_with}
+use Rattle.gather_core.specs.Turns.{asks_manifest, field_text, in_order, located_where, not_asked, records_before}
 use Rattle.gather_core.proofs.PlacedLemmas.{grows_by}
-use Rattle.gather_core.proofs.TakenLemmas.{asked_where, located_at, taken_first, taken_last}
+use Rattle.gather_core.proofs.TakenLemmas.{asked_where, begun_first, begun_last, begun_of, located_at}
 
 -- ---- the first read of those that are asked for, among reads that follow one another
 
@@ -92,7 +92,7 @@ of_located path field files manifest true (Some id) = record { listings = refl; 
 pub of_manifests : (asks : Bool) (krate : CrateRecord) (files : List File) (manifest : ReadResult) → AreManifests (option_to_list (located_where asks krate files manifest).read)
 of_manifests asks krate files manifest = of_located krate.manifest_path (field_text krate) files manifest asks (file_id_at files krate.manifest_path)
 
-no_file : (known_reads : FolderReads) (paths : List (List ℕ)) → HasNoManifest (map (file_record known_reads) paths)
+pub no_file : (known_reads : FolderReads) (paths : List (List ℕ)) → HasNoManifest (map (file_record known_reads) paths)
 no_file known_reads [] = refl
 no_file known_reads (path ∷ paths) = no_file known_reads paths
 
@@ -214,112 +214,123 @@ with_next reads more next = ap (λ l. l ++ next) (records_in-append reads more) 
 abbrev manifest_asked : Bool → CrateRecord → List File → ReadResult → List ReadRecord
 manifest_asked asks krate files manifest = option_to_list (located_where asks krate files manifest).read
 
--- the records of a turn, by what is read
-abbrev pub wanted : Scanner → ℕ → List ClarificationView → CrateRecord → List File → FolderReads → ReadResult → List ReadRecord
-wanted scanner policy clarifications krate files known_reads manifest = records_in (turn_with scanner policy clarifications krate known_reads manifest files)
+-- the records of a turn before the files of exceptions are looked at, by what is read
+abbrev pub wanted : Scanner → ℕ → List ClarificationView → ExceptionRules → CrateRecord → List File → FolderReads → ReadResult → List ReadRecord
+wanted scanner policy clarifications exceptions krate files known_reads manifest = records_before (turn_with scanner policy clarifications exceptions krate known_reads manifest files)
 
 -- the manifest first
-wanted_first : (scanner : Scanner) (policy : ℕ) (clarifications : List ClarificationView) (krate : CrateRecord) (files : List File) (known_reads : FolderReads) (manifest : ReadResult) → is_nothing clarifications ≡ true
-    → wanted scanner policy clarifications krate files known_reads manifest ≡ manifest_asked (is_some krate.license) krate files manifest ++ records_of scanner clarifications krate known_reads
-wanted_first scanner policy [] krate files known_reads manifest none = refl
-wanted_first scanner policy (one ∷ more) krate files known_reads manifest none = cc
+wanted_first : (scanner : Scanner) (policy : ℕ) (clarifications : List ClarificationView) (exceptions : ExceptionRules) (krate : CrateRecord) (files : List File) (known_reads : FolderReads) (manifest : ReadResult) → is_nothing clarifications ≡ true
+    → wanted scanner policy clarifications exceptions krate files known_reads manifest ≡ manifest_asked (is_some krate.license) krate files manifest ++ records_of scanner clarifications krate known_reads
+wanted_first scanner policy [] exceptions krate files known_reads manifest none = refl
+wanted_first scanner policy (one ∷ more) exceptions krate files known_reads manifest none = cc
 
 -- the files first
-wanted_last : (scanner : Scanner) (policy : ℕ) (clarifications : List ClarificationView) (krate : CrateRecord) (files : List File) (known_reads : FolderReads) (manifest : ReadResult) → is_nothing clarifications ≡ false
-    → wanted scanner policy clarifications krate files known_reads manifest ≡ records_of scanner clarifications krate known_reads ++ manifest_asked (asks_manifest clarifications krate known_reads) krate files manifest
-wanted_last scanner policy clarifications krate files known_reads manifest some =
+wanted_last : (scanner : Scanner) (policy : ℕ) (clarifications : List ClarificationView) (exceptions : ExceptionRules) (krate : CrateRecord) (files : List File) (known_reads : FolderReads) (manifest : ReadResult) → is_nothing clarifications ≡ false
+    → wanted scanner policy clarifications exceptions krate files known_reads manifest ≡ records_of scanner clarifications krate known_reads ++ manifest_asked (asks_manifest clarifications krate known_reads) krate files manifest
+wanted_last scanner policy clarifications exceptions krate files known_reads manifest some =
     ap (λ b. in_order b (located_where (asks_manifest clarifications krate known_reads) krate files manifest).read (records_of scanner clarifications krate known_reads)) some
 
--- ---- what was taken
+-- ---- what the turn begins with
 
-module _ (scanner : Scanner) (policy : ℕ) (clarifications : List ClarificationView) (krate : CrateRecord) (files : List File) (located : LocatedField) (settled : SettledLicense) (left : List File) where
-  abbrev pub taken_of : List ReadRecord → LocatedLicense
-  taken_of reads = record { by = settled.by; missing = settled.missing; location = located.location; reads = reads }
+module _ (scanner : Scanner) (policy : ℕ) (clarifications : List ClarificationView) (exceptions : ExceptionRules) (krate : CrateRecord) (files : List File) (located : LocatedField) (settled : SettledLicense) (left : List File) where
+  abbrev pub IsBegunSo : FolderReads → ReadResult → Type 0
+  IsBegunSo known_reads manifest = IsBegunFrom (turn_with scanner policy clarifications exceptions krate known_reads manifest files) (begun_of located settled) left
 
-  abbrev pub IsTakenSo : List ReadRecord → FolderReads → ReadResult → Type 0
-  IsTakenSo reads known_reads manifest = IsTaken (turn_with scanner policy clarifications krate known_reads manifest files) (taken_of reads) left
-
-  -- memory was wanting behind all reads of the turn
-  pub starves_taken : {told tells : Option Content} {before after : ℕ} {old new : List Call} (reads : List ReadRecord)
-      → IsByOwnReads told tells before after old new (folder_of krate) reads (IsTakenSo reads) → StarvesTaking told tells before after old new (folder_of krate) (wanted scanner policy clarifications krate files)
-  starves_taken reads by = starves_behind (folder_of krate) reads (IsTakenSo reads) (wanted scanner policy clarifications krate files) (λ known_reads manifest is. is.reads) by
+  abbrev pub reads_begun : List ReadRecord
+  reads_begun = in_order (is_nothing clarifications) located.read settled.pack.reads
 
   module _ {told mid tells : Option Content} {before middle after : ℕ} {old between new : List Call} where
     -- the manifest was read, where it was asked for, and then the files
     pub own_first : is_nothing clarifications ≡ true
         → IsByOwnReads told mid before middle old between (folder_of krate) (option_to_list located.read) (λ known_reads manifest. IsLocatedWhere (is_some krate.license) krate files manifest located left)
-        → IsByReads mid tells middle after between new (folder_of krate) settled.reads (λ known_reads. IsSettledBy scanner clarifications krate known_reads settled)
-        → (reads : List ReadRecord) → reads ≡ option_to_list located.read ++ settled.reads
-        → IsByOwnReads told tells before after old new (folder_of krate) reads (IsTakenSo reads)
-    own_first none here then reads behind =
+        → IsByReads mid tells middle after between new (folder_of krate) settled.pack.reads (λ known_reads. IsSettledFrom scanner clarifications krate known_reads settled)
+        → IsByOwnReads told tells before after old new (folder_of krate) reads_begun IsBegunSo
+    own_first none here then =
         let asks = is_some krate.license in
         let manifest = manifest_by here.reads in
         let known_reads = known_reads_by then.reads in
+        let from = then.is_so in
         let all_known_reads : known_reads_by (here.reads ++ then.reads) ≡ known_reads =
         known_reads_behind here.reads then.reads
         (subst AreManifests (sym (here.recorded_are ∙ ap (λ (l : LocatedField). option_to_list l.read) here.is_so.located_is)) (of_manifests asks krate files manifest)) in
         let all_manifest : manifest_by (here.reads ++ then.reads) ≡ manifest =
-        manifest_before here.reads then.reads (subst HasNoManifest (sym (then.records ∙ then.is_so.reads_are)) (no_manifest scanner clarifications krate known_reads)) in
+        manifest_before here.reads then.reads (subst HasNoManifest (sym (then.records ∙ (from.by_any known_reads from.agrees).reads_are)) (no_manifest scanner clarifications krate known_reads)) in
+        let is : IsBegunSo known_reads manifest =
+        record {
+          folder = from.folder;
+          made = from.made;
+          agrees = from.agrees;
+          by_any = λ other agrees. begun_first scanner policy clarifications exceptions krate other manifest files located settled left none here.is_so (from.by_any other agrees);
+        } in
         record {
           reads = here.reads ++ then.reads;
-          recorded_are = records_in-append here.reads then.reads ∙ ap₂ (λ (front back : List ReadRecord). front ++ back) here.recorded_are then.records ∙ sym behind;
+          recorded_are =
+              records_in-append here.reads then.reads ∙ ap₂ (λ (front back : List ReadRecord). front ++ back) here.recorded_are then.records
+              ∙ sym (ap (λ b. in_order b located.read settled.pack.reads) none);
           made = reads_joined (folder_of krate) here.reads then.reads here.made then.made;
           is_so =
-              subst (λ (heard : FolderReads). IsTakenSo reads heard (manifest_by (here.reads ++ then.reads))) (sym all_known_reads)
-              (subst (IsTakenSo reads known_reads) (sym all_manifest)
-              (taken_first scanner policy clarifications krate known_reads manifest files located settled left reads none here.is_so then.is_so behind));
+              subst (λ (heard : FolderReads). IsBegunSo heard (manifest_by (here.reads ++ then.reads))) (sym all_known_reads)
+              (subst (IsBegunSo known_reads) (sym all_manifest) is);
         }
 
     -- the files were read, and then the manifest, where it was asked for
     pub own_last : is_nothing clarifications ≡ false
-        → IsByReads told mid before middle old between (folder_of krate) settled.reads (λ known_reads. IsSettledBy scanner clarifications krate known_reads settled)
+        → IsByReads told mid before middle old between (folder_of krate) settled.pack.reads (λ known_reads. IsSettledFrom scanner clarifications krate known_reads settled)
         → IsByOwnReads mid tells middle after between new (folder_of krate) (option_to_list located.read)
         (λ known_reads manifest. IsLocatedWhere (not (is_clarified settled.by) && is_some krate.license) krate files manifest located left)
-        → (reads : List ReadRecord) → reads ≡ settled.reads ++ option_to_list located.read
-        → IsByOwnReads told tells before after old new (folder_of krate) reads (IsTakenSo reads)
-    own_last some here then reads behind =
+        → IsByOwnReads told tells before after old new (folder_of krate) reads_begun IsBegunSo
+    own_last some here then =
         let asks = not (is_clarified settled.by) && is_some krate.license in
         let known_reads = known_reads_by here.reads in
         let manifest = manifest_by then.reads in
+        let from = here.is_so in
         let all_known_reads : known_reads_by (here.reads ++ then.reads) ≡ known_reads =
         known_reads_before here.reads then.reads
         (subst AreManifests (sym (then.recorded_are ∙ ap (λ (l : LocatedField). option_to_list l.read) then.is_so.located_is)) (of_manifests asks krate files manifest)) in
         let all_manifest : manifest_by (here.reads ++ then.reads) ≡ manifest =
-        manifest_behind here.reads then.reads (subst HasNoManifest (sym (here.records ∙ here.is_so.reads_are)) (no_manifest scanner clarifications krate known_reads)) in
+        manifest_behind here.reads then.reads (subst HasNoManifest (sym (here.records ∙ (from.by_any known_reads from.agrees).reads_are)) (no_manifest scanner clarifications krate known_reads)) in
+        let is : IsBegunSo known_reads manifest =
+        record {
+          folder = from.folder;
+          made = from.made;
+          agrees = from.agrees;
+          by_any = λ other agrees. begun_last scanner policy clarifications exceptions krate other manifest files located settled left (from.by_any other agrees) then.is_so;
+        } in
         record {
           reads = here.reads ++ then.reads;
-          recorded_are = records_in-append here.reads then.reads ∙ ap₂ (λ (front back : List ReadRecord). front ++ back) here.records then.recorded_are ∙ sym behind;
+          recorded_are =
+              records_in-append here.reads then.reads ∙ ap₂ (λ (front back : List ReadRecord). front ++ back) here.records then.recorded_are
+              ∙ sym (ap (λ b. in_order b located.read settled.pack.reads) some);
           made = reads_joined (folder_of krate) here.reads then.reads here.made then.made;
           is_so =
-              subst (λ (heard : FolderReads). IsTakenSo reads heard (manifest_by (here.reads ++ then.reads))) (sym all_known_reads)
-              (subst (IsTakenSo reads known_reads) (sym all_manifest)
-              (taken_last scanner policy clarifications krate known_reads manifest files located settled left reads some here.is_so then.is_so behind));
+              subst (λ (heard : FolderReads). IsBegunSo heard (manifest_by (here.reads ++ then.reads))) (sym all_known_reads)
+              (subst (IsBegunSo known_reads) (sym all_manifest) is);
         }
 
 -- ---- for want of memory
 
-module _ {told tells : Option Content} {before after : ℕ} {old new : List Call} (scanner : Scanner) (policy : ℕ) (clarifications : List ClarificationView) (krate : CrateRecord) (files : List File) where
+module _ {told tells : Option Content} {before after : ℕ} {old new : List Call} (scanner : Scanner) (policy : ℕ) (clarifications : List ClarificationView) (exceptions : ExceptionRules) (krate : CrateRecord) (files : List File) where
   -- as the manifest was read before the files
   pub starves_first : is_nothing clarifications ≡ true → StarvesTaking told tells before after old new (folder_of krate) (λ known_reads manifest. option_to_list (located_where (is_some krate.license) krate files manifest).read)
-      → StarvesTaking told tells before after old new (folder_of krate) (wanted scanner policy clarifications krate files)
+      → StarvesTaking told tells before after old new (folder_of krate) (wanted scanner policy clarifications exceptions krate files)
   starves_first none starves =
-      starves_wider (folder_of krate) (λ known_reads manifest. manifest_asked (is_some krate.license) krate files manifest) (wanted scanner policy clarifications krate files)
-      (λ known_reads manifest. (records_of scanner clarifications krate known_reads, wanted_first scanner policy clarifications krate files known_reads manifest none)) starves
+      starves_wider (folder_of krate) (λ known_reads manifest. manifest_asked (is_some krate.license) krate files manifest) (wanted scanner policy clarifications exceptions krate files)
+      (λ known_reads manifest. (records_of scanner clarifications krate known_reads, wanted_first scanner policy clarifications exceptions krate files known_reads manifest none)) starves
 
   -- as the files were read before the manifest
   pub starves_last : is_nothing clarifications ≡ false → StarvesAmong told tells before after old new (folder_of krate) (records_of scanner clarifications krate)
-      → StarvesTaking told tells before after old new (folder_of krate) (wanted scanner policy clarifications krate files)
+      → StarvesTaking told tells before after old new (folder_of krate) (wanted scanner policy clarifications exceptions krate files)
   starves_last some starves =
-      starves_wider (folder_of krate) (λ known_reads manifest. records_of scanner clarifications krate known_reads) (wanted scanner policy clarifications krate files)
-      (λ known_reads manifest. (manifest_asked (asks_manifest clarifications krate known_reads) krate files manifest, wanted_last scanner policy clarifications krate files known_reads manifest some))
+      starves_wider (folder_of krate) (λ known_reads manifest. records_of scanner clarifications krate known_reads) (wanted scanner policy clarifications exceptions krate files)
+      (λ known_reads manifest. (manifest_asked (asks_manifest clarifications krate known_reads) krate files manifest, wanted_last scanner policy clarifications exceptions krate files known_reads manifest some))
       (record { reads = starves.reads; next = starves.next; made = starves.made; front = starves.front })
 
-module _ {told mid tells : Option Content} {before middle after : ℕ} {old between new : List Call} (scanner : Scanner) (policy : ℕ) (clarifications : List ClarificationView) (krate : CrateRecord) (files : List File) where
+module _ {told mid tells : Option Content} {before middle after : ℕ} {old between new : List Call} (scanner : Scanner) (policy : ℕ) (clarifications : List ClarificationView) (exceptions : ExceptionRules) (krate : CrateRecord) (files : List File) where
   -- as the files were read behind the manifest
   pub starves_first_settling : (located : LocatedField) (left : List File) → is_nothing clarifications ≡ true
       → IsByOwnReads told mid before middle old between (folder_of krate) (option_to_list located.read) (λ known_reads manifest. IsLocatedWhere (is_some krate.license) krate files manifest located left)
       → StarvesAmong mid tells middle after between new (folder_of krate) (records_of scanner clarifications krate)
-      → StarvesTaking told tells before after old new (folder_of krate) (wanted scanner policy clarifications krate files)
+      → StarvesTaking told tells before after old new (folder_of krate) (wanted scanner policy clarifications exceptions krate files)
   starves_first_settling located left none here then =
       let asks = is_some krate.license in
       let manifest = manifest_by here.reads in
@@ -336,24 +347,24 @@ module _ {told mid tells : Option Content} {before middle after : ℕ} {old betw
         next = then.next;
         made = reads_lacking (folder_of krate) here.reads then.reads then.next here.made then.made;
         front =
-            subst (λ (heard : FolderReads). IsFront (records_of_reads (here.reads ++ then.reads) ++ next) (wanted scanner policy clarifications krate files heard (manifest_by (here.reads ++ then.reads)))) (sym all_known_reads)
-            (subst (λ (heard : ReadResult). IsFront (records_of_reads (here.reads ++ then.reads) ++ next) (wanted scanner policy clarifications krate files known_reads heard)) (sym all_manifest)
+            subst (λ (heard : FolderReads). IsFront (records_of_reads (here.reads ++ then.reads) ++ next) (wanted scanner policy clarifications exceptions krate files heard (manifest_by (here.reads ++ then.reads)))) (sym all_known_reads)
+            (subst (λ (heard : ReadResult). IsFront (records_of_reads (here.reads ++ then.reads) ++ next) (wanted scanner policy clarifications exceptions krate files known_reads heard)) (sym all_manifest)
             (subst (IsFront (records_of_reads (here.reads ++ then.reads) ++ next))
-            (sym (wanted_first scanner policy clarifications krate files known_reads manifest none ∙ ap (λ (front : List ReadRecord). front ++ records_of scanner clarifications krate known_reads) (sym asked)))
+            (sym (wanted_first scanner policy clarifications exceptions krate files known_reads manifest none ∙ ap (λ (front : List ReadRecord). front ++ records_of scanner clarifications krate known_reads) (sym asked)))
             (subst (λ (front : List ReadRecord). IsFront front (records_of_reads here.reads ++ records_of scanner clarifications krate known_reads)) (sym (with_next here.reads then.reads next))
             (front_under (records_of_reads here.reads) (records_of_reads then.reads ++ next) (records_of scanner clarifications krate known_reads) then.front))));
       }
 
   -- as the manifest was read behind the files
   pub starves_last_locating : (settled : SettledLicense) → is_nothing clarifications ≡ false
-      → IsByReads told mid before middle old between (folder_of krate) settled.reads (λ known_reads. IsSettledBy scanner clarifications krate known_reads settled)
+      → IsByReads told mid before middle old between (folder_of krate) settled.pack.reads (λ known_reads. IsSettledFrom scanner clarifications krate known_reads settled)
       → StarvesTaking mid tells middle after between new (folder_of krate) (λ known_reads manifest. option_to_list (located_where (not (is_clarified settled.by) && is_some krate.license) krate files manifest).read)
-      → StarvesTaking told tells before after old new (folder_of krate) (wanted scanner policy clarifications krate files)
+      → StarvesTaking told tells before after old new (folder_of krate) (wanted scanner policy clarifications exceptions krate files)
   starves_last_locating settled some here then =
       let asks = not (is_clarified settled.by) && is_some krate.license in
       let known_reads = known_reads_by here.reads in
       let manifest = manifest_by then.reads in
-      let settled_are : records_of_reads here.reads ≡ records_of scanner clarifications krate known_reads = here.records ∙ here.is_so.reads_are in
+      let settled_are : records_of_reads here.reads ≡ records_of scanner clarifications krate known_reads = here.records ∙ (here.is_so.by_any known_reads here.is_so.agrees).reads_are in
       let next = option_to_list then.next in
       let all_known_reads : known_reads_by (here.reads ++ then.reads) ≡ known_reads =
       known_reads_before here.reads then.reads
@@ -366,12 +377,12 @@ module _ {told mid tells : Option Content} {before middle after : ℕ} {old betw
         next = then.next;
         made = reads_lacking (folder_of krate) here.reads then.reads then.next here.made then.made;
         front =
-            subst (λ (heard : FolderReads). IsFront (records_of_reads (here.reads ++ then.reads) ++ next) (wanted scanner policy clarifications krate files heard (manifest_by (here.reads ++ then.reads)))) (sym all_known_reads)
-            (subst (λ (heard : ReadResult). IsFront (records_of_reads (here.reads ++ then.reads) ++ next) (wanted scanner policy clarifications krate files known_reads heard)) (sym all_manifest)
+            subst (λ (heard : FolderReads). IsFront (records_of_reads (here.reads ++ then.reads) ++ next) (wanted scanner policy clarifications exceptions krate files heard (manifest_by (here.reads ++ then.reads)))) (sym all_known_reads)
+            (subst (λ (heard : ReadResult). IsFront (records_of_reads (here.reads ++ then.reads) ++ next) (wanted scanner policy clarifications exceptions krate files known_reads heard)) (sym all_manifest)
             (subst (IsFront (records_of_reads (here.reads ++ then.reads) ++ next))
-            (sym (wanted_last scanner policy clarifications krate files known_reads manifest some
+            (sym (wanted_last scanner policy clarifications exceptions krate files known_reads manifest some
             ∙ ap₂ (λ (front back : List ReadRecord). front ++ back) (sym settled_are)
-            (ap (λ b. manifest_asked b krate files manifest) (sym (asked_where scanner clarifications krate known_reads settled.by here.is_so.by_is)))))
+            (ap (λ b. manifest_asked b krate files manifest) (sym (asked_where scanner clarifications krate known_reads settled.by (here.is_so.by_any known_reads here.is_so.agrees).by_is)))))
             (subst (λ (front : List ReadRecord). IsFront front (records_of_reads here.reads ++ manifest_asked asks krate files manifest)) (sym (with_next here.reads then.reads next))
             (front_under (records_of_reads here.reads) (records_of_reads then.reads ++ next) (manifest_asked asks krate files manifest) then.front))));
       }

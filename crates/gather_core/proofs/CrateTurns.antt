@@ -9,14 +9,14 @@ use Rattle.diag_core.specs.File.{File}
 use Rattle.graph_core.specs.Krate.{CrateRecord}
 use Rattle.gather_core.specs.declared.summary.KrateLicense.{KrateLicense}
 use Rattle.gather_core.specs.Calls.{AreTurnsBy, ReadsOfCrate, CrateTurn, HasOwnReads, IsTurnBy, files_behind_all, reads_of_all, turn_by, turns_of}
-use Rattle.gather_core.specs.Entries.{ClarificationEntry}
 use Rattle.gather_core.specs.Gathered.{krate_of}
 use Rattle.gather_core.specs.Premises.{Grows}
+use Rattle.gather_core.specs.Rules.{GatherRules}
 use Rattle.gather_core.specs.Turns.{files_behind}
 use Rattle.gather_core.proofs.PlacedLemmas.{cut_grown}
 use Rattle.gather_core.proofs.ZipLemmas.{all_left, same_maps, zip_weaker}
 
-module _ (scanner : Scanner) (policy : ℕ) (all : List ClarificationEntry) where
+module _ (scanner : Scanner) (policy : ℕ) (all : GatherRules) where
   -- their crates
   pub krates_turned : (files : List File) (crates : List ReadsOfCrate)
       → map (λ (own : CrateTurn). own.turn.krate) (turns_of scanner policy all files crates) ≡ map (λ (one : ReadsOfCrate). one.krate) crates

@@ -1,5 +1,8 @@
 pub mod CallLemmas
+pub mod CountedLemmas
 pub mod CrateTurns
+mod Examples
+pub mod ExceptionLemmas
 pub mod GatheredLemmas
 pub mod PickLemmas
 pub mod PlacedLemmas

@@ -1,5 +1,5 @@
 -- Places that stay where they are while the file table grows.
-use Rattle.std.proofs.Common.{◌≡◌, ◌∙◌, ℕ, zero, suc, ◌+◌, ◌<◌, length, Bool, true, false, cond, List, [], ◌∷◌, ◌++◌, map, Option, None, Some, unwrap_or, refl, sym, ap, subst, append_assoc, arith}
+use Rattle.std.proofs.Common.{◌≡◌, ◌∙◌, ℕ, zero, suc, ◌<◌, length, Bool, true, false, cond, List, [], ◌∷◌, ◌++◌, map, Option, None, Some, unwrap_or, refl, sym, ap, subst, append_assoc, arith}
 use Rattle.std.specs.Prelude.{option_map, option_and_then}
 use Rattle.std.specs.List.{All}
 use Rattle.std.specs.Option.{option_to_list}
@@ -28,7 +28,7 @@ use Rattle.gather_license.specs.Clarification.{ClarificationView, PlacedFile, he
 use Rattle.gather_license.specs.Priority.{by_seen, field_of, files_scanned, holding_clarification, seen_by, settling_by}
 use Rattle.gather_license.specs.Settled.{missing_in, missing_of, span_at}
 use Rattle.gather_core.specs.declared.summary.KrateLicense.{KrateLicense}
-use Rattle.gather_core.specs.declared.turn.LocatedLicense.{LocatedLicense}
+use Rattle.gather_core.specs.declared.turn.TakenLicense.{TakenLicense}
 use Rattle.gather_core.specs.Entries.{ClarificationEntry, clarifications_of}
 use Rattle.gather_core.specs.Premises.{ArePlacedIn, ByStands, Grows, IsPlacedAt, IsClarificationPlaced, PlaceLies}
 use Rattle.gather_core.specs.Taken.{IsTaken}
@@ -199,14 +199,14 @@ pub by_grown : (files new : List File) (policy : ℕ) (by : LicenseBasis) → Gr
 by_grown files new policy by grows stands = subst (λ (files : List File). ByStands files policy by) (sym grows.1) (held_grown files grows.0 policy by stands)
 
 -- of a turn over a policy whose places are in the table
-pub missing_taken : (turn : TurnInput) (taken : LocatedLicense) (new : List File) → IsTaken turn taken new → All (IsClarificationPlaced turn.files turn.policy) turn.clarifications → All (PlaceLies new turn.policy) taken.missing
+pub missing_taken : (turn : TurnInput) (taken : TakenLicense) (new : List File) → IsTaken turn taken new → All (IsClarificationPlaced turn.files turn.policy) turn.clarifications → All (PlaceLies new turn.policy) taken.missing
 missing_taken turn taken new is placed =
     subst (λ (missing : List Span). All (PlaceLies new turn.policy) missing) (sym is.missing)
     (subst (λ (files : List File). All (PlaceLies files turn.policy) (missing_of turn.known_reads turn.clarifications)) (sym is.table)
     (places_grown turn.files (files_located turn) turn.policy (missing_of turn.known_reads turn.clarifications) (grows_located turn)
     (missing_lies turn.files turn.policy turn.known_reads turn.clarifications placed)))
 
-pub held_taken : (turn : TurnInput) (taken : LocatedLicense) (new : List File) → IsTaken turn taken new → All (IsClarificationPlaced turn.files turn.policy) turn.clarifications → ByStands new turn.policy taken.by
+pub held_taken : (turn : TurnInput) (taken : TakenLicense) (new : List File) → IsTaken turn taken new → All (IsClarificationPlaced turn.files turn.policy) turn.clarifications → ByStands new turn.policy taken.by
 held_taken turn taken new is placed =
     let stands = by_stands turn.files turn.policy (holding_clarification turn.known_reads turn.clarifications) (field_of turn.scanner.lists turn.krate) turn.scanner.lists
     (seen_by turn.known_reads.listing (files_scanned turn.scanner turn.clarifications turn.krate turn.known_reads)) (holding_stands turn.files turn.policy turn.known_reads turn.clarifications placed) in

@@ -11,7 +11,7 @@ use Rattle.gather_license.specs.expression.Scanned.{Scanner}
 use Rattle.diag_core.specs.File.{File}
 use Rattle.gather_core.specs.declared.summary.KrateLicense.{KrateLicense}
 use Rattle.gather_core.specs.Calls.{AreTurnsByReads, CrateTurn, IsTurnBy, reads_of_all, turns_of}
-use Rattle.gather_core.specs.Entries.{ClarificationEntry}
+use Rattle.gather_core.specs.Rules.{GatherRules}
 use Rattle.gather_core.specs.Gathered.{all_reads}
 use Rattle.gather_core.proofs.CrateTurns.{reads_turned}
 use Rattle.gather_core.proofs.TurnCalls.{counts_of_all}
@@ -26,7 +26,7 @@ records_told (own ∷ turns) (license ∷ licenses) last each =
     records_in-append own.reads (flat_map (λ (own : CrateTurn). own.reads) turns)
     ∙ ap₂ (λ (front back : List ReadRecord). front ++ back) each.0.recorded_are (records_told turns licenses last each.1)
 
-module _ {told tells : Option Content} {before after : ℕ} {old new : List Call} (scanner : Scanner) (policy : ℕ) (all : List ClarificationEntry) (files : List File) (licenses : List KrateLicense) (last : List File)
+module _ {told tells : Option Content} {before after : ℕ} {old new : List Call} (scanner : Scanner) (policy : ℕ) (all : GatherRules) (files : List File) (licenses : List KrateLicense) (last : List File)
     (by : AreTurnsByReads told tells before after old new scanner policy all files licenses last) where
   pub rises_by_reads : RiseInOrder before (all_reads licenses) after
   rises_by_reads =

@@ -1,6 +1,5 @@
--- What is taken at a crate's turn, by whatever is read.
-use Rattle.std.proofs.Common.{◌≡◌, ◌∙◌, ℕ, true, false, not, ◌&&◌, cond, List, [], ◌∷◌, ◌++◌, Option, None, Some, is_some, is_none, refl, sym, ap}
-use Rattle.std.specs.Option.{option_to_list}
+-- What a crate's turn begins with, by whatever is read.
+use Rattle.std.proofs.Common.{◌≡◌, ◌∙◌, ℕ, true, not, ◌&&◌, cond, List, [], ◌∷◌, Option, None, Some, is_some, is_none, refl, sym, ap}
 use Rattle.std.specs.Prelude.{option_map, unwrap_or}
 use Rattle.spdx_terms.specs.catalog.Catalog.{CatalogLists}
 use Rattle.tree_core.specs.declared.reads.ReadRecord.{ReadRecord}
@@ -16,10 +15,12 @@ use Rattle.gather_license.specs.declared.settle.SettledLicense.{SettledLicense}
 use Rattle.gather_license.specs.declared.settling.FilesSeen.{FilesSeen}
 use Rattle.gather_license.specs.declared.settling.LicenseBasis.{LicenseBasis}
 use Rattle.gather_license.specs.Clarification.{ClarificationView, held_in}
-use Rattle.gather_license.specs.Priority.{by_seen, field_of, files_scanned, holding_clarification, is_nothing, records_of, seen_by, settling_by, basis_of}
+use Rattle.gather_license.specs.Priority.{by_seen, field_of, files_scanned, holding_clarification, is_nothing, seen_by, settling_by, basis_of}
 use Rattle.gather_license.specs.Settled.{IsSettledBy}
-use Rattle.gather_core.specs.Taken.{IsLocatedWhere, IsTaken, is_clarified, turn_with}
-use Rattle.gather_core.specs.Turns.{asks_manifest, files_where, in_order, located_where, not_asked}
+use Rattle.gather_core.specs.declared.turn.LocatedLicense.{LocatedLicense}
+use Rattle.gather_core.specs.Exceptions.{ExceptionRules}
+use Rattle.gather_core.specs.Taken.{IsBegun, IsLocatedWhere, is_clarified, turn_with}
+use Rattle.gather_core.specs.Turns.{TurnInput, asks_manifest, files_where, in_order, located_in, located_where, not_asked, records_before}
 
 -- a field that is there is located
 pub located_at : (krate : CrateRecord) (field : List ℕ) (old : List File) (manifest : ReadResult) (located : LocatedField) (new : List File) → krate.license ≡ Some field
@@ -35,19 +36,29 @@ located_at krate field old manifest located new license is = record {
 
 -- ---- where no clarification is for the crate
 
-pub taken_first : (scanner : Scanner) (policy : ℕ) (clarifications : List ClarificationView) (krate : CrateRecord) (known_reads : FolderReads) (manifest : ReadResult) (old : List File) (located : LocatedField) (settled : SettledLicense) (new : List File) (reads : List ReadRecord)
+-- what was located and settled
+abbrev pub begun_of : LocatedField → SettledLicense → LocatedLicense
+begun_of located settled = record {
+  by = settled.by;
+  missing = settled.missing;
+  location = located.location;
+  manifest = located.read;
+  pack = settled.pack;
+  reads_made = settled.reads_made;
+}
+
+pub begun_first : (scanner : Scanner) (policy : ℕ) (clarifications : List ClarificationView) (exceptions : ExceptionRules) (krate : CrateRecord) (known_reads : FolderReads) (manifest : ReadResult) (old : List File) (located : LocatedField) (settled : SettledLicense) (new : List File)
     → is_nothing clarifications ≡ true → IsLocatedWhere (is_some krate.license) krate old manifest located new → IsSettledBy scanner clarifications krate known_reads settled
-    → reads ≡ option_to_list located.read ++ settled.reads
-    → IsTaken (turn_with scanner policy clarifications krate known_reads manifest old) (record { by = settled.by; missing = settled.missing; location = located.location; reads = reads }) new
-taken_first scanner policy [] krate known_reads manifest old located settled new reads none here is behind = record {
+    → IsBegun (turn_with scanner policy clarifications exceptions krate known_reads manifest old) (begun_of located settled) new
+begun_first scanner policy [] exceptions krate known_reads manifest old located settled new none here is = record {
   by = is.by_is;
   missing = is.missing_is;
   location = ap (λ (l : LocatedField). l.location) here.located_is;
-  reads = behind ∙ ap (λ (l : LocatedField). option_to_list l.read ++ settled.reads) here.located_is
-      ∙ ap (λ (more : List ReadRecord). option_to_list (located_where (is_some krate.license) krate old manifest).read ++ more) is.reads_are;
+  manifest = ap (λ (l : LocatedField). l.read) here.located_is;
+  reads = is.reads_are;
   table = here.files_are;
 }
-taken_first scanner policy (one ∷ more) krate known_reads manifest old located settled new reads none here is behind = cc
+begun_first scanner policy (one ∷ more) exceptions krate known_reads manifest old located settled new none here is = cc
 
 -- ---- where a clarification is for the crate
 
@@ -64,21 +75,25 @@ asked_where scanner clarifications krate known_reads by is =
     ∙ ap (λ b. b && is_some krate.license)
     (not_clarified (holding_clarification known_reads clarifications) (field_of scanner.lists krate) scanner.lists (seen_by known_reads.listing (files_scanned scanner clarifications krate known_reads)))
 
-pub taken_last : (scanner : Scanner) (policy : ℕ) (clarifications : List ClarificationView) (krate : CrateRecord) (known_reads : FolderReads) (manifest : ReadResult) (old : List File) (located : LocatedField) (settled : SettledLicense) (new : List File) (reads : List ReadRecord)
-    → is_nothing clarifications ≡ false → IsSettledBy scanner clarifications krate known_reads settled
-    → IsLocatedWhere (not (is_clarified settled.by) && is_some krate.license) krate old manifest located new
-    → reads ≡ settled.reads ++ option_to_list located.read
-    → IsTaken (turn_with scanner policy clarifications krate known_reads manifest old) (record { by = settled.by; missing = settled.missing; location = located.location; reads = reads }) new
-taken_last scanner policy clarifications krate known_reads manifest old located settled new reads some is here behind =
+pub begun_last : (scanner : Scanner) (policy : ℕ) (clarifications : List ClarificationView) (exceptions : ExceptionRules) (krate : CrateRecord) (known_reads : FolderReads) (manifest : ReadResult) (old : List File) (located : LocatedField) (settled : SettledLicense) (new : List File)
+    → IsSettledBy scanner clarifications krate known_reads settled → IsLocatedWhere (not (is_clarified settled.by) && is_some krate.license) krate old manifest located new
+    → IsBegun (turn_with scanner policy clarifications exceptions krate known_reads manifest old) (begun_of located settled) new
+begun_last scanner policy clarifications exceptions krate known_reads manifest old located settled new is here =
     let asks = asked_where scanner clarifications krate known_reads settled.by is.by_is in
     let located_is : located ≡ located_where (asks_manifest clarifications krate known_reads) krate old manifest = here.located_is ∙ ap (λ b. located_where b krate old manifest) asks in
     record {
       by = is.by_is;
       missing = is.missing_is;
       location = ap (λ (l : LocatedField). l.location) located_is;
-      reads =
-          behind ∙ ap (λ (l : LocatedField). settled.reads ++ option_to_list l.read) located_is
-          ∙ ap (λ (front : List ReadRecord). front ++ option_to_list (located_where (asks_manifest clarifications krate known_reads) krate old manifest).read) is.reads_are
-          ∙ sym (ap (λ b. in_order b (located_where (asks_manifest clarifications krate known_reads) krate old manifest).read (records_of scanner clarifications krate known_reads)) some);
+      manifest = ap (λ (l : LocatedField). l.read) located_is;
+      reads = is.reads_are;
       table = here.files_are ∙ ap (λ b. files_where b krate old manifest) asks;
     }
+
+-- ---- the reads in order
+
+pub begun_reads : (turn : TurnInput) (located : LocatedLicense) (files : List File) → IsBegun turn located files
+    → in_order (is_nothing turn.clarifications) located.manifest located.pack.reads ≡ records_before turn
+begun_reads turn located files is =
+    ap (λ (read : Option ReadRecord). in_order (is_nothing turn.clarifications) read located.pack.reads) is.manifest
+    ∙ ap (λ (reads : List ReadRecord). in_order (is_nothing turn.clarifications) (located_in turn).read reads) is.reads

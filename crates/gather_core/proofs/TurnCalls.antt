@@ -23,9 +23,10 @@ use Rattle.gather_license.specs.Priority.{folder_of}
 use Rattle.gather_core.specs.declared.summary.KrateLicense.{KrateLicense}
 use Rattle.gather_core.specs.Calls.{AreTurnsByReads, ReadsOfCrate, IsByOwnReads, IsTurnHeard, StarvesGathering, StarvesTaking}
 use Rattle.gather_core.specs.Calls.{calls_of_all, reads_of_all, turn_by, turns_of}
-use Rattle.gather_core.specs.Entries.{ClarificationEntry, clarifications_of}
+use Rattle.gather_core.specs.Entries.{clarifications_of}
 use Rattle.gather_core.specs.Gathered.{krate_of, turn_of}
 use Rattle.gather_core.specs.Premises.{Grows}
+use Rattle.gather_core.specs.Rules.{GatherRules}
 use Rattle.gather_core.specs.Taken.{turn_with}
 use Rattle.gather_core.specs.Turns.{IsCutOut, IsTurn, records_in}
 use Rattle.gather_core.proofs.CallLemmas.{starves_behind}
@@ -35,25 +36,25 @@ use Rattle.gather_core.proofs.GatheredLemmas.{map_push, priority_turn}
 -- ---- one crate
 
 -- what is reported of a crate is what its turn says by its own reads
-pub license_answered : {told tells : Option Content} {before after : ℕ} {old new : List Call} (scanner : Scanner) (policy : ℕ) (all : List ClarificationEntry) (files last : List File) (krate : CrateRecord)
+pub license_answered : {told tells : Option Content} {before after : ℕ} {old new : List Call} (scanner : Scanner) (policy : ℕ) (all : GatherRules) (files last : List File) (krate : CrateRecord)
     (records : List ReadRecord) (reads : List AnsweredRead) (result : Result KrateLicense AllocError) → records_of_reads reads ≡ records → MadeReads told tells before after old new (folder_of krate) reads
     → IfOk result (λ license. krate_of license ≡ krate) → IfOk result (λ license. license.reads ≡ records)
-    → IfOk result (λ license. IsTurn (turn_with scanner policy (clarifications_of krate all) krate (known_reads_by reads) (manifest_by reads) files) license last)
-    → OnOk result (IsCutOut last (turn_with scanner policy (clarifications_of krate all) krate (known_reads_by reads) (manifest_by reads) files))
+    → IfOk result (λ license. IsTurn (turn_with scanner policy (clarifications_of krate all.clarifications) all.exceptions krate (known_reads_by reads) (manifest_by reads) files) license last)
+    → OnOk result (IsCutOut last (turn_with scanner policy (clarifications_of krate all.clarifications) all.exceptions krate (known_reads_by reads) (manifest_by reads) files))
     → IfOk result (λ license. IsByOwnReads told tells before after old new (folder_of (krate_of license)) license.reads (IsTurnHeard scanner policy all files license last))
 license_answered {told} {tells} {before} {after} {old} {new} scanner policy all files last krate records reads (Ok license) recorded_are made krate_is reads_are is cut = record {
   reads = reads;
   recorded_are = recorded_are ∙ sym reads_are;
   made = subst (λ (krate : CrateRecord). MadeReads told tells before after old new (folder_of krate) reads) (sym krate_is) made;
   is_so = (
-    subst (λ (krate : CrateRecord). IsTurn (turn_with scanner policy (clarifications_of krate all) krate (known_reads_by reads) (manifest_by reads) files) license last) (sym krate_is) is,
-    subst (λ (krate : CrateRecord). IsCutOut last (turn_with scanner policy (clarifications_of krate all) krate (known_reads_by reads) (manifest_by reads) files)) (sym krate_is) cut,
+    subst (λ (krate : CrateRecord). IsTurn (turn_with scanner policy (clarifications_of krate all.clarifications) all.exceptions krate (known_reads_by reads) (manifest_by reads) files) license last) (sym krate_is) is,
+    subst (λ (krate : CrateRecord). IsCutOut last (turn_with scanner policy (clarifications_of krate all.clarifications) all.exceptions krate (known_reads_by reads) (manifest_by reads) files)) (sym krate_is) cut,
   );
 }
 license_answered scanner policy all files last krate records reads (Err error) recorded_are made krate_is reads_are is cut = tt
 
 -- memory was wanting behind a crate's turn
-pub starves_told : {told tells : Option Content} {before after : ℕ} {old new : List Call} (scanner : Scanner) (policy : ℕ) (all : List ClarificationEntry) (files last : List File) (license : KrateLicense)
+pub starves_told : {told tells : Option Content} {before after : ℕ} {old new : List Call} (scanner : Scanner) (policy : ℕ) (all : GatherRules) (files last : List File) (license : KrateLicense)
     → IsByOwnReads told tells before after old new (folder_of (krate_of license)) license.reads (IsTurnHeard scanner policy all files license last)
     → StarvesTaking told tells before after old new (folder_of (krate_of license)) (λ known_reads manifest. records_in (turn_of scanner policy all known_reads manifest files license))
 starves_told scanner policy all files last license by =
@@ -94,11 +95,11 @@ are_then {told} {mid} {before} {middle} crates more made first then =
 
 -- ---- turn after turn
 
-pub no_turns : (told : Option Content) (count : ℕ) (calls : List Call) (scanner : Scanner) (policy : ℕ) (all : List ClarificationEntry) (files : List File)
+pub no_turns : (told : Option Content) (count : ℕ) (calls : List Call) (scanner : Scanner) (policy : ℕ) (all : GatherRules) (files : List File)
     → AreTurnsByReads told told count count calls calls scanner policy all files [] files
 no_turns told count calls scanner policy all files = record { crates = []; made = made_none told count calls; are = tt; turns = record { each = tt; left = refl } }
 
-module _ {told mid tells : Option Content} {before between_count after : ℕ} {old between new : List Call} (scanner : Scanner) (policy : ℕ) (all : List ClarificationEntry) (files : List File) (licenses : List KrateLicense) where
+module _ {told mid tells : Option Content} {before between_count after : ℕ} {old between new : List Call} (scanner : Scanner) (policy : ℕ) (all : GatherRules) (files : List File) (licenses : List KrateLicense) where
   -- one more crate
   pub turns_then : (license : KrateLicense) (middle last : List File) → AreTurnsByReads told mid before between_count old between scanner policy all files licenses middle → Grows middle last
       → IsByOwnReads mid tells between_count after between new (folder_of (krate_of license)) license.reads (IsTurnHeard scanner policy all middle license last)
@@ -125,9 +126,9 @@ module _ {told mid tells : Option Content} {before between_count after : ℕ} {o
 -- ---- for want of memory
 
 -- memory was wanting at the turn of the next crate
-pub starves_next : {told mid tells : Option Content} {before between_count after : ℕ} {old between new : List Call} (scanner : Scanner) (policy : ℕ) (all : List ClarificationEntry) (files : List File)
+pub starves_next : {told mid tells : Option Content} {before between_count after : ℕ} {old between new : List Call} (scanner : Scanner) (policy : ℕ) (all : GatherRules) (files : List File)
     (licenses : List KrateLicense) (middle : List File) (krate : CrateRecord) (krates : List CrateRecord) → AreTurnsByReads told mid before between_count old between scanner policy all files licenses middle
-    → StarvesTaking mid tells between_count after between new (folder_of krate) (λ known_reads manifest. records_in (turn_with scanner policy (clarifications_of krate all) krate known_reads manifest middle))
+    → StarvesTaking mid tells between_count after between new (folder_of krate) (λ known_reads manifest. records_in (turn_with scanner policy (clarifications_of krate all.clarifications) all.exceptions krate known_reads manifest middle))
     → IsFront (map krate_of licenses ++ krate ∷ []) krates
     → StarvesGathering told tells before after old new scanner policy all files krates
 starves_next scanner policy all files licenses middle krate krates first starves among =

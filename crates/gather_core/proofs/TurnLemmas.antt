@@ -12,12 +12,12 @@ use Rattle.gather_license.specs.Settled.{missing_of}
 use Rattle.gather_core.specs.declared.findings.outcome.PlacedFindings.{PlacedFindings}
 use Rattle.gather_core.specs.findings.Cuts.{LabelLies, labels_of, text_under}
 use Rattle.gather_core.specs.declared.summary.KrateLicense.{KrateLicense}
-use Rattle.gather_core.specs.declared.turn.LocatedLicense.{LocatedLicense}
+use Rattle.gather_core.specs.declared.turn.TakenLicense.{TakenLicense}
 use Rattle.gather_core.specs.Taken.{IsTaken}
 use Rattle.gather_core.specs.Told.{info_by, notes_of, no_place}
 use Rattle.gather_core.specs.Turns.{IsCutOut, IsTurn, TurnInput, faults_in, files_left, files_located, located_in, missing_findings, points_for, points_in, label_texts_for}
 
-pub points_are : (turn : TurnInput) (faults : List ParseError) (taken : LocatedLicense) (points : PlacedFindings) (old : List File) → faults ≡ faults_in turn.scanner turn.krate → IsTaken turn taken old
+pub points_are : (turn : TurnInput) (faults : List ParseError) (taken : TakenLicense) (points : PlacedFindings) (old : List File) → faults ≡ faults_in turn.scanner turn.krate → IsTaken turn taken old
     → points ≡ points_for turn.krate faults taken.location old taken.by → points ≡ points_in turn
 points_are turn faults taken points old faults_are is found =
     found
@@ -27,7 +27,7 @@ points_are turn faults taken points old faults_are is found =
     ∙ ap (λ (by : LicenseBasis). points_for turn.krate (faults_in turn.scanner turn.krate) (located_in turn).location (files_located turn) by) is.by
 
 -- the labels of what is found cut out what they say
-pub found_turn : (turn : TurnInput) (faults : List ParseError) (taken : LocatedLicense) (points : PlacedFindings) (old new : List File) → faults ≡ faults_in turn.scanner turn.krate → IsTaken turn taken old
+pub found_turn : (turn : TurnInput) (faults : List ParseError) (taken : TakenLicense) (points : PlacedFindings) (old new : List File) → faults ≡ faults_in turn.scanner turn.krate → IsTaken turn taken old
     → points ≡ points_for turn.krate faults taken.location old taken.by → All (LabelLies new) (labels_of points.findings)
     → map (text_under new) (labels_of points.findings) ≡ label_texts_for turn.krate faults taken.location taken.by → IsCutOut new turn
 found_turn turn faults taken points old new faults_are is found lie cuts =
@@ -41,13 +41,13 @@ found_turn turn faults taken points old new faults_are is found lie cuts =
           ∙ ap (λ (by : LicenseBasis). label_texts_for turn.krate (faults_in turn.scanner turn.krate) (located_in turn).location by) is.by;
     }
 
-pub told_turn : (turn : TurnInput) (license : KrateLicense) (faults : List ParseError) (taken : LocatedLicense) (points : PlacedFindings) (old new : List File)
+pub told_turn : (turn : TurnInput) (license : KrateLicense) (faults : List ParseError) (taken : TakenLicense) (points : PlacedFindings) (old new : List File)
     → faults ≡ faults_in turn.scanner turn.krate → IsTaken turn taken old
     → points ≡ points_for turn.krate faults taken.location old taken.by → new ≡ files_left turn.krate faults taken.location old taken.by
     → license.lic_info ≡ info_by turn.policy taken.location (unwrap_or points.expression no_place) taken.by → license.notes ≡ notes_of (answer_in taken.by)
-    → license.diags ≡ missing_findings turn.policy taken.missing ++ points.findings → license.reads ≡ taken.reads
+    → license.diags ≡ missing_findings turn.policy taken.missing ++ points.findings → license.exceptions ≡ taken.exceptions → license.reads ≡ taken.reads
     → IsTurn turn license new
-told_turn turn license faults taken points old new faults_are is found files_are info notes diags reads =
+told_turn turn license faults taken points old new faults_are is found files_are info notes diags exceptions reads =
     let all_points : points ≡ points_in turn = points_are turn faults taken points old faults_are is found in
     record {
       info =
@@ -60,6 +60,7 @@ told_turn turn license faults taken points old new faults_are is found files_are
           diags
           ∙ ap (λ (missing : List Span). missing_findings turn.policy missing ++ points.findings) is.missing
           ∙ ap (λ (points : PlacedFindings). missing_findings turn.policy (missing_of turn.known_reads turn.clarifications) ++ points.findings) all_points;
+      counted = exceptions ∙ is.counted;
       read = reads ∙ is.reads;
       table =
           files_are

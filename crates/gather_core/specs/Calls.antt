@@ -17,7 +17,8 @@ use Rattle.gather_license.specs.expression.Scanned.{Scanner}
 use Rattle.diag_core.specs.File.{File}
 use Rattle.gather_license.specs.location.Calls.{manifest_by}
 use Rattle.gather_license.specs.Priority.{folder_of, priority_of}
-use Rattle.gather_core.specs.Entries.{ClarificationEntry, clarifications_of}
+use Rattle.gather_core.specs.Entries.{clarifications_of}
+use Rattle.gather_core.specs.Rules.{GatherRules}
 use Rattle.gather_core.specs.declared.summary.KrateLicense.{KrateLicense}
 use Rattle.gather_core.specs.Gathered.{krate_of, turn_of}
 use Rattle.gather_core.specs.Taken.{turn_with}
@@ -47,7 +48,7 @@ pub record StarvesTaking (told tells : Option Content) (before after : ℕ) (old
 
 -- what is reported of a crate is what its turn says by what is read, and the labels of what is found cut out what they
 -- say
-abbrev pub IsTurnHeard : Scanner → ℕ → List ClarificationEntry → List File → KrateLicense → List File → FolderReads
+abbrev pub IsTurnHeard : Scanner → ℕ → GatherRules → List File → KrateLicense → List File → FolderReads
     → ReadResult → Type 0
 IsTurnHeard scanner policy all files license last known_reads manifest =
     IsTurn (turn_of scanner policy all known_reads manifest files license) license last
@@ -66,15 +67,15 @@ pub record CrateTurn : Type 0 where
   pub turn : TurnInput
 
 -- the turn of a crate among all, by what its own reads say, with the table that the crates before have left
-abbrev pub turn_by : Scanner → ℕ → List ClarificationEntry → List File → ReadsOfCrate → CrateTurn
+abbrev pub turn_by : Scanner → ℕ → GatherRules → List File → ReadsOfCrate → CrateTurn
 turn_by scanner policy all files one = record {
   reads = one.reads;
-  turn = turn_with scanner policy (clarifications_of one.krate all) one.krate (known_reads_by one.reads)
-      (manifest_by one.reads) files;
+  turn = turn_with scanner policy (clarifications_of one.krate all.clarifications) all.exceptions one.krate
+      (known_reads_by one.reads) (manifest_by one.reads) files;
 }
 
 -- the turns of crates, one after another, each with the table that the one before has left
-abbrev pub turns_of : Scanner → ℕ → List ClarificationEntry → List File → List ReadsOfCrate → List CrateTurn
+abbrev pub turns_of : Scanner → ℕ → GatherRules → List File → List ReadsOfCrate → List CrateTurn
 turns_of scanner policy all files [] = []
 turns_of scanner policy all files (one ∷ crates) =
     turn_by scanner policy all files one
@@ -114,7 +115,7 @@ pub record AreTurnsBy (files : List File) (turns : List CrateTurn) (licenses : L
 -- Crates had their turns over a tree, each by its own reads: the calls of these were made, one crate after another, and
 -- no other; their records tell what the answers say; and what is reported of each crate is what its turn says by them.
 pub record AreTurnsByReads (told tells : Option Content) (before after : ℕ) (old new : List Call) (scanner : Scanner)
-    (policy : ℕ) (all : List ClarificationEntry) (files : List File) (licenses : List KrateLicense)
+    (policy : ℕ) (all : GatherRules) (files : List File) (licenses : List KrateLicense)
     (last : List File) : Type 0 where
   pub crates : List ReadsOfCrate
   pub made : Made told tells before after old new (calls_of_all crates)
@@ -127,7 +128,7 @@ pub record AreTurnsByReads (told tells : Option Content) (before after : ℕ) (o
 -- one, perhaps in a call. Its reads, and that call's, are the first ones of those that its turn asks for by what they
 -- say.
 pub record StarvesGathering (told tells : Option Content) (before after : ℕ) (old new : List Call) (scanner : Scanner)
-    (policy : ℕ) (all : List ClarificationEntry) (files : List File) (krates : List CrateRecord) : Type 0 where
+    (policy : ℕ) (all : GatherRules) (files : List File) (krates : List CrateRecord) : Type 0 where
   pub crates : List ReadsOfCrate
   pub begun : ReadsOfCrate
   pub next : Option ReadRecord

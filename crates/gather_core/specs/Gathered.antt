@@ -11,7 +11,8 @@ use Rattle.graph_core.specs.declared.selection.selection.Include.{Include}
 use Rattle.policy_core.specs.declared.valid.policy.ValidConfig.{ValidConfig}
 use Rattle.tree_core.specs.file_reads.Heard.{ReadResult}
 use Rattle.diag_core.specs.File.{File}
-use Rattle.gather_core.specs.Entries.{ClarificationEntry, clarifications_of}
+use Rattle.gather_core.specs.Entries.{clarifications_of}
+use Rattle.gather_core.specs.Rules.{GatherRules}
 use Rattle.gather_core.specs.declared.gatherer.Gatherer.{Gatherer}
 use Rattle.gather_core.specs.declared.summary.KrateLicense.{KrateLicense}
 use Rattle.gather_core.specs.Taken.{turn_with}
@@ -47,10 +48,11 @@ krate_of license = record_of license.krate.now
 -- ---- turn after turn
 
 -- the turn of a crate among all, with the table that the crates before have left
-abbrev pub turn_of : Scanner → ℕ → List ClarificationEntry → FolderReads → ReadResult → List File → KrateLicense
+abbrev pub turn_of : Scanner → ℕ → GatherRules → FolderReads → ReadResult → List File → KrateLicense
     → TurnInput
 turn_of scanner policy all known_reads manifest files license =
-    turn_with scanner policy (clarifications_of (krate_of license) all) (krate_of license) known_reads manifest files
+    turn_with scanner policy (clarifications_of (krate_of license) all.clarifications) all.exceptions (krate_of license)
+    known_reads manifest files
 
 -- the reads of all crates, in the order of the calls
 abbrev pub all_reads : List KrateLicense → List ReadRecord

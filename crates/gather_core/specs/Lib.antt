@@ -1,8 +1,10 @@
 pub mod Calls
 pub mod Entries
+pub mod Exceptions
 pub mod Gathered
 pub mod Laws
 pub mod Premises
+pub mod Rules
 pub mod Taken
 pub mod Told
 pub mod Turns

@@ -9,6 +9,8 @@ use Rattle.spdx_terms.specs.declared.error.ParseError.{ParseError}
 use Rattle.graph_core.specs.Krate.{CrateRecord}
 use Rattle.tree_core.specs.file_reads.Heard.{ReadResult}
 use Rattle.gather_license.specs.files.KnownReads.{FolderReads}
+use Rattle.gather_license.specs.files.Steps.{file_record}
+use Rattle.gather_license.specs.files.View.{paths_read}
 use Rattle.gather_license.specs.expression.Scanned.{Scanner}
 use Rattle.diag_core.specs.declared.label.Coord.{Coord}
 use Rattle.diag_core.specs.declared.pack.Diag.{Diag}
@@ -31,14 +33,17 @@ use Rattle.gather_core.specs.findings.Findings.{files_with, missing_file, points
 use Rattle.gather_core.specs.findings.Pieces.{SeenFilesView, unlisted, listed}
 use Rattle.gather_core.specs.declared.findings.license.LicenseInfo.{LicenseInfo}
 use Rattle.gather_core.specs.declared.summary.KrateLicense.{KrateLicense}
+use Rattle.gather_core.specs.Exceptions.{ExceptionRules, counted_of, further_paths, looked_for}
 use Rattle.gather_core.specs.Told.{info_by, notes_of, no_place}
 
--- What texts are identified by; the number of the policy's file; the clarifications that are for the crate; the crate;
--- what is read of its folder and its files, and of its manifest; and the file table as the turn begins.
+-- What texts are identified by; the number of the policy's file; the clarifications that are for the crate; the
+-- policy's exceptions; the crate; what is read of its folder and its files, and of its manifest; and the file table as
+-- the turn begins.
 pub record TurnInput : Type 0 where
   pub scanner : Scanner
   pub policy : ℕ
   pub clarifications : List ClarificationView
+  pub exceptions : ExceptionRules
   pub krate : CrateRecord
   pub known_reads : FolderReads
   pub manifest : ReadResult
@@ -86,10 +91,20 @@ abbrev pub in_order : Bool → Option ReadRecord → List ReadRecord → List Re
 in_order manifest_first manifest reads =
     if manifest_first then option_to_list manifest ++ reads else reads ++ option_to_list manifest
 
-abbrev pub records_in : TurnInput → List ReadRecord
-records_in turn =
+-- what is read before the files of exceptions
+abbrev pub records_before : TurnInput → List ReadRecord
+records_before turn =
     in_order (is_nothing turn.clarifications) (located_in turn).read
     (records_of turn.scanner turn.clarifications turn.krate turn.known_reads)
+
+-- the files of exceptions that are looked at and were not read before
+abbrev pub paths_behind : TurnInput → List (List ℕ)
+paths_behind turn =
+    further_paths (paths_read (records_before turn)) (looked_for turn.exceptions turn.krate turn.known_reads)
+
+-- all reads of the turn; no path is read twice as a licence file
+abbrev pub records_in : TurnInput → List ReadRecord
+records_in turn = records_before turn ++ map (file_record turn.known_reads) (paths_behind turn)
 
 -- ---- what is found
 
@@ -188,5 +203,6 @@ pub record IsTurn (turn : TurnInput) (license : KrateLicense) (files : List File
   pub info : license.lic_info ≡ info_in turn
   pub noted : license.notes ≡ notes_in turn
   pub found : license.diags ≡ findings_in turn
+  pub counted : license.exceptions ≡ counted_of turn.exceptions turn.krate turn.known_reads
   pub read : license.reads ≡ records_in turn
   pub table : files ≡ files_behind turn

@@ -66,7 +66,8 @@ impl<'p> Model for ClarificationIndex<'p> {
     ghost invariant = { λ c. spec_numbers (specs_of c.entries.items) ≡ c.index };
 }
 
-fn file_refs(alloc: Global, files: &[FileSource]) -> Result<Vec<FileRef<'_>>, AllocError>
+/// Files that a policy names, as a crate's pack takes them.
+pub(crate) fn file_refs(alloc: Global, files: &[FileSource]) -> Result<Vec<FileRef<'_>>, AllocError>
     ensures { IfOk result (λ refs. refs.items ≡ map placed_of files.now) }
 {
     let mut refs = Vec::new(alloc);

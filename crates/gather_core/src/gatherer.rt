@@ -15,11 +15,12 @@ ghost use Rattle.gather_core.specs.Calls.{AreTurnsByReads, IsByOwnReads, IsTurnH
 ghost use Rattle.gather_core.specs.Entries.{clarifications_of, entries_of};
 ghost use Rattle.gather_core.specs.Gathered.{include_of, krate_of, scanner_of_gatherer, threshold_of};
 ghost use Rattle.gather_core.specs.Premises.{ArePlacedIn, Grows, IsPlacedAt};
+ghost use Rattle.gather_core.specs.Rules.{rules_of};
 ghost use Rattle.gather_core.specs.Taken.{turn_with};
 ghost use Rattle.gather_core.specs.Turns.{field_text, records_in};
 
-use crate::clarifications::ClarificationIndex;
 use crate::findings::{FieldRead, ParseErrors, read_field};
+use crate::rules::RuleIndex;
 use crate::summary::{KrateLicense, KrateLicenses, Summary};
 use crate::tell::tell;
 use crate::turn::take;
@@ -80,7 +81,7 @@ fn license_of<'k, T: Tree, I: Identifier, C: Catalog>(
     files: &mut Files,
     scan: &Scan<'_, I, C>,
     policy: FileId,
-    clarifications: &ClarificationIndex<'_>,
+    rules: &RuleIndex<'_>,
     krate: &'k Krate,
 ) -> Result<KrateLicense<'k>, AllocError>
     ensures krate { IfOk result (λ license. krate_of license ≡ record_of krate.now) }
@@ -89,20 +90,30 @@ fn license_of<'k, T: Tree, I: Identifier, C: Catalog>(
         IsByOwnReads (T.content tree.old) (T.content tree.new) (T.fault_count tree.old)
         (T.fault_count tree.new) (T.trace tree.old) (T.trace tree.new)
         (folder_of (krate_of license)) license.reads (IsTurnHeard
-        (scanner_of_scan C.lists I.match_of scan.now) policy clarifications.now files.old license files.new)) }
+        (scanner_of_scan C.lists I.match_of scan.now) policy rules.now files.old license files.new)) }
     ensures no_memory { let krate = record_of krate.now in OnErr result (
         StarvesTaking (T.content tree.old) (T.content tree.new) (T.fault_count tree.old)
         (T.fault_count tree.new) (T.trace tree.old) (T.trace tree.new)
         (folder_of krate) (λ known_reads manifest. records_in (turn_with
-        (scanner_of_scan C.lists I.match_of scan.now) policy (clarifications_of krate clarifications.now) krate
-        known_reads manifest files.old))) }
+        (scanner_of_scan C.lists I.match_of scan.now) policy (clarifications_of krate rules.now.clarifications)
+        rules.now.exceptions krate known_reads manifest files.old))) }
     ensures grows { Grows files.old files.new }
-    ensures placed { ArePlacedIn files.old policy clarifications.now
+    ensures placed { ArePlacedIn files.old policy rules.now.clarifications
         → IfOk result (λ license. IsPlacedAt files.new license) }
 {
-    let matching = clarifications.matching(alloc, krate)?;
+    let matching = rules.matching(alloc, krate)?;
     let field = read_krate(alloc, krate, scan.catalog)?;
-    let taken = take(alloc, tree, files, scan, krate, &matching, field.expression)?;
+    let exceptions = rules.exceptions();
+    let taken = take(
+        alloc,
+        tree,
+        files,
+        scan,
+        krate,
+        &matching,
+        exceptions,
+        field.expression,
+    )?;
     tell(alloc, files, policy, krate, &field.faults, taken)
 }
 
@@ -113,7 +124,7 @@ fn gather_all<'k, T: Tree, I: Identifier, C: Catalog>(
     files: &mut Files,
     scan: &Scan<'_, I, C>,
     policy: FileId,
-    clarifications: &ClarificationIndex<'_>,
+    rules: &RuleIndex<'_>,
     krates: &[&'k Krate],
 ) -> Result<KrateLicenses<'k>, AllocError>
     ensures krates { IfOk result (λ licenses. map krate_of licenses ≡ map record_behind krates.now) }
@@ -121,19 +132,19 @@ fn gather_all<'k, T: Tree, I: Identifier, C: Catalog>(
     ensures answered { IfOk result (λ licenses.
         AreTurnsByReads (T.content tree.old) (T.content tree.new) (T.fault_count tree.old)
         (T.fault_count tree.new) (T.trace tree.old) (T.trace tree.new)
-        (scanner_of_scan C.lists I.match_of scan.now) policy clarifications.now files.old licenses files.new) }
+        (scanner_of_scan C.lists I.match_of scan.now) policy rules.now files.old licenses files.new) }
     ensures no_memory { OnErr result (
         StarvesGathering (T.content tree.old) (T.content tree.new) (T.fault_count tree.old)
         (T.fault_count tree.new) (T.trace tree.old) (T.trace tree.new)
-        (scanner_of_scan C.lists I.match_of scan.now) policy clarifications.now files.old
+        (scanner_of_scan C.lists I.match_of scan.now) policy rules.now files.old
         (map record_behind krates.now)) }
     ensures grows { Grows files.old files.new }
-    ensures placed { ArePlacedIn files.old policy clarifications.now
+    ensures placed { ArePlacedIn files.old policy rules.now.clarifications
         → IfOk result (λ licenses. All (IsPlacedAt files.new) licenses) }
 {
     let mut licenses = KrateLicenses::new(alloc);
     'krates: for krate in krates {
-        let license = license_of(alloc, tree, files, scan, policy, clarifications, krate)?;
+        let license = license_of(alloc, tree, files, scan, policy, rules, krate)?;
         licenses.push(license)?;
     }
     Ok(licenses)
@@ -163,7 +174,8 @@ impl<'i, I> Gatherer<'i, I> {
 
 impl<'i, I: Identifier> Gatherer<'i, I> {
     /// The licences of the crates that the policy's flags select, in the order of their ids. Each is settled
-    /// by the first that holds: a clarification, the crate's field, its licence files, nothing. The manifests
+    /// by the first that holds: a clarification, the crate's field, its licence files, nothing. Behind that the
+    /// exceptions are found that count for a crate, and the files that they name are looked at. The manifests
     /// of crates whose fields have their locations there join the files, and the manifests that are written
     /// in place of others. Where memory is refused the files may have grown.
     pub fn gather<'k, T: Tree, C: Catalog>(
@@ -186,7 +198,7 @@ impl<'i, I: Identifier> Gatherer<'i, I> {
         ensures answered { IfOk result (λ summary.
             AreTurnsByReads (T.content tree.old) (T.content tree.new) (T.fault_count tree.old)
             (T.fault_count tree.new) (T.trace tree.old) (T.trace tree.new)
-            (scanner_of_gatherer (C.lists catalog.now) I.match_of self.entry) policy.now.file_id (entries_of policy.now)
+            (scanner_of_gatherer (C.lists catalog.now) I.match_of self.entry) policy.now.file_id (rules_of policy.now)
             files.old summary.nfos files.new) }
         // for want of memory no call was made, or those of the first crates and the first ones of the next crate
         ensures no_memory { OnErr result (
@@ -194,7 +206,7 @@ impl<'i, I: Identifier> Gatherer<'i, I> {
             (T.fault_count tree.new) (T.trace tree.old) (T.trace tree.new) []
             ⊎ StarvesGathering (T.content tree.old) (T.content tree.new) (T.fault_count tree.old)
             (T.fault_count tree.new) (T.trace tree.old) (T.trace tree.new)
-            (scanner_of_gatherer (C.lists catalog.now) I.match_of self.entry) policy.now.file_id (entries_of policy.now)
+            (scanner_of_gatherer (C.lists catalog.now) I.match_of self.entry) policy.now.file_id (rules_of policy.now)
             files.old (selected_in (include_of policy.now) krates.entry.now)) }
         // where the policy's places are in its file, each label and each expression is in its own, in the
         // table that is left
@@ -208,7 +220,7 @@ impl<'i, I: Identifier> Gatherer<'i, I> {
             build: policy.include_build,
         };
         let selected = krates.selected(alloc, include)?;
-        let clarifications = ClarificationIndex::of(alloc, policy.clarifications.items())?;
+        let rules = RuleIndex::of(alloc, policy)?;
         let scan = Scan {
             identifier: self.store,
             threshold: self.threshold,
@@ -220,7 +232,7 @@ impl<'i, I: Identifier> Gatherer<'i, I> {
             files,
             &scan,
             policy.file_id,
-            &clarifications,
+            &rules,
             selected.items(),
         )?;
         Ok(Summary { nfos })

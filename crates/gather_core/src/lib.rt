@@ -2,9 +2,11 @@
 #![tactic(auto)]
 
 mod clarifications;
+mod exceptions;
 pub mod findings;
 pub mod gatherer;
 pub mod laws;
+mod rules;
 pub mod summary;
 mod tell;
 mod told;

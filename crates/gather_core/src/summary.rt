@@ -3,6 +3,7 @@ use crate::findings::{Diags, LicenseInfo};
 use deny_text::ListOf;
 use diag_core::Notes;
 use graph_core::Krate;
+use policy_parts::spec::Places;
 use tree_core::Reads;
 
 /// The licence of a crate.
@@ -14,8 +15,11 @@ pub struct KrateLicense<'k> {
     pub notes: Notes,
     /// What was found on the way.
     pub diags: Diags,
-    /// The reads of the crate's files, in the order of the calls.
+    /// The reads of the crate's files, in the order of the calls: behind all others, of the files that are
+    /// looked at for the policy's exceptions.
     pub reads: Reads,
+    /// The places, in the policy's list, of the exceptions that count for the crate.
+    pub exceptions: Places,
 }
 
 /// Licences of crates.

@@ -20,7 +20,7 @@ use crate::findings::{
 };
 use crate::summary::KrateLicense;
 use crate::told::told_by;
-use crate::turn::{LocatedLicense, joined};
+use crate::turn::{TakenLicense, joined};
 use deny_text::Span;
 use diag_core::{Coord, FileId, Files};
 use gather_license::{FilesSeen, JoinedNames, LicenseBasis, folder};
@@ -86,7 +86,7 @@ fn find_points(
     files: &mut Files,
     krate: &Krate,
     faults: &ParseErrors,
-    taken: &LocatedLicense,
+    taken: &TakenLicense,
 ) -> Result<PlacedFindings, AllocError>
     requires faults { FaultsLie (field_text (record_of krate.now)) faults.now }
     requires located { IfSome taken.now.location (λ at.
@@ -127,7 +127,7 @@ pub(crate) fn tell<'k>(
     policy: FileId,
     krate: &'k Krate,
     faults: &ParseErrors,
-    taken: LocatedLicense,
+    taken: TakenLicense,
 ) -> Result<KrateLicense<'k>, AllocError>
     requires faults { FaultsLie (field_text (record_of krate.now)) faults.now }
     requires located { IfSome taken.location (λ at.
@@ -156,5 +156,6 @@ pub(crate) fn tell<'k>(
         notes: told.notes,
         diags,
         reads: taken.reads,
+        exceptions: taken.exceptions,
     })
 }

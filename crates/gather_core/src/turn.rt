@@ -1,34 +1,58 @@
-//! What is taken at a crate's turn: what settles its licence, and where its field is.
-ghost use Rattle.std.specs.Prelude.{◌≡◌, ◌++◌, ◌&&◌, ℕ, not, true, false, IfOk, IfSome, OnErr, is_some};
-ghost use Rattle.std.specs.Prelude.{map};
+//! What is taken at a crate's turn: what settles its licence, where its field is, and which exceptions count.
+ghost use Rattle.std.specs.Prelude.{◌≡◌, ◌≤◌, ◌++◌, ◌&&◌, ℕ, not, true, false, IfOk, IfSome, OnErr, is_some};
+ghost use Rattle.std.specs.Prelude.{drop, length, map, take, if◌then◌else◌};
+ghost use Rattle.std.specs.List.{fold};
 ghost use Rattle.std.specs.Option.{option_to_list};
 ghost use Rattle.graph_core.specs.Krate.{record_of};
+ghost use Rattle.gather_license.specs.files.Calls.{Starves};
+ghost use Rattle.gather_license.specs.files.Steps.{with_path};
+ghost use Rattle.gather_license.specs.files.View.{paths_read};
 ghost use Rattle.gather_license.specs.location.Location.{PointsAt};
 ghost use Rattle.gather_license.specs.Clarification.{lent_clarification};
 ghost use Rattle.gather_license.specs.Priority as spec;
 ghost use Rattle.gather_license.specs.Priority.{field_of, folder_of};
 ghost use Rattle.gather_license.specs.Settled.{scanner_of_scan};
 ghost use Rattle.gather_core.specs.Calls.{IsByOwnReads, StarvesTaking};
+ghost use Rattle.gather_core.specs.Exceptions.{ExceptionRules, named_for};
 ghost use Rattle.gather_core.specs.Premises.{Grows};
-ghost use Rattle.gather_core.specs.Taken.{IsLocatedWhere, IsTaken, is_clarified, turn_with};
-ghost use Rattle.gather_core.specs.Turns.{field_text, located_where, records_in};
+ghost use Rattle.gather_core.specs.Taken.{CountsBy, IsBegunFrom, IsLocatedWhere, IsTaken, Keeps, is_clarified, turn_with};
+ghost use Rattle.gather_core.specs.Turns.{field_text, in_order, located_where, records_before, records_in};
 
+use crate::exceptions::ExceptionIndex;
 use deny_text::ListOf;
 use diag_core::{Coord, Files};
+use gather_license::files::LicensePack;
 use gather_license::location::{LocatedField, locate};
 use gather_license::{ClarificationRef, LicenseBasis, Scan, Spans, settle_license};
 use graph_core::Krate;
+use policy_parts::spec::Places;
 use spdx_core::{Catalog, Expression};
 use spdx_terms::catalog::Identifier;
 use std::alloc::{AllocError, Global};
 use tree_core::{ReadRecord, Reads, Tree};
 
-/// What settles a crate's licence, where its manifest writes its field, and the reads of its turn.
+/// What settles a crate's licence, where its manifest writes its field, and what was read for that.
 #[derive(Drop)]
 pub(crate) struct LocatedLicense {
     pub(crate) by: LicenseBasis,
     pub(crate) missing: Spans,
     pub(crate) location: Option<Coord>,
+    /// The record of the manifest's read.
+    pub(crate) manifest: Option<ReadRecord>,
+    /// What was read of the crate's folder, and the records of these reads.
+    pub(crate) pack: LicensePack,
+    /// How many of them there are.
+    pub(crate) reads_made: usize,
+}
+
+/// What settles a crate's licence, where its manifest writes its field, which exceptions count for it, and
+/// the reads of its turn.
+#[derive(Drop)]
+pub(crate) struct TakenLicense {
+    pub(crate) by: LicenseBasis,
+    pub(crate) missing: Spans,
+    pub(crate) location: Option<Coord>,
+    pub(crate) exceptions: Places,
     pub(crate) reads: Reads,
 }
 
@@ -42,18 +66,31 @@ pub(crate) fn joined<T: Drop>(front: ListOf<T>, back: ListOf<T>) -> Result<ListO
     Ok(ListOf::from(all))
 }
 
-/// The reads of a turn as a list, where there is one.
-fn reads_of(alloc: Global, read: Option<ReadRecord>) -> Result<Reads, AllocError>
-    ensures { IfOk result (λ reads. reads ≡ option_to_list read) }
+/// Reads with that of the manifest at a place among them, where there is one.
+fn with_manifest(
+    reads: Reads,
+    place: usize,
+    manifest: Option<ReadRecord>,
+) -> Result<Reads, AllocError>
+    requires { place ≤ length reads }
+    ensures { IfOk result (λ all. all ≡ take place reads ++ (option_to_list manifest ++ drop place reads)) }
 {
-    match read {
+    match manifest {
         Some(read) => {
-            let mut reads = Vec::with_capacity(alloc, 1)?;
-            reads.push(read)?;
-            Ok(Reads::from(reads))
+            let mut all = reads.into_vec();
+            all.reserve_exact(1)?;
+            all.insert(place, read)?;
+            Ok(Reads::from(all))
         }
-        None => Ok(Reads::new(alloc)),
+        None => Ok(reads),
     }
+}
+
+/// The place of the manifest's record among the reads: first, or behind those that settled the licence.
+fn manifest_place(manifest_first: bool, reads_made: usize) -> usize
+    ensures { result ≡ (if manifest_first then 0 else reads_made) }
+{
+    if manifest_first { 0 } else { reads_made }
 }
 
 /// Where a crate's field is, where it has one; else its manifest is not asked for.
@@ -144,32 +181,34 @@ fn take_manifest_first<T: Tree, I: Identifier, C: Catalog>(
 ) -> Result<LocatedLicense, AllocError>
     requires nothing { spec.is_nothing (map lent_clarification clarifications.now) ≡ true }
     requires field { field ≡ field_of (C.lists scan.now.catalog.now) (record_of krate.now) }
-    // over any tree, by the answers to the turn's own reads, which are all the calls
-    ensures answered { let krate = record_of krate.now in (policy : ℕ) → IfOk result (λ taken.
+    // over any tree, by the answers to the reads that are made, which are all the calls, and by whatever else agrees
+    // with these
+    ensures answered { let krate = record_of krate.now in let all = map lent_clarification clarifications.now in
+        (policy : ℕ) (exceptions : ExceptionRules) → IfOk result (λ located.
         IsByOwnReads (T.content tree.old) (T.content tree.new) (T.fault_count tree.old)
         (T.fault_count tree.new) (T.trace tree.old) (T.trace tree.new)
-        (folder_of krate) taken.reads (λ known_reads manifest. IsTaken (turn_with
-        (scanner_of_scan C.lists I.match_of scan.now) policy (map lent_clarification clarifications.now) krate known_reads manifest
-        files.old) taken files.new)) }
-    ensures no_memory { let krate = record_of krate.now in (policy : ℕ) → OnErr result (
+        (folder_of krate) (in_order (spec.is_nothing all) located.manifest located.pack.reads) (λ known_reads manifest.
+        IsBegunFrom (turn_with (scanner_of_scan C.lists I.match_of scan.now) policy all exceptions krate known_reads
+        manifest files.old) located files.new)) }
+    ensures no_memory { let krate = record_of krate.now in let all = map lent_clarification clarifications.now in
+        (policy : ℕ) (exceptions : ExceptionRules) → OnErr result (
         StarvesTaking (T.content tree.old) (T.content tree.new) (T.fault_count tree.old)
         (T.fault_count tree.new) (T.trace tree.old) (T.trace tree.new)
-        (folder_of krate) (λ known_reads manifest. records_in (turn_with
-        (scanner_of_scan C.lists I.match_of scan.now) policy (map lent_clarification clarifications.now) krate known_reads manifest
-        files.old))) }
-    ensures points { IfOk result (λ taken. IfSome taken.location (λ at.
+        (folder_of krate) (λ known_reads manifest. records_before (turn_with
+        (scanner_of_scan C.lists I.match_of scan.now) policy all exceptions krate known_reads manifest files.old))) }
+    ensures points { IfOk result (λ located. IfSome located.location (λ at.
         PointsAt files.new at (field_text (record_of krate.now)))) }
     ensures grows { Grows files.old files.new }
 {
     let located = locate_field(alloc, tree, files, krate)?;
     let settled = settle_license(alloc, tree, scan, krate, clarifications, field)?;
-    let front = reads_of(alloc, located.read)?;
-    let reads = joined(front, settled.reads)?;
     Ok(LocatedLicense {
         by: settled.by,
         missing: settled.missing,
         location: located.location,
-        reads,
+        manifest: located.read,
+        pack: settled.pack,
+        reads_made: settled.reads_made,
     })
 }
 
@@ -186,32 +225,34 @@ fn take_files_first<T: Tree, I: Identifier, C: Catalog>(
 ) -> Result<LocatedLicense, AllocError>
     requires some { spec.is_nothing (map lent_clarification clarifications.now) ≡ false }
     requires field { field ≡ field_of (C.lists scan.now.catalog.now) (record_of krate.now) }
-    // over any tree, by the answers to the turn's own reads, which are all the calls
-    ensures answered { let krate = record_of krate.now in (policy : ℕ) → IfOk result (λ taken.
+    // over any tree, by the answers to the reads that are made, which are all the calls, and by whatever else agrees
+    // with these
+    ensures answered { let krate = record_of krate.now in let all = map lent_clarification clarifications.now in
+        (policy : ℕ) (exceptions : ExceptionRules) → IfOk result (λ located.
         IsByOwnReads (T.content tree.old) (T.content tree.new) (T.fault_count tree.old)
         (T.fault_count tree.new) (T.trace tree.old) (T.trace tree.new)
-        (folder_of krate) taken.reads (λ known_reads manifest. IsTaken (turn_with
-        (scanner_of_scan C.lists I.match_of scan.now) policy (map lent_clarification clarifications.now) krate known_reads manifest
-        files.old) taken files.new)) }
-    ensures no_memory { let krate = record_of krate.now in (policy : ℕ) → OnErr result (
+        (folder_of krate) (in_order (spec.is_nothing all) located.manifest located.pack.reads) (λ known_reads manifest.
+        IsBegunFrom (turn_with (scanner_of_scan C.lists I.match_of scan.now) policy all exceptions krate known_reads
+        manifest files.old) located files.new)) }
+    ensures no_memory { let krate = record_of krate.now in let all = map lent_clarification clarifications.now in
+        (policy : ℕ) (exceptions : ExceptionRules) → OnErr result (
         StarvesTaking (T.content tree.old) (T.content tree.new) (T.fault_count tree.old)
         (T.fault_count tree.new) (T.trace tree.old) (T.trace tree.new)
-        (folder_of krate) (λ known_reads manifest. records_in (turn_with
-        (scanner_of_scan C.lists I.match_of scan.now) policy (map lent_clarification clarifications.now) krate known_reads manifest
-        files.old))) }
-    ensures points { IfOk result (λ taken. IfSome taken.location (λ at.
+        (folder_of krate) (λ known_reads manifest. records_before (turn_with
+        (scanner_of_scan C.lists I.match_of scan.now) policy all exceptions krate known_reads manifest files.old))) }
+    ensures points { IfOk result (λ located. IfSome located.location (λ at.
         PointsAt files.new at (field_text (record_of krate.now)))) }
     ensures grows { Grows files.old files.new }
 {
     let settled = settle_license(alloc, tree, scan, krate, clarifications, field)?;
     let located = locate_unless_clarified(alloc, tree, files, krate, &settled.by)?;
-    let back = reads_of(alloc, located.read)?;
-    let reads = joined(settled.reads, back)?;
     Ok(LocatedLicense {
         by: settled.by,
         missing: settled.missing,
         location: located.location,
-        reads,
+        manifest: located.read,
+        pack: settled.pack,
+        reads_made: settled.reads_made,
     })
 }
 
@@ -224,7 +265,7 @@ fn is_nothing(clarifications: &[&ClarificationRef<'_>]) -> bool
 
 /// What settles a crate's licence, and where its manifest writes its field. The field is handed in as it was
 /// read.
-pub(crate) fn take<T: Tree, I: Identifier, C: Catalog>(
+fn take_located<T: Tree, I: Identifier, C: Catalog>(
     alloc: Global,
     tree: &mut T,
     files: &mut Files,
@@ -234,20 +275,22 @@ pub(crate) fn take<T: Tree, I: Identifier, C: Catalog>(
     field: Option<Expression>,
 ) -> Result<LocatedLicense, AllocError>
     requires { field ≡ field_of (C.lists scan.now.catalog.now) (record_of krate.now) }
-    // over any tree, by the answers to the turn's own reads, which are all the calls
-    ensures answered { let krate = record_of krate.now in (policy : ℕ) → IfOk result (λ taken.
+    // over any tree, by the answers to the reads that are made, which are all the calls, and by whatever else agrees
+    // with these
+    ensures answered { let krate = record_of krate.now in let all = map lent_clarification clarifications.now in
+        (policy : ℕ) (exceptions : ExceptionRules) → IfOk result (λ located.
         IsByOwnReads (T.content tree.old) (T.content tree.new) (T.fault_count tree.old)
         (T.fault_count tree.new) (T.trace tree.old) (T.trace tree.new)
-        (folder_of krate) taken.reads (λ known_reads manifest. IsTaken (turn_with
-        (scanner_of_scan C.lists I.match_of scan.now) policy (map lent_clarification clarifications.now) krate known_reads manifest
-        files.old) taken files.new)) }
-    ensures no_memory { let krate = record_of krate.now in (policy : ℕ) → OnErr result (
+        (folder_of krate) (in_order (spec.is_nothing all) located.manifest located.pack.reads) (λ known_reads manifest.
+        IsBegunFrom (turn_with (scanner_of_scan C.lists I.match_of scan.now) policy all exceptions krate known_reads
+        manifest files.old) located files.new)) }
+    ensures no_memory { let krate = record_of krate.now in let all = map lent_clarification clarifications.now in
+        (policy : ℕ) (exceptions : ExceptionRules) → OnErr result (
         StarvesTaking (T.content tree.old) (T.content tree.new) (T.fault_count tree.old)
         (T.fault_count tree.new) (T.trace tree.old) (T.trace tree.new)
-        (folder_of krate) (λ known_reads manifest. records_in (turn_with
-        (scanner_of_scan C.lists I.match_of scan.now) policy (map lent_clarification clarifications.now) krate known_reads manifest
-        files.old))) }
-    ensures points { IfOk result (λ taken. IfSome taken.location (λ at.
+        (folder_of krate) (λ known_reads manifest. records_before (turn_with
+        (scanner_of_scan C.lists I.match_of scan.now) policy all exceptions krate known_reads manifest files.old))) }
+    ensures points { IfOk result (λ located. IfSome located.location (λ at.
         PointsAt files.new at (field_text (record_of krate.now)))) }
     ensures grows { Grows files.old files.new }
 {
@@ -256,4 +299,72 @@ pub(crate) fn take<T: Tree, I: Identifier, C: Catalog>(
     } else {
         take_files_first(alloc, tree, files, scan, krate, clarifications, field)
     }
+}
+
+/// The exceptions that count for a crate, whose files are looked at behind all else, and all reads in order:
+/// with the manifest's first, or behind those that settled the licence.
+fn take_exceptions<T: Tree>(
+    alloc: Global,
+    tree: &mut T,
+    krate: &Krate,
+    exceptions: &ExceptionIndex<'_>,
+    manifest_first: bool,
+    located: LocatedLicense,
+) -> Result<TakenLicense, AllocError>
+    requires { located.reads_made ≡ length located.pack.reads }
+    ensures kept { IfOk result (λ taken. Keeps located taken) }
+    // over any tree, by whatever known reads agree with what was read
+    ensures counted { IfOk result (λ taken. CountsBy (T.content tree.old) (T.content tree.new) (T.fault_count tree.old)
+        (T.fault_count tree.new) (T.trace tree.old) (T.trace tree.new)
+        exceptions.now (record_of krate.now) manifest_first located taken) }
+    ensures no_memory { OnErr result (Starves (T.content tree.old) (T.content tree.new) (T.fault_count tree.old)
+        (T.fault_count tree.new) (T.trace tree.old) (T.trace tree.new)
+        located.pack (λ known_reads. fold with_path (paths_read located.pack.reads)
+        (named_for exceptions.now (record_of krate.now) known_reads))) }
+{
+    let place = manifest_place(manifest_first, located.reads_made);
+    let counted = exceptions.counted(alloc, tree, krate, located.pack)?;
+    let reads = with_manifest(counted.pack.into_reads(), place, located.manifest)?;
+    Ok(TakenLicense {
+        by: located.by,
+        missing: located.missing,
+        location: located.location,
+        exceptions: counted.places,
+        reads,
+    })
+}
+
+/// What settles a crate's licence, where its manifest writes its field, and which exceptions count for it. The
+/// field is handed in as it was read.
+pub(crate) fn take<T: Tree, I: Identifier, C: Catalog>(
+    alloc: Global,
+    tree: &mut T,
+    files: &mut Files,
+    scan: &Scan<'_, I, C>,
+    krate: &Krate,
+    clarifications: &[&ClarificationRef<'_>],
+    exceptions: &ExceptionIndex<'_>,
+    field: Option<Expression>,
+) -> Result<TakenLicense, AllocError>
+    requires { field ≡ field_of (C.lists scan.now.catalog.now) (record_of krate.now) }
+    // over any tree, by the answers to the turn's own reads, which are all the calls
+    ensures answered { let krate = record_of krate.now in (policy : ℕ) → IfOk result (λ taken.
+        IsByOwnReads (T.content tree.old) (T.content tree.new) (T.fault_count tree.old)
+        (T.fault_count tree.new) (T.trace tree.old) (T.trace tree.new)
+        (folder_of krate) taken.reads (λ known_reads manifest. IsTaken (turn_with
+        (scanner_of_scan C.lists I.match_of scan.now) policy (map lent_clarification clarifications.now) exceptions.now krate
+        known_reads manifest files.old) taken files.new)) }
+    ensures no_memory { let krate = record_of krate.now in (policy : ℕ) → OnErr result (
+        StarvesTaking (T.content tree.old) (T.content tree.new) (T.fault_count tree.old)
+        (T.fault_count tree.new) (T.trace tree.old) (T.trace tree.new)
+        (folder_of krate) (λ known_reads manifest. records_in (turn_with
+        (scanner_of_scan C.lists I.match_of scan.now) policy (map lent_clarification clarifications.now) exceptions.now krate
+        known_reads manifest files.old))) }
+    ensures points { IfOk result (λ taken. IfSome taken.location (λ at.
+        PointsAt files.new at (field_text (record_of krate.now)))) }
+    ensures grows { Grows files.old files.new }
+{
+    let manifest_first = is_nothing(clarifications);
+    let located = take_located(alloc, tree, files, scan, krate, clarifications, field)?;
+    take_exceptions(alloc, tree, krate, exceptions, manifest_first, located)
 }

@@ -1,5 +1,5 @@
 -- From what was looked at for a crate to what settles its licence.
-use Rattle.std.proofs.Common.{◌≡◌, ◌∙◌, ℕ, ◌++◌, true, false, cond, List, [], ◌∷◌, map, Option, None, Some, is_none, refl, sym, ap, subst}
+use Rattle.std.proofs.Common.{◌≡◌, ◌∙◌, ℕ, length, ◌++◌, true, false, cond, List, [], ◌∷◌, map, Option, None, Some, is_none, refl, sym, ap, subst}
 use Rattle.std.specs.Prelude.{option_map}
 use Rattle.std.specs.List.{flat_map, fold}
 use Rattle.std.proofs.lemmas.List.Sums.{fold-append}
@@ -9,10 +9,10 @@ use Rattle.graph_core.specs.Krate.{CrateRecord}
 use Rattle.tree_core.specs.file_reads.Heard.{ReadResult}
 use Rattle.tree_core.specs.file_reads.Read.{AnsweredRead}
 use Rattle.gather_license.specs.files.Calls.{TakesIn}
-use Rattle.gather_license.specs.files.KnownReads.{FolderReads, looked_of, tried_of}
+use Rattle.gather_license.specs.files.KnownReads.{FolderReads, known_reads_by, looked_of, tried_of}
 use Rattle.gather_license.specs.files.NamedFile.{NamedFileView}
 use Rattle.gather_license.specs.files.Pack.{license_files_in, in_path_order, pack_paths, reads_of, wanted_of}
-use Rattle.gather_license.specs.files.Steps.{Agrees, BeginsPack, records_by, with_path}
+use Rattle.gather_license.specs.files.Steps.{Agrees, BeginsPack, records_by, unread_pack, with_path}
 use Rattle.gather_license.specs.files.View.{PackView, paths_of, paths_read}
 use Rattle.gather_license.proofs.files.CallLemmas.{agrees_before}
 use Rattle.gather_license.proofs.files.PathLemmas.{look_ups_keep_first_spellings}
@@ -23,8 +23,8 @@ use Rattle.gather_license.specs.declared.settling.FilesSeen.{FilesSeen}
 use Rattle.gather_license.specs.declared.settling.LicenseBasis.TheVariants.{Field}
 use Rattle.gather_license.specs.Clarification.{ClarificationView, named_files, held_in}
 use Rattle.gather_license.specs.Priority.{by_seen, field_of, files_heard, files_scanned, folder_of, holding_clarification, is_nothing, looks_at_files, records_with, seen_by, settling_by}
-use Rattle.gather_license.specs.Settled.{IsSettledBy, missing_of}
-use Rattle.gather_license.specs.Steps.{IsLooked, IsOrderedBy, seen_in}
+use Rattle.gather_license.specs.Settled.{IsSettledBy, IsSettledFrom, missing_of}
+use Rattle.gather_license.specs.Steps.{IsLooked, IsOrderedBy, IsOrderedFrom, seen_in}
 use Rattle.gather_license.proofs.ApartLemmas.{AreApart, apart_in_order, apart_spellings, heard_at_paths}
 
 -- what was found and then looked up was read in the order of the reads
@@ -67,15 +67,16 @@ files_looked : (known_reads : FolderReads) (pack : PackView) (paths : List (List
 files_looked known_reads pack paths agrees sorted apart =
     sym (heard_at_paths known_reads.file pack.files (subst AreApart (sym sorted) (apart_in_order paths apart)) agrees.files) ∙ ap (files_heard known_reads) sorted
 
-pub ordered : (scanner : Scanner) (krate : CrateRecord) (clarifications : List ClarificationView) (pack : PackView)
-    → (held : Option HeldClarification) (missing : List Span) (field : Option ExpressionView) (settled : SettledLicense) (known_reads : FolderReads) → IsLooked krate clarifications pack held missing
-    → paths_of pack.files ≡ in_path_order (paths_read settled.reads) → field ≡ field_of scanner.lists krate
-    → settled.by ≡ settling_by held field (by_seen scanner.lists (seen_in scanner pack)) → settled.missing ≡ missing → settled.reads ≡ pack.reads
-    → Agrees known_reads pack → IsOrderedBy scanner clarifications krate known_reads settled
-ordered scanner krate clarifications pack held missing field settled known_reads is sorted field_is by_is missing_is reads agrees =
+pub ordered : (scanner : Scanner) (krate : CrateRecord) (clarifications : List ClarificationView)
+    → (held : Option HeldClarification) (missing : List Span) (field : Option ExpressionView) (settled : SettledLicense) → IsLooked krate clarifications settled.pack held missing
+    → paths_of settled.pack.files ≡ in_path_order (paths_read settled.pack.reads) → field ≡ field_of scanner.lists krate
+    → settled.by ≡ settling_by held field (by_seen scanner.lists (seen_in scanner settled.pack)) → settled.missing ≡ missing
+    → (known_reads : FolderReads) → Agrees known_reads settled.pack → IsOrderedBy scanner clarifications krate known_reads settled
+ordered scanner krate clarifications held missing field settled is sorted field_is by_is missing_is known_reads agrees =
+    let pack = settled.pack in
     let wanted = wanted_of known_reads krate.license_file (named_files clarifications) in
     let files : pack.files ≡ files_heard known_reads (pack_paths known_reads krate.license_file (named_files clarifications)) =
-    files_looked known_reads pack (reads_of known_reads krate.license_file (named_files clarifications)) agrees (sorted ∙ ap (λ reads. in_path_order (paths_read reads)) reads ∙ ap in_path_order (is.paths known_reads agrees)) (apart_spellings wanted) in
+    files_looked known_reads pack (reads_of known_reads krate.license_file (named_files clarifications)) agrees (sorted ∙ ap in_path_order (is.paths known_reads agrees)) (apart_spellings wanted) in
     let seen : seen_in scanner pack ≡ seen_by known_reads.listing (files_scanned scanner clarifications krate known_reads) =
     ap (λ (files : List (List ℕ × ReadResult)). seen_by pack.listing (map (file_scanned scanner) files)) files
     ∙ ap (λ listing. seen_by listing (files_scanned scanner clarifications krate known_reads)) (sym agrees.listing) in
@@ -86,21 +87,26 @@ ordered scanner krate clarifications pack held missing field settled known_reads
           ∙ ap (λ (one : Option ExpressionView). settling_by (option_map held_in (holding_clarification known_reads clarifications)) one (by_seen scanner.lists (seen_in scanner pack))) field_is
           ∙ ap (λ (seen : FilesSeen). settling_by (option_map held_in (holding_clarification known_reads clarifications)) (field_of scanner.lists krate) (by_seen scanner.lists seen)) seen;
       missing = missing_is ∙ is.missing_is known_reads agrees;
-      reads = reads ∙ is.reads known_reads agrees;
+      reads = is.reads known_reads agrees;
     }
 
 -- ---- the files were looked at, or were not
 
 pub settled_by_files : (scanner : Scanner) (clarifications : List ClarificationView) (krate : CrateRecord) (known_reads : FolderReads) (settled : SettledLicense)
-    → looks_at_files scanner clarifications krate ≡ true → IsOrderedBy scanner clarifications krate known_reads settled → IsSettledBy scanner clarifications krate known_reads settled
-settled_by_files scanner clarifications krate known_reads settled looks is = record {
-  by_is = is.by;
-  missing_is = is.missing;
-  reads_are = is.reads ∙ sym (ap (λ b. cond b (records_with clarifications krate known_reads) []) looks);
+    → looks_at_files scanner clarifications krate ≡ true → IsOrderedFrom scanner clarifications krate known_reads settled → IsSettledFrom scanner clarifications krate known_reads settled
+settled_by_files scanner clarifications krate known_reads settled looks from = record {
+  folder = from.folder;
+  made = from.made;
+  agrees = from.agrees;
+  by_any = λ other agrees. record {
+    by_is = (from.by_any other agrees).by;
+    missing_is = (from.by_any other agrees).missing;
+    reads_are = (from.by_any other agrees).reads ∙ sym (ap (λ b. cond b (records_with clarifications krate other) []) looks);
+  };
 }
 
 pub settled_by_field : (scanner : Scanner) (clarifications : List ClarificationView) (krate : CrateRecord) (known_reads : FolderReads) (settled : SettledLicense) (expression : ExpressionView)
-    → is_nothing clarifications ≡ true → Some expression ≡ field_of scanner.lists krate → settled ≡ record { by = Field expression; missing = []; reads = [] }
+    → is_nothing clarifications ≡ true → Some expression ≡ field_of scanner.lists krate → settled ≡ record { by = Field expression; missing = []; pack = unread_pack (folder_of krate); reads_made = 0 }
     → IsSettledBy scanner clarifications krate known_reads settled
 settled_by_field scanner [] krate known_reads settled expression none field is =
     record {
@@ -108,9 +114,23 @@ settled_by_field scanner [] krate known_reads settled expression none field is =
           ap (λ (s : SettledLicense). s.by) is
           ∙ ap (λ (one : Option ExpressionView). settling_by None one (by_seen scanner.lists (seen_by known_reads.listing (files_scanned scanner [] krate known_reads)))) field;
       missing_is = ap (λ (s : SettledLicense). s.missing) is;
-      reads_are = ap (λ (s : SettledLicense). s.reads) is ∙ ap (λ (one : Option ExpressionView). cond (is_none one) (records_with [] krate known_reads) []) field;
+      reads_are = ap (λ (s : SettledLicense). s.pack.reads) is ∙ ap (λ (one : Option ExpressionView). cond (is_none one) (records_with [] krate known_reads) []) field;
     }
 settled_by_field scanner (first ∷ rest) krate known_reads settled expression none field is = cc
+
+-- what nothing was read of has what no reads say
+agrees_unread : (folder : List ℕ) → Agrees (known_reads_by []) (unread_pack folder)
+agrees_unread folder = record { listing = refl; files = λ path heard there. let bad : None ≡ Some heard = there in cc }
+
+pub settled_unread : (scanner : Scanner) (clarifications : List ClarificationView) (krate : CrateRecord) (settled : SettledLicense) (expression : ExpressionView)
+    → is_nothing clarifications ≡ true → Some expression ≡ field_of scanner.lists krate → settled ≡ record { by = Field expression; missing = []; pack = unread_pack (folder_of krate); reads_made = 0 }
+    → IsSettledFrom scanner clarifications krate (known_reads_by []) settled
+settled_unread scanner clarifications krate settled expression none field is = record {
+  folder = ap (λ (s : SettledLicense). s.pack.folder) is;
+  made = ap (λ (s : SettledLicense). s.reads_made) is ∙ sym (ap (λ (s : SettledLicense). length s.pack.reads) is);
+  agrees = subst (λ (s : SettledLicense). Agrees (known_reads_by []) s.pack) (sym is) (agrees_unread (folder_of krate));
+  by_any = λ other agrees. settled_by_field scanner clarifications krate other settled expression none field is;
+}
 
 pub looks_for_some : (scanner : Scanner) (clarifications : List ClarificationView) (krate : CrateRecord) → is_nothing clarifications ≡ false → looks_at_files scanner clarifications krate ≡ true
 looks_for_some scanner [] krate some = cc

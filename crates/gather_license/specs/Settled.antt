@@ -1,5 +1,5 @@
 -- What the call that settles a crate's licence answers.
-use Rattle.std.specs.Prelude.{◌≡◌, ℕ, List, [], ◌∷◌, ◌++◌, slice_get, Option, option_copied, option_map}
+use Rattle.std.specs.Prelude.{◌≡◌, ℕ, List, [], ◌∷◌, ◌++◌, length, slice_get, Option, option_copied, option_map}
 use Rattle.std.specs.Prelude.{option_and_then, if◌then◌else◌}
 use Rattle.std.specs.Option.{option_to_list}
 use Rattle.deny_text.specs.declared.span.Span.{Span}
@@ -7,11 +7,12 @@ use Rattle.spdx_terms.specs.catalog.Catalog.{CatalogLists}
 use Rattle.spdx_terms.specs.declared.catalog.identifier.Match.{Match}
 use Rattle.graph_core.specs.Krate.{CrateRecord}
 use Rattle.gather_license.specs.files.KnownReads.{FolderReads, holds, missing_from}
+use Rattle.gather_license.specs.files.Steps.{Agrees}
 use Rattle.gather_license.specs.expression.Scanned.{Scanner, match_by}
 use Rattle.gather_license.specs.declared.scan.Scan.{Scan}
 use Rattle.gather_license.specs.declared.settle.SettledLicense.{SettledLicense}
 use Rattle.gather_license.specs.Clarification.{ClarificationView, PlacedFile, named_in}
-use Rattle.gather_license.specs.Priority.{records_of, basis_of}
+use Rattle.gather_license.specs.Priority.{folder_of, records_of, basis_of}
 
 -- what texts are identified by, of what was handed in
 abbrev pub scanner_of_scan : {I C : Type 0} → (C → CatalogLists) → (I → List ℕ → Match) → Scan I C → Scanner
@@ -43,4 +44,14 @@ pub record IsSettledBy (scanner : Scanner) (clarifications : List ClarificationV
     (known_reads : FolderReads) (settled : SettledLicense) : Type 0 where
   pub by_is : settled.by ≡ basis_of scanner clarifications krate known_reads
   pub missing_is : settled.missing ≡ missing_of known_reads clarifications
-  pub reads_are : settled.reads ≡ records_of scanner clarifications krate known_reads
+  pub reads_are : settled.pack.reads ≡ records_of scanner clarifications krate known_reads
+
+-- A crate's licence is settled from some known reads: they agree with what was read of its folder, and by whatever
+-- agrees with that it is settled so. What is read later changes nothing of it.
+pub record IsSettledFrom (scanner : Scanner) (clarifications : List ClarificationView) (krate : CrateRecord)
+    (known_reads : FolderReads) (settled : SettledLicense) : Type 0 where
+  pub folder : settled.pack.folder ≡ folder_of krate
+  pub made : settled.reads_made ≡ length settled.pack.reads
+  pub agrees : Agrees known_reads settled.pack
+  pub by_any : (other : FolderReads) → Agrees other settled.pack
+      → IsSettledBy scanner clarifications krate other settled

@@ -1,5 +1,5 @@
 -- What the steps towards a crate's licence say, by whatever known reads agree with the pack that is left.
-use Rattle.std.specs.Prelude.{◌≡◌, List, map, Option, option_map}
+use Rattle.std.specs.Prelude.{◌≡◌, List, length, map, Option, option_map}
 use Rattle.deny_text.specs.declared.span.Span.{Span}
 use Rattle.graph_core.specs.Krate.{CrateRecord}
 use Rattle.gather_license.specs.files.KnownReads.{FolderReads}
@@ -37,4 +37,13 @@ pub record IsOrderedBy (scanner : Scanner) (clarifications : List ClarificationV
     (known_reads : FolderReads) (settled : SettledLicense) : Type 0 where
   pub by : settled.by ≡ basis_of scanner clarifications krate known_reads
   pub missing : settled.missing ≡ missing_of known_reads clarifications
-  pub reads : settled.reads ≡ records_with clarifications krate known_reads
+  pub reads : settled.pack.reads ≡ records_with clarifications krate known_reads
+
+-- what settles the licence so by whatever known reads agree with the pack that is left, as these do
+pub record IsOrderedFrom (scanner : Scanner) (clarifications : List ClarificationView) (krate : CrateRecord)
+    (known_reads : FolderReads) (settled : SettledLicense) : Type 0 where
+  pub folder : settled.pack.folder ≡ folder_of krate
+  pub made : settled.reads_made ≡ length settled.pack.reads
+  pub agrees : Agrees known_reads settled.pack
+  pub by_any : (other : FolderReads) → Agrees other settled.pack
+      → IsOrderedBy scanner clarifications krate other settled

@@ -5,14 +5,14 @@ ghost use Rattle.std.specs.Option.{option_to_list};
 ghost use Rattle.graph_core.specs.Krate.{record_of};
 ghost use Rattle.gather_license.specs.files.Calls.{GoesBy, IsMadeBy, Starves, StarvesAmong};
 ghost use Rattle.gather_license.specs.files.KnownReads.{FolderReads, looked_of, tried_of};
-ghost use Rattle.gather_license.specs.files.Steps.{Agrees, with_path};
+ghost use Rattle.gather_license.specs.files.Steps.{Agrees, unread_pack, with_path};
 ghost use Rattle.gather_license.specs.files.View.{paths_read};
 ghost use Rattle.gather_license.specs.Calls.{IsByReads};
 ghost use Rattle.gather_license.specs.Clarification.{lent_clarification, named_files, held_in};
 ghost use Rattle.gather_license.specs.Priority as spec;
 ghost use Rattle.gather_license.specs.Priority.{field_of, folder_of, holding_clarification, records_of, records_with};
-ghost use Rattle.gather_license.specs.Settled.{IsSettledBy, missing_of, scanner_of_scan, span_at};
-ghost use Rattle.gather_license.specs.Steps.{IsLooked, IsOrderedBy};
+ghost use Rattle.gather_license.specs.Settled.{IsSettledFrom, missing_of, scanner_of_scan, span_at};
+ghost use Rattle.gather_license.specs.Steps.{IsLooked, IsOrderedFrom};
 
 use crate::clarification::{ClarificationRef, FileRef, HeldClarification};
 use crate::files::LicensePack;
@@ -24,19 +24,23 @@ use graph_core::Krate;
 use spdx_core::{Catalog, Expression};
 use spdx_terms::catalog::Identifier;
 use std::alloc::{AllocError, Global};
-use tree_core::{Reads, Tree};
+use tree_core::Tree;
 
 /// Places in order.
 pub type Spans = ListOf<Span>;
 
-/// What settles a crate's licence, and the records of the reads that it was made of.
+/// What settles a crate's licence, and what was read of its folder for that.
 #[derive(Drop)]
 pub struct SettledLicense {
     pub by: LicenseBasis,
     /// The places, in the policy's file, of the paths of files that are not there: of each clarification that
     /// was tried, that of the first file that does not match, where nothing is there.
     pub missing: Spans,
-    pub reads: Reads,
+    /// The files that were read, by their paths, with the records of their reads. Further files can be looked
+    /// up in it.
+    pub pack: LicensePack,
+    /// How many reads were made.
+    pub reads_made: usize,
 }
 
 /// A crate's pack, the first clarification that holds by it, and the places of files that are not there.
@@ -150,14 +154,25 @@ fn look<T: Tree>(
 }
 
 /// By the field alone, where no clarification is for the crate.
-fn settle_by_field(alloc: Global, expression: Expression) -> SettledLicense
-    ensures { result ≡ record { by = LicenseBasis.Field expression; missing = []; reads = [] } }
+fn settle_by_field(
+    alloc: Global,
+    krate: &Krate,
+    expression: Expression,
+) -> Result<SettledLicense, AllocError>
+    ensures { IfOk result (λ settled. settled ≡ record {
+      by = LicenseBasis.Field expression;
+      missing = [];
+      pack = unread_pack (folder_of (record_of krate.now));
+      reads_made = 0;
+    }) }
 {
-    SettledLicense {
+    let pack = LicensePack::unread(alloc, folder(krate))?;
+    Ok(SettledLicense {
         by: LicenseBasis::Field(expression),
         missing: Spans::new(alloc),
-        reads: Reads::new(alloc),
-    }
+        pack,
+        reads_made: 0,
+    })
 }
 
 /// By the crate's files: with the clarifications that are for it, and the expression of its field.
@@ -173,7 +188,7 @@ fn settle_by_files<T: Tree, I: Identifier, C: Catalog>(
     ensures answered { let krate = record_of krate.now in IfOk result (λ settled.
         IsByReads (T.content tree.old) (T.content tree.new) (T.fault_count tree.old)
         (T.fault_count tree.new) (T.trace tree.old) (T.trace tree.new)
-        (folder_of krate) settled.reads (λ known_reads. IsOrderedBy (scanner_of_scan C.lists I.match_of scan.now)
+        (folder_of krate) settled.pack.reads (λ known_reads. IsOrderedFrom (scanner_of_scan C.lists I.match_of scan.now)
         (map lent_clarification clarifications.now) krate known_reads settled)) }
     ensures no_memory { OnErr result (StarvesAmong (T.content tree.old) (T.content tree.new) (T.fault_count tree.old)
         (T.fault_count tree.new) (T.trace tree.old) (T.trace tree.new)
@@ -181,9 +196,13 @@ fn settle_by_files<T: Tree, I: Identifier, C: Catalog>(
 {
     let clarified = look(alloc, tree, krate, clarifications)?;
     let by = settle_by_cases(alloc, scan, clarified.held, field, &clarified.pack)?;
-    let missing = clarified.missing;
-    let reads = clarified.pack.into_reads();
-    Ok(SettledLicense { by, missing, reads })
+    let reads_made = clarified.pack.reads_made();
+    Ok(SettledLicense {
+        by,
+        missing: clarified.missing,
+        pack: clarified.pack,
+        reads_made,
+    })
 }
 
 /// Whether no clarification is for a crate.
@@ -206,11 +225,12 @@ pub fn settle_license<T: Tree, I: Identifier, C: Catalog>(
     field: Option<Expression>,
 ) -> Result<SettledLicense, AllocError>
     requires { field ≡ field_of (C.lists scan.now.catalog.now) (record_of krate.now) }
-    // over any tree, by the answers to the crate's own reads, which are all the calls
+    // over any tree, by the answers to the crate's own reads, which are all the calls, and by whatever else agrees with
+    // these
     ensures answered { let krate = record_of krate.now in IfOk result (λ settled.
         IsByReads (T.content tree.old) (T.content tree.new) (T.fault_count tree.old)
         (T.fault_count tree.new) (T.trace tree.old) (T.trace tree.new)
-        (folder_of krate) settled.reads (λ known_reads. IsSettledBy (scanner_of_scan C.lists I.match_of scan.now)
+        (folder_of krate) settled.pack.reads (λ known_reads. IsSettledFrom (scanner_of_scan C.lists I.match_of scan.now)
         (map lent_clarification clarifications.now) krate known_reads settled)) }
     ensures no_memory { OnErr result (StarvesAmong (T.content tree.old) (T.content tree.new) (T.fault_count tree.old)
         (T.fault_count tree.new) (T.trace tree.old) (T.trace tree.new)
@@ -221,7 +241,7 @@ pub fn settle_license<T: Tree, I: Identifier, C: Catalog>(
         return settle_by_files(alloc, tree, scan, krate, clarifications, field);
     }
     match field {
-        Some(expression) => Ok(settle_by_field(alloc, expression)),
+        Some(expression) => settle_by_field(alloc, krate, expression),
         None => settle_by_files(alloc, tree, scan, krate, clarifications, None),
     }
 }

@@ -17,9 +17,9 @@ texts words = map string_bytes words
 unfoldable pub usage : List ℕ
 usage =
     codes "usage: licence-hash FILE..\n"
-    ++ codes "Writes for each file the entry that `license-files` of a clarification takes. "
+    ++ codes "Writes for each file the entry that `license-files` of a clarification or of an exception takes. "
     ++ codes "Run it in the crate's folder,\n"
-    ++ codes "since a clarification names a file from there on. Status 1: a file is not there, or is no text.\n"
+    ++ codes "since such an entry names a file from there on. Status 1: a file is not there, or is no text.\n"
 
 -- what is asked for: all words but the first, which is the program's name
 abbrev pub behind_name : List (List ℕ) → List (List ℕ)

@@ -19,8 +19,8 @@ fn usage() -> &'static str
 {
     "\
 usage: licence-hash FILE..
-Writes for each file the entry that `license-files` of a clarification takes. Run it in the crate's folder,
-since a clarification names a file from there on. Status 1: a file is not there, or is no text.
+Writes for each file the entry that `license-files` of a clarification or of an exception takes. Run it in the crate's folder,
+since such an entry names a file from there on. Status 1: a file is not there, or is no text.
 "
 }
 

@@ -9,7 +9,8 @@ use Rattle.toml_subset.specs.Reading.{read_text}
 use Rattle.policy_core.specs.declared.valid.policy.ValidConfig.{ValidConfig}
 use Rattle.policy_core.specs.declared.valid.policy.ValidException.{ValidException}
 use Rattle.policy_core.specs.ExceptionsText.{ExceptionsAnswer, HadMemory, ReadsBy, answer_exceptions, diagnostics_of}
-use Rattle.policy_core.specs.Heard.{LoadState, after_exceptions}
+use Rattle.policy_core.specs.Heard.{TakesExceptions}
+use Rattle.policy_core.specs.validate.Order.{AddsInOrder}
 use Rattle.policy_core.specs.declared.exceptions.ExceptionsHeard.TheVariants.{Heard}
 use Rattle.policy_core.proofs.ExceptionLemmas.{text_taken}
 
@@ -18,11 +19,12 @@ Done = Result (Unit {0}) AllocError
 
 pub taken : (result : Done) (lists : CatalogLists) (path text : List ℕ) (file : ℕ) (answer : ExceptionsAnswer) (policy : ValidConfig) (files : List File) (found : List Diagnostic)
     (exceptions : List ValidException) (more : List File) (further : List Diagnostic)
-    → OnOk result (HadMemory answer) → OnOk result (exceptions ≡ policy.exceptions ++ answer_exceptions file answer) → OnOk result (further ≡ found ++ diagnostics_of file answer)
+    → OnOk result (HadMemory answer) → OnOk result (AddsInOrder (answer_exceptions file answer) policy.exceptions exceptions)
+    → OnOk result (further ≡ found ++ diagnostics_of policy.version file answer)
     → ReadsBy lists (read_text text) answer → file ≡ length files
     → more ≡ files ++ record { name = path; source = text; has_path = true } ∷ []
-    → OnOk result ((let new : LoadState = record { policy = record policy { exceptions = exceptions }; files = more; found = further } in new)
-    ≡ after_exceptions lists (Heard path (Ok text)) (record { policy = policy; files = files; found = found }))
+    → OnOk result (TakesExceptions lists (Heard path (Ok text)) (record { policy = policy; files = files; found = found })
+    (record { policy = record policy { exceptions = exceptions }; files = more; found = further }))
 taken (Ok done) lists path text file answer policy files found exceptions more further is kept told reads number added =
     text_taken lists path text file answer policy files found exceptions more further reads is number kept added told
 taken (Err error) lists path text file answer policy files found exceptions more further is kept told reads number added = tt

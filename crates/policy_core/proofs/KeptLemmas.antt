@@ -1,6 +1,6 @@
 -- Each place that a valid policy keeps lies in the text of its file.
 use Rattle.std.proofs.Common.{◌≡◌, ◌∙◌, refl, sym, ap, subst, ℕ, ◌+◌, ◌-◌, ◌^◌, ◌<◌, ◌≤◌, true, false, cond, List, [], ◌∷◌, ◌++◌, length, drop, Option, Some, None, Ok, Err, arith}
-use Rattle.std.specs.Prelude.{⊤, slice_range}
+use Rattle.std.specs.Prelude.{⊤, slice_range, unwrap_or}
 use Rattle.std.specs.List.{AllByRecursion, AllZip, cons_option}
 use Rattle.std.specs.List.Sorted.{IsPermutation}
 use Rattle.std.specs.Result.{result_ok}
@@ -20,7 +20,8 @@ use Rattle.policy_parts.specs.declared.entries.exception.Exception.{Exception}
 use Rattle.policy_parts.specs.declared.entries.exception.ExceptionsFile.{ExceptionsFile}
 use Rattle.policy_parts.specs.declared.entries.licensee.Licensee.{Licensee}
 use Rattle.policy_core.specs.place_laws.Parts.{file_source_keeps}
-use Rattle.policy_core.specs.place_laws.Places.{StaysIn, keeps_its_span}
+use Rattle.policy_parts.specs.declared.file_source.FileSource.{FileSource}
+use Rattle.policy_core.specs.place_laws.Places.{StaysIn, keeps_each, keeps_its_span, keeps_where}
 use Rattle.spdx_core.proofs.SpellingLemmas.{is_spelled}
 use Rattle.spdx_core.specs.Reading.{ExpressionView, expression_of_text}
 use Rattle.spdx_terms.specs.Faults.{first_fault}
@@ -32,13 +33,13 @@ use Rattle.toml_subset.proofs.Law.Whole.{text_sound}
 use Rattle.toml_subset.specs.Answer.{TomlReading}
 use Rattle.toml_subset.specs.Data.{Toml}
 use Rattle.toml_subset.specs.Reading.{read_text}
-use Rattle.policy_core.specs.validate.Order.{PutsFilesInOrder, PutsPolicyInOrder}
+use Rattle.policy_core.specs.validate.Order.{PutsExceptionInOrder, PutsFilesInOrder, PutsPolicyInOrder}
 use Rattle.policy_core.specs.validate.Valid.{ItemOrFinding, clarification_judged, clarification_judged_by, exception_in, kept_by, strict_mode, valid_part}
 use Rattle.policy_core.specs.declared.valid.policy.ValidClarification.{ValidClarification}
 use Rattle.policy_core.specs.declared.valid.policy.ValidConfig.{ValidConfig}
 use Rattle.policy_core.specs.declared.valid.policy.ValidException.{ValidException}
 use Rattle.policy_core.specs.Exceptions.{valid_exceptions_in, exceptions_kept, with_exceptions}
-use Rattle.policy_core.specs.Heard.{IsFileText, IsTextHeard, LoadState, after_exceptions, heard_file_of, exceptions_read_of, value_or_fault}
+use Rattle.policy_core.specs.Heard.{IsFileText, IsTextHeard, LoadState, TakesExceptions, heard_file_of, exceptions_read_of, value_or_fault}
 use Rattle.policy_core.specs.Places.{ClarificationStands, ExceptionStands, ExpressionStands, FileStands, IsSpelledAt, LicenseeStands, LiesInFile, PolicyStands}
 use Rattle.policy_core.specs.declared.exceptions.ExceptionsHeard.{ExceptionsHeard}
 use Rattle.policy_core.specs.declared.exceptions.ExceptionsHeard.TheVariants.{NoPath, ThePolicy, Heard}
@@ -103,6 +104,9 @@ exception_more : (files more : List File) (one : ValidException) → ExceptionSt
 exception_more files more one stands = record {
   spec = lies_more files more one.file_id one.spec.span stands.spec;
   allowed = licensees_more files more one.file_id one.allowed stands.allowed;
+  license_files =
+      weaker (FileStands files one.file_id) (FileStands (files ++ more) one.file_id) (λ source there. lies_more files more one.file_id source.path.span there)
+      one.license_files stands.license_files;
 }
 
 policy_more : (files more : List File) (policy : ValidConfig) → PolicyStands files policy → PolicyStands (files ++ more) policy
@@ -136,13 +140,29 @@ all_in_order files file (one ∷ written) [] puts stand = absurd puts
 all_in_order files file (one ∷ written) (other ∷ sorted) puts stand =
     (files_in_order files file one other puts.0 stand.0, all_in_order files file written sorted puts.1 stand.1)
 
+exception_in_order : (files : List File) (written sorted : ValidException) → PutsExceptionInOrder written sorted → ExceptionStands files written → ExceptionStands files sorted
+exception_in_order files written sorted puts stands =
+    subst (ExceptionStands files) (sym puts.rest) (record {
+      spec = stands.spec;
+      allowed = stands.allowed;
+      license_files = shuffled (FileStands files written.file_id) written.license_files sorted.license_files puts.files.same stands.license_files;
+    })
+
+exceptions_in_order : (files : List File) (written sorted : List ValidException) → AllZip PutsExceptionInOrder written sorted
+    → AllByRecursion (ExceptionStands files) written → AllByRecursion (ExceptionStands files) sorted
+exceptions_in_order files [] [] puts stand = tt
+exceptions_in_order files [] (other ∷ sorted) puts stand = absurd puts
+exceptions_in_order files (one ∷ written) [] puts stand = absurd puts
+exceptions_in_order files (one ∷ written) (other ∷ sorted) puts stand =
+    (exception_in_order files one other puts.0 stand.0, exceptions_in_order files written sorted puts.1 stand.1)
+
 policy_in_order : (files : List File) (written sorted : ValidConfig) → PutsPolicyInOrder written sorted → PolicyStands files written → PolicyStands files sorted
 policy_in_order files written sorted puts stands =
     subst (PolicyStands files) (sym puts.rest) (record {
       ignore_sources = stands.ignore_sources;
       allowed = shuffled (LicenseeStands files written.file_id) written.allowed sorted.allowed puts.allowed.same stands.allowed;
       clarifications = all_in_order files written.file_id written.clarifications sorted.clarifications puts.clarifications stands.clarifications;
-      exceptions = stands.exceptions;
+      exceptions = exceptions_in_order files written.exceptions sorted.exceptions puts.exceptions stands.exceptions;
     })
 
 -- ---- what is valid of a policy
@@ -151,10 +171,18 @@ module _ (files : List File) (file : ℕ) (text : List ℕ) (source : source_of_
   licensees_stand : (licensees : List Licensee) → AllByRecursion (licensee_keeps text) licensees → AllByRecursion (LicenseeStands files file) licensees
   licensees_stand = weaker (licensee_keeps text) (LicenseeStands files file) (λ licensee lies. in_file files file text source licensee.0.span lies)
 
+  sources_stand : (sources : List FileSource) → AllByRecursion (file_source_keeps text) sources → AllByRecursion (FileStands files file) sources
+  sources_stand = weaker (file_source_keeps text) (FileStands files file) (λ one lies. in_file files file text source one.path.span lies)
+
+  files_stand : (named : Option (List FileSource)) → keeps_where (keeps_each file_source_keeps) text named → AllByRecursion (FileStands files file) (unwrap_or named [])
+  files_stand None keeps = tt
+  files_stand (Some sources) keeps = sources_stand sources keeps
+
   exception_stands : (one : Exception) → ExceptionKeeps text one → ExceptionStands files (exception_in file one)
   exception_stands one keeps = record {
     spec = in_file files file text source one.spec.span keeps.spec;
     allowed = licensees_stand one.allow keeps.allow;
+    license_files = files_stand one.license_files keeps.files;
   }
 
   spelled_there : (one : Clarification) → ClarificationKeeps text one → one.escapes ≡ false → IsSpelledAt files file one.expression.span.start one.expression.value
@@ -190,7 +218,7 @@ module _ (files : List File) (file : ℕ) (text : List ℕ) (source : source_of_
     expression =
         subst (ExpressionStands files file (cond one.escapes (Some one.expression.span) None) one.expression.span.start)
         (sym (is_spelled strict_mode lists one.expression.value view is).0) (expression_stands one keeps);
-    license_files = weaker (file_source_keeps text) (FileStands files file) (λ one lies. in_file files file text source one.path.span lies) one.license_files keeps.files;
+    license_files = sources_stand one.license_files keeps.files;
   }
 
   valid_stands : (lists : CatalogLists) (config : Config) → ConfigKeeps text config → PolicyStands files (valid_part lists file config)
@@ -242,9 +270,15 @@ more_stand files more policy stands there = record {
   exceptions = both (ExceptionStands files) policy.exceptions more stands.exceptions there;
 }
 
-pub exceptions_places : (lists : CatalogLists) → IsCatalog lists → (hearing : ExceptionsHeard) (old new : LoadState) → IsTextHeard hearing → new ≡ after_exceptions lists hearing old
+pub exceptions_places : (lists : CatalogLists) → IsCatalog lists → (hearing : ExceptionsHeard) (old new : LoadState) → IsTextHeard hearing → TakesExceptions lists hearing old new
     → PolicyStands old.files old.policy → PolicyStands new.files new.policy
-exceptions_places lists laws hearing old new text loads stands =
-    subst (λ (state : LoadState). PolicyStands state.files state.policy) (sym loads)
-    (more_stand (old.files ++ heard_file_of hearing) (exceptions_kept lists (length old.files) (exceptions_read_of hearing)) old.policy
-    (policy_more old.files (heard_file_of hearing) old.policy stands) (exceptions_stand lists laws old.files hearing text))
+exceptions_places lists laws hearing old new text takes stands =
+    let all = old.files ++ heard_file_of hearing in
+    let more = takes.exceptions.0 in
+    let is : new.policy ≡ with_exceptions more old.policy =
+    takes.rest ∙ ap (λ (kept : List ValidException). let one : ValidConfig = record old.policy { exceptions = kept } in one) takes.exceptions.2 in
+    subst (λ known. PolicyStands known new.policy) (sym takes.files)
+    (subst (PolicyStands all) (sym is)
+    (more_stand all more old.policy (policy_more old.files (heard_file_of hearing) old.policy stands)
+    (exceptions_in_order all (exceptions_kept lists (length old.files) (exceptions_read_of hearing)) more takes.exceptions.1
+    (exceptions_stand lists laws old.files hearing text))))

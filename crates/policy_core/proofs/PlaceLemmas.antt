@@ -1,6 +1,6 @@
 -- Each label of what is reported of a policy, and of its exceptions file, points into its file.
-use Rattle.std.proofs.Common.{◌≡◌, refl, sym, subst, ℕ, zero, suc, Bool, true, false, cond, List, [], ◌∷◌, ◌++◌, length, map, codes, Option, Some, None, Ok, Err}
-use Rattle.std.specs.Prelude.{⊤, unwrap_or}
+use Rattle.std.proofs.Common.{◌≡◌, refl, sym, subst, ℕ, zero, suc, Bool, true, false, not, ◌&&◌, cond, List, [], ◌∷◌, ◌++◌, length, map, codes, Option, Some, None, Ok, Err}
+use Rattle.std.specs.Prelude.{⊤, ℤ, is_some, unwrap_or}
 use Rattle.std.specs.List.{AllByRecursion, cons_option}
 use Rattle.std.specs.Option.{option_to_list}
 use Rattle.std.specs.Result.{result_err}
@@ -13,7 +13,7 @@ use Rattle.diag_core.specs.declared.diagnostic.Diagnostic.{Diagnostic}
 use Rattle.diag_core.specs.declared.label.Label.{Label}
 use Rattle.policy_core.proofs.place_laws.Borders.{part_is_text, moved_lies}
 use Rattle.policy_core.proofs.place_laws.EntryPlaces.{exceptions_file_stays}
-use Rattle.policy_core.specs.place_laws.Entries.{ClarificationKeeps, exceptions_file_keeps}
+use Rattle.policy_core.specs.place_laws.Entries.{ClarificationKeeps, ExceptionKeeps, exceptions_file_keeps}
 use Rattle.policy_core.specs.place_laws.Policies.{ConfigKeeps, RootKeeps}
 use Rattle.policy_core.specs.config.Config.{no_config}
 use Rattle.policy_core.specs.declared.config.config.Config.{Config}
@@ -21,9 +21,10 @@ use Rattle.policy_core.specs.declared.config.root.RootConfig.{RootConfig}
 use Rattle.policy_parts.specs.entries.Exceptions.{exceptions_file_of}
 use Rattle.policy_parts.specs.entries.Licensees.{span_from}
 use Rattle.policy_parts.specs.declared.entries.clarification.Clarification.{Clarification}
+use Rattle.policy_parts.specs.declared.entries.exception.Exception.{Exception}
 use Rattle.policy_parts.specs.declared.entries.exception.ExceptionsFile.{ExceptionsFile}
 use Rattle.policy_core.specs.place_laws.Parts.{target_keeps}
-use Rattle.policy_core.specs.place_laws.Places.{IsToldIn, StaysIn, keeps_its_span, keeps_where}
+use Rattle.policy_core.specs.place_laws.Places.{IsToldIn, StaysIn, keeps_each, keeps_its_span, keeps_where}
 use Rattle.graph_core.specs.source.Reading.{SourceReading as AddressRead, address_of}
 use Rattle.spdx_core.proofs.FaultSpans.{fault_lies}
 use Rattle.spdx_core.specs.Reading.{ExpressionView, expression_of_text}
@@ -38,10 +39,11 @@ use Rattle.toml_subset.specs.Answer.{TomlReading}
 use Rattle.toml_subset.specs.Data.{Toml}
 use Rattle.toml_subset.specs.Reading.{read_text}
 use Rattle.url.specs.Parts.{Parts}
-use Rattle.policy_core.specs.validate.Valid.{ItemOrFinding, address_findings, address_judged, address_judged_by, clarification_findings, clarification_judged, clarification_judged_by, place_in, removed_findings, removed_key, strict_mode, findings_by_each, validation_findings}
-use Rattle.policy_core.specs.Exceptions.{exceptions_findings, shape_diagnostic}
+use Rattle.policy_core.specs.validate.Valid.{ItemOrFinding, address_findings, address_judged, address_judged_by, clarification_findings, clarification_judged, clarification_judged_by, needs_version_3, place_in, removed_findings, removed_key, strict_mode, findings_by_each, validation_findings, version_findings}
+use Rattle.policy_core.specs.valid.Version.{is_version_3}
+use Rattle.policy_core.specs.Exceptions.{exceptions_findings, file_version_findings, shape_diagnostic, version_findings_in}
 use Rattle.policy_core.specs.Findings.{graph_key_findings, moved_key_finding, output_key_findings, target_finding, target_findings}
-use Rattle.policy_core.specs.Heard.{IsFileText, IsTextHeard, LoadState, after_exceptions, heard_file_of, exceptions_read_of, value_or_fault}
+use Rattle.policy_core.specs.Heard.{IsFileText, IsTextHeard, LoadState, TakesExceptions, heard_file_of, exceptions_read_of, value_or_fault}
 use Rattle.policy_core.specs.Places.{IsConfigPlaced, LabelPointsInFile, LiesInFile, PointInto, PointsInto}
 use Rattle.policy_core.specs.Policy.{absence_findings, licenses_in}
 use Rattle.policy_core.specs.declared.exceptions.ExceptionsHeard.{ExceptionsHeard}
@@ -126,6 +128,21 @@ module _ (files : List File) (file : ℕ) (text : List ℕ) (source : source_of_
   removed_point config keeps =
       map_all (LiesBetween text) (PointsInto files) (removed_key file) (λ key lies. (in_file key lies, tt)) config.deprecated_spans keeps.deprecated
 
+  one_version : (told : Bool) (finding : Diagnostic) (more : List Diagnostic) → PointsInto files finding → PointInto files more
+      → PointInto files (cons_option (cond told (Some finding) None) more)
+  one_version true finding more points all = (points, all)
+  one_version false finding more points all = all
+
+  versions_point : (version : ℤ) (exceptions : List Exception) → keeps_each ExceptionKeeps text exceptions → PointInto files (version_findings version file exceptions)
+  versions_point version [] keeps = tt
+  versions_point version (one ∷ more) keeps =
+      one_version (not (is_version_3 version) && is_some one.license_files) (needs_version_3 file one) (version_findings version file more) (in_file one.spec.span keeps.0.spec, tt)
+      (versions_point version more keeps.1)
+
+  held_point : (version : ℤ) (shaped : ShapeReading ExceptionsFile) → StaysIn exceptions_file_keeps text shaped → PointInto files (version_findings_in version file shaped)
+  held_point version (Ok held) stays = versions_point version held.exceptions stays
+  held_point version (Err faults) stays = tt
+
   moved_point : (table : List ℕ) (keys : List Span) → AllByRecursion (LiesBetween text) keys → PointInto files (map (moved_key_finding table file) keys)
   moved_point table keys lie = map_all (LiesBetween text) (PointsInto files) (moved_key_finding table file) (λ key lies. (in_file key lies, tt)) keys lie
 
@@ -172,9 +189,12 @@ pub validation_points : (lists : CatalogLists) → IsCatalog lists → (files : 
 validation_points lists laws files file text config source is_text keeps =
     let addresses = address_findings file config in
     let clarifications = clarification_findings lists file config in
-    both (PointsInto files) (addresses ++ clarifications) (removed_findings file config)
+    let removed = removed_findings file config in
+    both (PointsInto files) (addresses ++ clarifications ++ removed) (version_findings config.version file config.exceptions)
+    (both (PointsInto files) (addresses ++ clarifications) removed
     (both (PointsInto files) addresses clarifications (addresses_point files file text source config keeps)
-    (clarifications_point files file text source is_text lists laws config keeps)) (removed_point files file text source config keeps)
+    (clarifications_point files file text source is_text lists laws config keeps)) (removed_point files file text source config keeps))
+    (versions_point files file text source config.version config.exceptions keeps.exceptions)
 
 -- ---- an exceptions file, whose text goes behind the other files
 
@@ -208,12 +228,35 @@ exceptions_point lists laws files (ThePolicy path) text = (tt, tt)
 exceptions_point lists laws files (Heard path (Ok content)) text = text_points lists laws files path content text (read_text content) refl
 exceptions_point lists laws files (Heard path (Err fault)) text = (tt, tt)
 
-pub exceptions_labels : (lists : CatalogLists) → IsCatalog lists → (hearing : ExceptionsHeard) (old new : LoadState) → IsTextHeard hearing → new ≡ after_exceptions lists hearing old
+-- and what is reported of its exceptions by the policy's version
+text_versions_point : (lists : CatalogLists) → IsCatalog lists → (version : ℤ) (files : List File) (path text : List ℕ) → IsFileText text → (read : TomlReading Toml)
+    → read_text text ≡ read
+    → PointInto (files ++ record { name = path; source = text; has_path = true } ∷ []) (file_version_findings lists version (length files) (value_or_fault read))
+text_versions_point lists laws version files path text is_text (Ok toml) is =
+    let all = files ++ record { name = path; source = text; has_path = true } ∷ [] in
+    held_point all (length files) text (source_last files (record { name = path; source = text; has_path = true })) version (exceptions_file_of lists toml)
+    (exceptions_file_stays text is_text.utf8 is_text.fits lists laws toml (text_placed text is_text.utf8 toml (text_sound text toml is)))
+text_versions_point lists laws version files path text is_text (Err fault) is = tt
+
+file_versions_point : (lists : CatalogLists) → IsCatalog lists → (version : ℤ) (files : List File) (hearing : ExceptionsHeard) → IsTextHeard hearing
+    → PointInto (files ++ heard_file_of hearing) (file_version_findings lists version (length files) (exceptions_read_of hearing))
+file_versions_point lists laws version files NoPath text = tt
+file_versions_point lists laws version files (ThePolicy path) text = tt
+file_versions_point lists laws version files (Heard path (Ok content)) text = text_versions_point lists laws version files path content text (read_text content) refl
+file_versions_point lists laws version files (Heard path (Err fault)) text = tt
+
+pub exceptions_labels : (lists : CatalogLists) → IsCatalog lists → (hearing : ExceptionsHeard) (old new : LoadState) → IsTextHeard hearing → TakesExceptions lists hearing old new
     → PointInto old.files old.found → PointInto new.files new.found
-exceptions_labels lists laws hearing old new text loads points =
-    subst (λ (state : LoadState). PointInto state.files state.found) (sym loads)
-    (both (PointsInto (old.files ++ heard_file_of hearing)) old.found (exceptions_findings lists (length old.files) (exceptions_read_of hearing))
-    (point_into_more old.files (heard_file_of hearing) old.found points) (exceptions_point lists laws old.files hearing text))
+exceptions_labels lists laws hearing old new text takes points =
+    let all = old.files ++ heard_file_of hearing in
+    let version = old.policy.version in
+    let file = length old.files in
+    let tells = exceptions_findings lists file (exceptions_read_of hearing) in
+    let versions = file_version_findings lists version file (exceptions_read_of hearing) in
+    subst (λ known. PointInto known new.found) (sym takes.files)
+    (subst (PointInto all) (sym takes.found)
+    (both (PointsInto all) old.found (tells ++ versions) (point_into_more old.files (heard_file_of hearing) old.found points)
+    (both (PointsInto all) tells versions (exceptions_point lists laws old.files hearing text) (file_versions_point lists laws version old.files hearing text))))
 
 -- ---- what is reported in front of the two, and behind them
 

@@ -1,6 +1,7 @@
+pub mod AddedLemmas
 mod AddressLemmas
 mod Clarified
 mod Examples
-mod JudgedLemmas
+pub mod JudgedLemmas
 mod OrderLemmas
 mod SortLemmas

@@ -1,5 +1,5 @@
 -- What was read of an exceptions file, and what comes of it.
-use Rattle.std.specs.Prelude.{◌≡◌, ℕ, List, [], ◌∷◌, ◌++◌, map, codes, Ok, Err}
+use Rattle.std.specs.Prelude.{◌≡◌, ℕ, ℤ, List, [], ◌∷◌, ◌++◌, map, codes, Ok, Err}
 use Rattle.spdx_terms.specs.catalog.Catalog.{CatalogLists}
 use Rattle.deny_text.specs.declared.span.Span.{Span}
 use Rattle.diag_core.specs.Diagnostic.{plain_diagnostic}
@@ -10,7 +10,7 @@ use Rattle.toml_subset.specs.shapes.Shaped.{ShapeReading, faults_in}
 use Rattle.toml_subset.specs.shapes.Shapes.{ShapeFault, reason_text}
 use Rattle.policy_parts.specs.entries.Exceptions.{exceptions_file_of}
 use Rattle.policy_parts.specs.declared.entries.exception.ExceptionsFile.{ExceptionsFile}
-use Rattle.policy_core.specs.validate.Valid.{error_at, exception_in}
+use Rattle.policy_core.specs.validate.Valid.{error_at, exception_in, version_findings}
 use Rattle.policy_core.specs.declared.valid.policy.ValidConfig.{ValidConfig}
 use Rattle.policy_core.specs.declared.valid.policy.ValidException.{ValidException}
 
@@ -73,7 +73,20 @@ syntax_finding file place = error_at file (codes "syntax error") place []
 abbrev pub shape_diagnostic : ℕ → ShapeFault → Diagnostic
 shape_diagnostic file fault = error_at file (reason_text fault.reason) fault.span []
 
--- what is wrong with an exceptions file of this number
+-- those of its exceptions that need another version of the policy; none where its shape is wrong
+abbrev pub version_findings_in : ℤ → ℕ → ShapeReading ExceptionsFile → List Diagnostic
+version_findings_in version file (Ok held) = version_findings version file held.exceptions
+version_findings_in version file (Err faults) = []
+
+-- the findings on the policy's version in an exceptions file of this number
+abbrev pub file_version_findings : CatalogLists → ℤ → ℕ → ExceptionsRead → List Diagnostic
+file_version_findings lists version file no_file = []
+file_version_findings lists version file (policy_itself path) = []
+file_version_findings lists version file (no_text path words) = []
+file_version_findings lists version file (no_value place) = []
+file_version_findings lists version file (value toml) = version_findings_in version file (exceptions_file_of lists toml)
+
+-- what else is wrong with an exceptions file of this number
 abbrev pub exceptions_findings : CatalogLists → ℕ → ExceptionsRead → List Diagnostic
 exceptions_findings lists file no_file = []
 exceptions_findings lists file (policy_itself path) = itself_finding path ∷ []

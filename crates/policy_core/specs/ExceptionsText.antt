@@ -1,5 +1,5 @@
 -- What reading the text of an exceptions file answers, and what is kept and reported of that.
-use Rattle.std.specs.Prelude.{◌≡◌, ℕ, List, [], ◌∷◌, map, Result, Ok, Err, ⊤}
+use Rattle.std.specs.Prelude.{◌≡◌, ℕ, ℤ, List, [], ◌∷◌, map, Result, Ok, Err, ⊤}
 use Rattle.spdx_terms.specs.catalog.Catalog.{CatalogLists}
 use Rattle.diag_core.specs.declared.diagnostic.Diagnostic.{Diagnostic}
 use Rattle.toml_subset.specs.Answer.{TomlReading}
@@ -8,7 +8,7 @@ use Rattle.toml_subset.specs.Reading.{read_text}
 use Rattle.toml_subset.specs.shapes.Shaped.{ShapeReading}
 use Rattle.policy_parts.specs.entries.Exceptions.{exceptions_file_of}
 use Rattle.policy_parts.specs.declared.entries.exception.ExceptionsFile.{ExceptionsFile}
-use Rattle.policy_core.specs.validate.Valid.{exception_in}
+use Rattle.policy_core.specs.validate.Valid.{exception_in, version_findings}
 use Rattle.policy_core.specs.declared.valid.policy.ValidException.{ValidException}
 use Rattle.policy_core.specs.Exceptions.{shape_diagnostic, syntax_finding}
 use Rattle.policy_core.specs.declared.exceptions_text.NoExceptions.{NoExceptions}
@@ -47,9 +47,9 @@ abbrev pub answer_exceptions : ℕ → ExceptionsAnswer → List ValidException
 answer_exceptions file (Ok held) = map (exception_in file) held.exceptions
 answer_exceptions file (Err reason) = []
 
--- and what is reported of it
-abbrev pub diagnostics_of : ℕ → ExceptionsAnswer → List Diagnostic
-diagnostics_of file (Ok held) = []
-diagnostics_of file (Err (Syntax place)) = syntax_finding file place ∷ []
-diagnostics_of file (Err (Shape faults)) = map (shape_diagnostic file) faults
-diagnostics_of file (Err Memory) = []
+-- and what is reported of it, under the policy's version
+abbrev pub diagnostics_of : ℤ → ℕ → ExceptionsAnswer → List Diagnostic
+diagnostics_of version file (Ok held) = version_findings version file held.exceptions
+diagnostics_of version file (Err (Syntax place)) = syntax_finding file place ∷ []
+diagnostics_of version file (Err (Shape faults)) = map (shape_diagnostic file) faults
+diagnostics_of version file (Err Memory) = []

@@ -1,5 +1,5 @@
 -- What is read of an exceptions file, and what that leaves.
-use Rattle.std.specs.Prelude.{ℕ, ◌<◌, ◌^◌, true, List, [], ◌∷◌, ◌++◌, codes, length, Ok, Err, ⊤}
+use Rattle.std.specs.Prelude.{◌≡◌, ℕ, ℤ, ◌<◌, ◌^◌, true, List, [], ◌∷◌, ◌++◌, codes, length, Ok, Err, ⊤}
 use Rattle.std.specs.Str.{IsUtf8}
 use Rattle.spdx_terms.specs.catalog.Catalog.{CatalogLists}
 use Rattle.diag_core.specs.File.{File}
@@ -11,7 +11,8 @@ use Rattle.toml_subset.specs.Data.{Toml}
 use Rattle.toml_subset.specs.Reading.{read_text}
 use Rattle.policy_core.specs.declared.valid.policy.ValidConfig.{ValidConfig}
 use Rattle.policy_core.specs.Exceptions.{ExceptionsRead, no_file, policy_itself, no_text, no_value, value}
-use Rattle.policy_core.specs.Exceptions.{exceptions_kept, exceptions_findings, with_exceptions}
+use Rattle.policy_core.specs.Exceptions.{exceptions_kept, exceptions_findings, file_version_findings}
+use Rattle.policy_core.specs.validate.Order.{AddsInOrder}
 use Rattle.policy_core.specs.declared.exceptions.ExceptionsHeard.{ExceptionsHeard}
 use Rattle.policy_core.specs.declared.exceptions.ExceptionsHeard.TheVariants.{NoPath, ThePolicy, Heard}
 
@@ -58,11 +59,17 @@ pub record LoadState : Type 0 where
   pub files : List File
   pub found : List Diagnostic
 
--- The exceptions of a file, which gets the next number, go behind those of the policy, or what is wrong with it behind
--- the findings so far.
-abbrev pub after_exceptions : CatalogLists → ExceptionsHeard → LoadState → LoadState
-after_exceptions lists hearing state = record {
-  policy = with_exceptions (exceptions_kept lists (length state.files) (exceptions_read_of hearing)) state.policy;
-  files = state.files ++ heard_file_of hearing;
-  found = state.found ++ exceptions_findings lists (length state.files) (exceptions_read_of hearing);
-}
+-- what is found wrong with an exceptions file of this number, under the policy's version
+abbrev pub findings_heard : CatalogLists → ℤ → ℕ → ExceptionsHeard → List Diagnostic
+findings_heard lists version file hearing =
+    exceptions_findings lists file (exceptions_read_of hearing)
+    ++ file_version_findings lists version file (exceptions_read_of hearing)
+
+-- The exceptions of a file, which gets the next number, go behind those of the policy, the files of each in order, and
+-- what is wrong with it behind the findings so far.
+pub record TakesExceptions (lists : CatalogLists) (hearing : ExceptionsHeard) (old new : LoadState) : Type 0 where
+  pub rest : new.policy ≡ record old.policy { exceptions = new.policy.exceptions }
+  pub exceptions : AddsInOrder (exceptions_kept lists (length old.files) (exceptions_read_of hearing))
+      old.policy.exceptions new.policy.exceptions
+  pub files : new.files ≡ old.files ++ heard_file_of hearing
+  pub found : new.found ≡ old.found ++ findings_heard lists old.policy.version (length old.files) hearing

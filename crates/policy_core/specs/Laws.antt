@@ -10,7 +10,7 @@ use Rattle.policy_core.specs.declared.valid.policy.ValidConfig.{ValidConfig}
 use Rattle.policy_core.specs.validate.Order.{PutsPolicyInOrder}
 use Rattle.policy_core.specs.validate.Valid.{valid_part, validation_findings}
 use Rattle.policy_core.specs.Findings.{target_findings, graph_key_findings, output_key_findings}
-use Rattle.policy_core.specs.Heard.{IsFileText, IsTextHeard, LoadState, after_exceptions}
+use Rattle.policy_core.specs.Heard.{IsFileText, IsTextHeard, LoadState, TakesExceptions}
 use Rattle.policy_core.specs.Places.{IsConfigPlaced, PointInto, PolicyStands}
 use Rattle.policy_core.specs.declared.exceptions.ExceptionsHeard.{ExceptionsHeard}
 
@@ -41,13 +41,13 @@ ValidPoliciesStand =
 abbrev pub ExceptionsPoint : Type 0
 ExceptionsPoint =
     (lists : CatalogLists) → IsCatalog lists → (hearing : ExceptionsHeard) (old new : LoadState) → IsTextHeard hearing
-    → new ≡ after_exceptions lists hearing old → PointInto old.files old.found → PointInto new.files new.found
+    → TakesExceptions lists hearing old new → PointInto old.files old.found → PointInto new.files new.found
 
 -- and what is kept of it keeps places of its file
 abbrev pub ExceptionsStand : Type 0
 ExceptionsStand =
     (lists : CatalogLists) → IsCatalog lists → (hearing : ExceptionsHeard) (old new : LoadState) → IsTextHeard hearing
-    → new ≡ after_exceptions lists hearing old → PolicyStands old.files old.policy → PolicyStands new.files new.policy
+    → TakesExceptions lists hearing old new → PolicyStands old.files old.policy → PolicyStands new.files new.policy
 
 -- what is reported of settings points into the policy's file
 abbrev pub SettingsPoint : Type 0

@@ -71,6 +71,7 @@ pub record ClarificationStands (files : List File) (file : ℕ) (one : ValidClar
 pub record ExceptionStands (files : List File) (one : ValidException) : Type 0 where
   pub spec : LiesInFile files one.file_id one.spec.span
   pub allowed : AllByRecursion (LicenseeStands files one.file_id) one.allowed
+  pub license_files : AllByRecursion (FileStands files one.file_id) one.license_files
 
 -- each place that a valid policy keeps lies in the text of its file
 pub record PolicyStands (files : List File) (policy : ValidConfig) : Type 0 where

@@ -11,8 +11,10 @@ use Rattle.policy_core.specs.config.Root.{root_of}
 use Rattle.policy_core.specs.declared.config.config.Config.{Config}
 use Rattle.policy_core.specs.declared.config.root.RootConfig.{RootConfig}
 use Rattle.policy_core.specs.validate.Valid.{valid_part, address_findings, clarification_findings, removed_findings}
+use Rattle.policy_core.specs.validate.Valid.{version_findings}
 use Rattle.policy_core.specs.declared.valid.policy.ValidConfig.{ValidConfig}
-use Rattle.policy_core.specs.Exceptions.{ExceptionsRead, exceptions_kept, exceptions_findings, with_exceptions}
+use Rattle.policy_core.specs.Exceptions.{ExceptionsRead, exceptions_kept, exceptions_findings, file_version_findings}
+use Rattle.policy_core.specs.Exceptions.{with_exceptions}
 use Rattle.policy_core.specs.Findings.{absence_finding, target_findings, graph_key_findings, output_key_findings}
 
 -- ---- what was read
@@ -53,15 +55,18 @@ abbrev pub absence_findings : Bool → Option (List ℕ) → List Diagnostic
 absence_findings is_there path = if is_there then [] else absence_finding path ∷ []
 
 -- All that is reported of a policy, in order: that it is absent; addresses that can't be read; clarifications whose
--- expressions can't; keys that were removed; what is wrong with the exceptions file; targets, which have no effect;
--- keys that were moved to the table `graph`, and the one that was moved to `output`.
+-- expressions can't; keys that were removed; exceptions that name files under another version than 3; what is wrong
+-- with the exceptions file, and then those of its exceptions; targets, which have no effect; keys that were moved to
+-- the table `graph`, and the one that was moved to `output`.
 abbrev pub load_findings : CatalogLists → FileNumbers → List Diagnostic → RootConfig → ExceptionsRead → List Diagnostic
 load_findings lists numbers absence root exceptions =
     absence
     ++ address_findings numbers.policy (licenses_in root)
     ++ clarification_findings lists numbers.policy (licenses_in root)
     ++ removed_findings numbers.policy (licenses_in root)
+    ++ version_findings (licenses_in root).version numbers.policy (licenses_in root).exceptions
     ++ exceptions_findings lists numbers.exceptions exceptions
+    ++ file_version_findings lists (licenses_in root).version numbers.exceptions exceptions
     ++ target_findings numbers.policy root
     ++ graph_key_findings numbers.policy root
     ++ output_key_findings numbers.policy root

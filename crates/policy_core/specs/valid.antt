@@ -4,4 +4,5 @@ pub mod Laws
 pub mod Policy
 pub mod Rows
 pub mod Satisfied
+pub mod Version
 pub mod View

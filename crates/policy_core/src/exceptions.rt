@@ -3,13 +3,15 @@ ghost use Rattle.std.specs.Prelude.{◌≡◌, ◌++◌, Ok, OnOk};
 ghost use Rattle.diag_core.specs.File.{Grows};
 ghost use Rattle.deny_text.specs.Fronts.{StandsInFront};
 ghost use Rattle.policy_core.specs.Exceptions.{HasMoreExceptions};
+ghost use Rattle.policy_core.specs.validate.Order.{AddsInOrder};
 ghost use Rattle.policy_core.specs.ExceptionsText.{HadMemory, answer_exceptions, diagnostics_of};
-ghost use Rattle.policy_core.specs.Heard.{IsFileText, IsTextHeard, LoadState, after_exceptions};
+ghost use Rattle.policy_core.specs.Heard.{IsFileText, IsTextHeard, LoadState, TakesExceptions};
 
 use crate::exceptions_text::{NoExceptions, read_exceptions};
 use crate::findings::{syntax, tell_itself, tell_shape, tell_unread};
 use crate::valid::{ValidConfig, ValidExceptions};
 use crate::validate::add_exceptions;
+use crate::validate::entries::tell_versions;
 use deny_text::{PathBuf, Text};
 use diag_core::lists::Diagnostics;
 use diag_core::{FileId, Files};
@@ -30,22 +32,26 @@ pub enum ExceptionsHeard {
 }
 
 /// Puts the exceptions that were read behind the others, or what is wrong with them behind the findings so
-/// far.
+/// far; also those that name files under another version than 3.
 fn keep_or_tell(
     alloc: Global,
+    version: i32,
     file: FileId,
     read: Result<ExceptionsFile, NoExceptions>,
     exceptions: &mut ValidExceptions,
     diags: &mut Diagnostics,
 ) -> Result<(), AllocError>
     ensures answered { OnOk result (HadMemory read) }
-    ensures kept { OnOk result (exceptions.new ≡ exceptions.old ++ answer_exceptions file read) }
-    ensures told { OnOk result (diags.new ≡ diags.old ++ diagnostics_of file read) }
+    ensures kept { OnOk result (AddsInOrder (answer_exceptions file read) exceptions.old exceptions.new) }
+    ensures told { OnOk result (diags.new ≡ diags.old ++ diagnostics_of version file read) }
     ensures exceptions_front { StandsInFront exceptions.old exceptions.new }
     ensures findings { StandsInFront diags.old diags.new }
 {
     match read {
-        Ok(held) => add_exceptions(file, held.exceptions, exceptions),
+        Ok(held) => {
+            tell_versions(alloc, version, file, held.exceptions.items(), diags)?;
+            add_exceptions(alloc, file, held.exceptions, exceptions)
+        }
         Err(NoExceptions::Syntax(place)) => {
             let diag = syntax(alloc, file, place)?;
             diags.push(diag)
@@ -68,21 +74,22 @@ fn take_text<C: Catalog>(
     ensures text { IsFileText text }
     ensures taken { let old : LoadState = record { policy = cfg.old; files = files.old; found = diags.old } in
         let new : LoadState = record { policy = cfg.new; files = files.new; found = diags.new } in
-        OnOk result (new ≡ after_exceptions (C.lists catalog.now) (ExceptionsHeard.Heard path (Ok text)) old) }
+        OnOk result (TakesExceptions (C.lists catalog.now) (ExceptionsHeard.Heard path (Ok text)) old new) }
     ensures grows { Grows files.old files.new }
     ensures policy { HasMoreExceptions cfg.old cfg.new }
     ensures findings { StandsInFront diags.old diags.new }
 {
     let read = read_exceptions(alloc, text.as_str(), catalog);
     match files.add_indexed(path, text) {
-        Ok(file) => keep_or_tell(alloc, file, read, &mut cfg.exceptions, diags),
+        Ok(file) => keep_or_tell(alloc, cfg.version, file, read, &mut cfg.exceptions, diags),
         Err(_) => Err(AllocError),
     }
 }
 
 /// Keeps and tells what was read of an exceptions file: its exceptions go behind those of the policy, and its
 /// text, which gets the next number, behind the other files; what is wrong with it goes behind the findings
-/// so far. Of a file that is the policy, or of which no text was read, that is reported.
+/// so far. Of a file that is the policy, or of which no text was read, that is reported, and so is each of its
+/// exceptions that names files where the policy has another version than 3.
 ///
 /// It is refused for want of memory alone; the three may have grown then. Files that are known keep their
 /// texts, findings their places, and the policy all that it has but more exceptions, whatever it answers.
@@ -97,7 +104,7 @@ pub fn take_exceptions<C: Catalog>(
     ensures text { IsTextHeard heard }
     ensures taken { let old : LoadState = record { policy = cfg.old; files = files.old; found = diags.old } in
         let new : LoadState = record { policy = cfg.new; files = files.new; found = diags.new } in
-        OnOk result (new ≡ after_exceptions (C.lists catalog.now) heard old) }
+        OnOk result (TakesExceptions (C.lists catalog.now) heard old new) }
     ensures grows { Grows files.old files.new }
     ensures policy { HasMoreExceptions cfg.old cfg.new }
     ensures findings { StandsInFront diags.old diags.new }

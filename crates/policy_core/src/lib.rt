@@ -16,6 +16,7 @@ pub mod validate;
 pub use crate::config::{Config, RootConfig};
 pub use crate::valid::{
     Urls, ValidClarification, ValidClarifications, ValidConfig, ValidException, ValidExceptions,
+    is_version_3,
 };
 pub use crate::validate::UnvalidatedConfig;
 pub use diag_core::lists::{Diagnostics, SpannedList, ValidationContext};

@@ -4,8 +4,10 @@
 pub mod counted;
 pub mod laws;
 pub mod policy;
+pub mod version;
 
 pub use counted::{AllowedPlace, CountedLicensees, CountedPolicy, ExceptionPlace};
 pub use policy::{
     Urls, ValidClarification, ValidClarifications, ValidConfig, ValidException, ValidExceptions,
 };
+pub use version::is_version_3;

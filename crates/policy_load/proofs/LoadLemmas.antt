@@ -16,7 +16,7 @@ use Rattle.policy_core.specs.declared.valid.policy.ValidConfig.{ValidConfig}
 use Rattle.policy_core.specs.validate.Order.{PutsPolicyInOrder}
 use Rattle.policy_core.specs.validate.Valid.{valid_part, validation_findings}
 use Rattle.policy_core.specs.Findings.{target_findings, graph_key_findings, output_key_findings}
-use Rattle.policy_core.specs.Heard.{IsTextHeard, LoadState, after_exceptions, heard_file_of}
+use Rattle.policy_core.specs.Heard.{IsTextHeard, LoadState, TakesExceptions, heard_file_of}
 use Rattle.policy_core.specs.Places.{IsConfigPlaced, PointInto}
 use Rattle.policy_core.specs.Policy.{absence_findings, licenses_in}
 use Rattle.policy_core.specs.declared.exceptions.ExceptionsHeard.{ExceptionsHeard}
@@ -56,24 +56,24 @@ pub loads_policy : (lists : CatalogLists) → IsCatalog lists → (before after 
     → IsConfigPlaced files file root → config ≡ licenses_in root
     → PutsPolicyInOrder (valid_part lists file config) valid → checked ≡ found ++ absence_findings is_there at ++ validation_findings lists file config
     → IsReadOf before after calls more files path hearing → IsTextHeard hearing
-    → (let behind : LoadState = record { policy = licenses; files = new; found = heard } in behind) ≡ after_exceptions lists hearing (record { policy = valid; files = files; found = checked })
+    → TakesExceptions lists hearing (record { policy = valid; files = files; found = checked }) (record { policy = licenses; files = new; found = heard })
     → all ≡ heard ++ target_findings file root ++ graph_key_findings file root ++ output_key_findings file root
     → LoadsPolicyBy lists before after calls more file (absence_findings is_there at) root path (record { files = files; found = found }) (record { files = new; found = all })
     (record { licenses = licenses; graph = root.graph; output = root.output })
-loads_policy lists laws before after calls more file is_there at root path config hearing valid licenses files new found checked heard all placed is puts checks reads text loads settles =
+loads_policy lists laws before after calls more file is_there at root path config hearing valid licenses files new found checked heard all placed is puts checks reads text takes settles =
     let absence = absence_findings is_there at in
     let old : LoadState = record { policy = valid; files = files; found = checked } in
     let behind : LoadState = record { policy = licenses; files = new; found = heard } in
-    let grown : new ≡ files ++ heard_file_of hearing = ap (λ (s : LoadState). s.files) loads in
+    let grown : new ≡ files ++ heard_file_of hearing = takes.files in
     let there = subst (λ known. IsConfigPlaced known file root) (sym grown) (placed_more files (heard_file_of hearing) file root placed) in
     let told = checks ∙ ap (λ (one : Config). found ++ absence ++ validation_findings lists file one) is in
     let config_keeps = subst (ConfigKeeps placed.text) (sym is) (no_config_keeps placed.text root.licenses placed.keeps.licenses) in
     record {
       hearing = hearing;
       reads = reads;
-      keeps = keeps_policy lists hearing file absence root config valid licenses files new found checked heard all is puts checks loads settles;
+      keeps = keeps_policy lists hearing file absence root config valid licenses files new found checked heard all is puts checks takes settles;
       labels = λ points. subst (PointInto new) (sym settles)
           (settings_labels new file root heard there
-          (exceptions_labels lists laws hearing old behind text loads (subst (PointInto files) (sym told) (checked_labels lists laws files file is_there at root found placed points))));
-      places = exceptions_places lists laws hearing old behind text loads (validated_stands lists files file placed.text config valid placed.source placed.is_text.fits config_keeps puts);
+          (exceptions_labels lists laws hearing old behind text takes (subst (PointInto files) (sym told) (checked_labels lists laws files file is_there at root found placed points))));
+      places = exceptions_places lists laws hearing old behind text takes (validated_stands lists files file placed.text config valid placed.source placed.is_text.fits config_keeps puts);
     }

@@ -1,10 +1,13 @@
 -- Parts of a policy, worked out by hand from the table of keys. A key is at 1..2, a value at the place of its row.
 use Rattle.std.proofs.Common.{◌≡◌, ℕ, ◌^◌, true, false, List, [], ◌∷◌, Some, None, Ok, Err, codes, pos, negsuc, refl}
+use Rattle.spdx_terms.specs.catalog.Catalog.{CatalogLists}
 use Rattle.deny_text.specs.declared.span.Span.{Span}
 use Rattle.toml_subset.specs.Data.{TomlContent, Entries, Toml, string, integer, boolean, table, array, no_item, item, no_entry, entry}
 use Rattle.toml_subset.specs.shapes.Shapes.{fault_alone, missing, wanted, unexpected_keys, unexpected_value, out_of_range}
 use Rattle.policy_parts.specs.Names.{scope_of, agreement_of, lint_of}
 use Rattle.policy_parts.specs.Tables.{private_of, output_of, graph_config_of}
+use Rattle.policy_parts.specs.entries.Exceptions.{exception_of}
+use Rattle.policy_parts.specs.spec.Spec.{Spec}
 use Rattle.policy_parts.specs.Values.{file_source_of, target_of, left_of_target, reason_of, left_of_reason}
 use Rattle.policy_parts.specs.declared.names.BlanketAgreement.TheVariants as agreement
 use Rattle.policy_parts.specs.declared.names.LintLevel.TheVariants as lint
@@ -124,6 +127,34 @@ files : (file_source_of (rows (row (codes "hash") (at 10 12) (integer (pos 7)) (
     (row (codes "hash") (at 13 14) (integer (negsuc 0)) no_entry)))) ≡ Err (fault_alone (out_of_range (codes "u32")) (at 13 14)))
     × (file_source_of (rows (row (codes "path") (at 10 12) (text (codes "p")) no_entry)) ≡ Err (fault_alone (missing (codes "hash")) (at 3 9)))
 files = (refl, refl, refl, refl, refl)
+
+-- ---- exceptions
+
+abbrev no_names : CatalogLists
+no_names = record { licenses = []; exceptions = []; imprecise = [] }
+
+-- an exception for the crate `a` that allows nothing, and other keys of its table
+abbrev excepted : Entries → Toml
+excepted more = rows (row (codes "crate") (at 10 12) (text (codes "a")) (row (codes "allow") (at 13 14) (array no_item) more))
+
+abbrev of_a : Spec
+of_a = record { name = codes "a"; span = at 10 12; requirement = None }
+
+-- it says whether it names files, also none; what is wrong with its files is told, unless it allows nothing
+exceptions : (exception_of no_names (excepted no_entry) ≡ Ok (record { spec = of_a; allow = []; license_files = None }))
+    × (exception_of no_names (excepted (row (codes "license-files") (at 15 16) (array no_item) no_entry))
+    ≡ Ok (record { spec = of_a; allow = []; license_files = Some [] }))
+    × (exception_of no_names (excepted (row (codes "license-files") (at 15 29)
+    (array (item (at 16 28) (table (row (codes "path") (at 17 18) (text (codes "p")) (row (codes "hash") (at 19 20) (integer (pos 7)) no_entry))) no_item)) no_entry))
+    ≡ Ok (record { spec = of_a; allow = []; license_files = Some (record { path = record { value = codes "p"; span = at 17 18 }; hash = 7 } ∷ []) }))
+    × (exception_of no_names (excepted (row (codes "license-files") (at 15 16) (integer (pos 1)) no_entry))
+    ≡ Err (fault_alone (wanted (codes "an array") (codes "an integer")) (at 15 16)))
+    × (exception_of no_names (excepted (row (codes "license-files") (at 15 29)
+    (array (item (at 16 28) (table (row (codes "path") (at 17 18) (text (codes "p")) no_entry)) no_item)) no_entry))
+    ≡ Err (fault_alone (missing (codes "hash")) (at 16 28)))
+    × (exception_of no_names (rows (row (codes "crate") (at 10 12) (text (codes "a")) (row (codes "license-files") (at 15 16) (integer (pos 1))
+    (row (codes "z") (at 17 18) (integer (pos 1)) no_entry)))) ≡ Err (fault_alone (missing (codes "allow")) (at 3 9)))
+exceptions = (refl, refl, refl, refl, refl, refl)
 
 -- ---- reasons
 

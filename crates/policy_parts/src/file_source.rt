@@ -1,4 +1,4 @@
-//! Files that a clarification names.
+//! Files that a clarification or an exception names.
 ghost use Rattle.std.specs.Prelude.{◌≡◌, IfOk};
 ghost use Rattle.policy_toml.specs.rows.Rows.{left_of_table};
 ghost use Rattle.policy_parts.specs.Values.{file_source_at, file_source_of};

@@ -10,7 +10,6 @@ ghost use Rattle.refusal_help.specs.Help.{policy_help, record_of, shape_help, tw
 ghost use Rattle.refusal_help.specs.Words.{read_words};
 
 use crate::again::Again;
-use crate::flat::push_flat;
 use crate::place::place_in;
 use crate::unknown::names_unknown;
 use crate::words::{
@@ -20,6 +19,7 @@ use crate::words::{
 use deny_text::path::join;
 use deny_text::{PathBuf, Text};
 use diag_core::{Location, Severity};
+use diag_print::push_flat;
 use graph_metadata::{MetaFault, MetaReason};
 use run_found::Error;
 use run_request::{Request, Subcommand};

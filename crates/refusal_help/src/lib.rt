@@ -3,7 +3,6 @@
 #![tactic(auto)]
 
 pub mod again;
-mod flat;
 mod help;
 pub mod laws;
 mod place;

@@ -51,34 +51,34 @@ apart_by : (test : Bool) → unlicensed ≡ cond test accepted rejected → ⊥
 apart_by true is = absurd (cc)
 apart_by false is = absurd (cc)
 
-rejected_told : (private : Bool) (policy : Policy) (krate : CrateRecord) (info : LicenseInfo) (notes : List (List ℕ))
-    → rejected ≡ verdict_of private policy krate (expression_of info) → is_error (verdict_finding policy krate info notes) ≡ true
-rejected_told true policy krate info notes is = absurd (cc)
-rejected_told false policy krate license_info.Unlicensed notes is = absurd (cc)
-rejected_told false policy krate (license_info.SpdxExpression expression nfo) notes is = rejected_by (is_allowed policy krate expression.terms expression.tree) _ notes is
+rejected_told : (private : Bool) (policy : Policy) (krate : CrateRecord) (counted : List ℕ) (info : LicenseInfo) (notes : List (List ℕ))
+    → rejected ≡ verdict_of private policy counted (expression_of info) → is_error (verdict_finding policy krate counted info notes) ≡ true
+rejected_told true policy krate counted info notes is = absurd (cc)
+rejected_told false policy krate counted license_info.Unlicensed notes is = absurd (cc)
+rejected_told false policy krate counted (license_info.SpdxExpression expression nfo) notes is = rejected_by (is_allowed policy counted expression.terms expression.tree) _ notes is
 
-unlicensed_told : (private : Bool) (policy : Policy) (krate : CrateRecord) (info : LicenseInfo) (notes : List (List ℕ))
-    → unlicensed ≡ verdict_of private policy krate (expression_of info) → is_error (verdict_finding policy krate info notes) ≡ true
-unlicensed_told true policy krate info notes is = absurd (cc)
-unlicensed_told false policy krate license_info.Unlicensed notes is = refl
-unlicensed_told false policy krate (license_info.SpdxExpression expression nfo) notes is = absurd (apart_by (is_allowed policy krate expression.terms expression.tree) is)
+unlicensed_told : (private : Bool) (policy : Policy) (krate : CrateRecord) (counted : List ℕ) (info : LicenseInfo) (notes : List (List ℕ))
+    → unlicensed ≡ verdict_of private policy counted (expression_of info) → is_error (verdict_finding policy krate counted info notes) ≡ true
+unlicensed_told true policy krate counted info notes is = absurd (cc)
+unlicensed_told false policy krate counted license_info.Unlicensed notes is = refl
+unlicensed_told false policy krate counted (license_info.SpdxExpression expression nfo) notes is = absurd (apart_by (is_allowed policy counted expression.terms expression.tree) is)
 
 true_false : (test : Bool) → test ≡ true → test ≡ false → ⊥
 true_false true one other = absurd (cc)
 true_false false one other = absurd (cc)
 
 -- of a crate none of whose findings is an error
-clear_one : (policy : Policy) (looked : GatheredCrate) (verdict : Verdict) → IsVerdict policy looked.krate (expression_of looked.info) verdict
+clear_one : (policy : Policy) (looked : GatheredCrate) (verdict : Verdict) → IsVerdict policy looked.krate looked.exceptions (expression_of looked.info) verdict
     → count_in severity.Error (pack_by (is_skipped verdict) policy looked) ≡ 0 → is_against verdict ≡ false
 clear_one policy looked Skipped is none = refl
 clear_one policy looked (Accepted choice hits) is none = refl
 clear_one policy looked Unlicensed is none =
-    let finding = verdict_finding policy looked.krate looked.info looked.notes in
-    absurd (true_false (is_error finding) (unlicensed_told is.judged.private policy looked.krate looked.info looked.notes is.judged.is)
+    let finding = verdict_finding policy looked.krate looked.exceptions looked.info looked.notes in
+    absurd (true_false (is_error finding) (unlicensed_told is.judged.private policy looked.krate looked.exceptions looked.info looked.notes is.judged.is)
     (last_counts (Some looked.krate.id) looked.gathered finding none))
 clear_one policy looked (Rejected least blocks) is none =
-    let finding = verdict_finding policy looked.krate looked.info looked.notes in
-    absurd (true_false (is_error finding) (rejected_told is.judged.private policy looked.krate looked.info looked.notes is.judged.is)
+    let finding = verdict_finding policy looked.krate looked.exceptions looked.info looked.notes in
+    absurd (true_false (is_error finding) (rejected_told is.judged.private policy looked.krate looked.exceptions looked.info looked.notes is.judged.is)
     (last_counts (Some looked.krate.id) looked.gathered finding none))
 
 clear_all : (policy : Policy) (looked : List GatheredCrate) (verdicts : List Verdict) (more : List PackOf) → AreVerdicts policy looked verdicts

@@ -17,6 +17,7 @@ use Rattle.policy_core.specs.valid.Policy.{Policy}
 use Rattle.policy_core.specs.valid.View.{policy_of}
 use Rattle.gather_license.specs.expression.Scanned.{Scanner}
 use Rattle.gather_core.specs.Calls.{ReadsOfCrate, CrateTurn, IsTurnBy}
+use Rattle.gather_core.specs.Exceptions.{counted_of}
 use Rattle.gather_core.specs.Gathered.{krate_of}
 use Rattle.gather_core.specs.declared.summary.KrateLicense.{KrateLicense}
 use Rattle.gather_core.proofs.ZipLemmas.{all_left, same_maps}
@@ -71,10 +72,12 @@ told_notes turn (SpdxExpression expression nfo) notes is noted = refl
 -- what the check has looked at is what the turns say
 looked_same : (license : KrateLicense) (turn : TurnInput) (table : List File) → turn.krate ≡ krate_of license → IsTurn turn license table → gathered_in turn ≡ gathered_of_license license
 looked_same license turn table of_krate is =
-    ap (λ krate. let it : GatheredCrate = record { krate = krate; info = info_in turn; gathered = findings_in turn; notes = notes_in turn } in it) of_krate
-    ∙ ap (λ info. let it : GatheredCrate = record { krate = krate_of license; info = info; gathered = findings_in turn; notes = notes_in turn } in it) (sym is.info)
-    ∙ ap (λ found. let it : GatheredCrate = record { krate = krate_of license; info = license.lic_info; gathered = found; notes = notes_in turn } in it) (sym is.found)
-    ∙ ap (λ noted. let it : GatheredCrate = record { krate = krate_of license; info = license.lic_info; gathered = license.diags; notes = noted } in it) (sym is.noted)
+    let counted = counted_of turn.exceptions turn.krate turn.known_reads in
+    ap (λ krate. let it : GatheredCrate = record { krate = krate; info = info_in turn; gathered = findings_in turn; notes = notes_in turn; exceptions = counted } in it) of_krate
+    ∙ ap (λ info. let it : GatheredCrate = record { krate = krate_of license; info = info; gathered = findings_in turn; notes = notes_in turn; exceptions = counted } in it) (sym is.info)
+    ∙ ap (λ found. let it : GatheredCrate = record { krate = krate_of license; info = license.lic_info; gathered = found; notes = notes_in turn; exceptions = counted } in it) (sym is.found)
+    ∙ ap (λ noted. let it : GatheredCrate = record { krate = krate_of license; info = license.lic_info; gathered = license.diags; notes = noted; exceptions = counted } in it) (sym is.noted)
+    ∙ ap (λ those. let it : GatheredCrate = record { krate = krate_of license; info = license.lic_info; gathered = license.diags; notes = license.notes; exceptions = those } in it) (sym is.counted)
 
 module _ (turns : List CrateTurn) (licenses : List KrateLicense) (last : List File) (each : AllZip (IsTurnBy last) turns licenses) where
   pub all_looked : all_gathered turns ≡ gathered_of_licenses licenses
@@ -116,7 +119,9 @@ module _ (given : CommandArguments) (policy : ValidConfig) where
           expression = told_expression license.lic_info license.notes ∙ ap expression_in own.answer;
           source = told_source license.lic_info license.notes ∙ ap source_in own.answer;
           notes = told_notes turn license.lic_info license.notes own.turn.info own.turn.noted ∙ ap notes_of own.answer;
-          verdict = subst (λ krate. IsVerdict (policy_of policy) krate (expression_of license.lic_info) verdict) (sym own.krate) are.0;
+          verdict =
+              subst (λ counted. IsVerdict (policy_of policy) one.krate counted (expression_of license.lic_info) verdict) own.turn.counted
+              (subst (λ krate. IsVerdict (policy_of policy) krate license.exceptions (expression_of license.lic_info) verdict) (sym own.krate) are.0);
         },
         reported_by (files_behind turn) crates licenses last verdicts each.1 are.1,
       )

@@ -11,13 +11,14 @@ use Rattle.policy_core.specs.valid.View.{policy_of}
 use Rattle.check_core.specs.Verdicts.{IsVerdictShown, is_skipped}
 use Rattle.check_core.proofs.HitLemmas.{tells_the_unneeded}
 use Rattle.run_found.specs.Hearing.{RequestHearing, TreeSeen}
+use Rattle.run_found.specs.Licenses.{counted_heard}
 use Rattle.run_command.specs.Found.{IsHeard, turns_in}
 use Rattle.run_command.specs.Given.{CommandArguments}
 use Rattle.run_command.proofs.RiseLemmas.{reads_rise_between}
 use Rattle.check_core.specs.declared.report.CrateReport.{CrateReport}
 use Rattle.run_check.specs.declared.report.Report.{Report}
 use Rattle.run_check.specs.Found.{all_gathered}
-use Rattle.run_check.specs.Named.{FailedReadsRise, ReportsCertificates, ReportsFindings, ReportsOwnReads, ReportsPolicy, ReportsUnneeded, reads_in}
+use Rattle.run_check.specs.Named.{FailedReadsRise, ReportsCertificates, ReportsFindings, ReportsOwnReads, ReportsPolicy, ReportsUnneeded}
 use Rattle.run_check.specs.Report.{IsReport, IsReportOf, verdicts_in}
 
 -- the reads that reports list
@@ -65,7 +66,7 @@ module _ (given : CommandArguments) (tree : TreeSeen) (hearing : RequestHearing)
     heard = heard;
     shown =
         zip_weaker (IsReportOf given report.policy)
-        (λ (one : ReadsOfCrate) (crate : CrateReport). IsVerdictShown (is_skipped crate.verdict) (policy_of report.policy) one.krate crate.expression crate.verdict)
+        (λ (one : ReadsOfCrate) (crate : CrateReport). IsVerdictShown (is_skipped crate.verdict) (policy_of report.policy) (counted_heard report.policy one) crate.expression crate.verdict)
         (λ one crate own. own.verdict.shown) hearing.crates report.crates is.verdicts.gives.verdicts;
   }
 

@@ -20,7 +20,8 @@ use Rattle.policy_parts.specs.declared.entries.licensee.Licensee.{Licensee}
 use Rattle.policy_parts.specs.declared.file_source.FileSource.{FileSource}
 use Rattle.policy_core.specs.declared.valid.policy.ValidClarification.{ValidClarification}
 use Rattle.policy_core.specs.declared.valid.policy.ValidConfig.{ValidConfig}
-use Rattle.policy_core.specs.validate.Order.{PutsFilesInOrder, PutsInOrder, PutsPolicyInOrder, by_path, by_printed}
+use Rattle.policy_core.specs.declared.valid.policy.ValidException.{ValidException}
+use Rattle.policy_core.specs.validate.Order.{PutsExceptionInOrder, PutsFilesInOrder, PutsInOrder, PutsPolicyInOrder, by_path, by_printed}
 
 -- ---- what a stable sort leaves
 
@@ -103,6 +104,13 @@ files_alike written one other first second =
     (puts_alike by_path (ranks_by path_order_total (λ (file : FileSource). file.path.value)) written.license_files one.license_files other.license_files first.files second.files)
     ∙ sym second.rest
 
+exceptions_alike : (written one other : ValidException) → PutsExceptionInOrder written one → PutsExceptionInOrder written other → one ≡ other
+exceptions_alike written one other first second =
+    first.rest
+    ∙ ap (λ files. let it : ValidException = record written { license_files = files } in it)
+    (puts_alike by_path (ranks_by path_order_total (λ (file : FileSource). file.path.value)) written.license_files one.license_files other.license_files first.files second.files)
+    ∙ sym second.rest
+
 zip_alike : {A B : Type 0} (R : A → B → Type 0) → ((x : A) (y z : B) → R x y → R x z → y ≡ z) → (xs : List A) (ys zs : List B) → AllZip R xs ys → AllZip R xs zs → ys ≡ zs
 zip_alike R one [] [] [] first second = refl
 zip_alike R one [] [] (z ∷ zs) first second = absurd second
@@ -119,8 +127,11 @@ policy_alike written one other first second =
     puts_alike by_printed (ranks_by printed_order_total (λ (own : Licensee). own.0.value)) written.allowed one.allowed other.allowed first.allowed second.allowed in
     let clarifications : one.clarifications ≡ other.clarifications =
     zip_alike PutsFilesInOrder files_alike written.clarifications one.clarifications other.clarifications first.clarifications second.clarifications in
+    let exceptions : one.exceptions ≡ other.exceptions =
+    zip_alike PutsExceptionInOrder exceptions_alike written.exceptions one.exceptions other.exceptions first.exceptions second.exceptions in
     first.rest
-    ∙ ap₂ (λ those others. let it : ValidConfig = record written { allowed = those; clarifications = others } in it) allowed clarifications
+    ∙ ap₂ (λ those others. let it : ValidConfig = record written { allowed = those; clarifications = others; exceptions = one.exceptions } in it) allowed clarifications
+    ∙ ap (λ those. let it : ValidConfig = record written { allowed = other.allowed; clarifications = other.clarifications; exceptions = those } in it) exceptions
     ∙ sym second.rest
 
 -- ---- ids that rise

@@ -1,7 +1,7 @@
 -- The reads of a crate over a content where no call fails and no memory is wanting: what its turn asks for is what the content says.
 use Rattle.std.proofs.Common.{◌≡◌, ◌∙◌, refl, sym, ap, ap₂, subst, ℕ, Bool, true, false, ◌&&◌, ◌||◌, not, cond, List, [], ◌∷◌, ◌++◌, map, Option, Some, None}
 use Rattle.std.specs.FinMap as finite
-use Rattle.std.specs.List.{AllByRecursion, flat_map, list_any}
+use Rattle.std.specs.List.{AllByRecursion, cons_option, filter, flat_map, list_any}
 use Rattle.std.specs.Option.{option_to_list}
 use Rattle.std.specs.Prelude.{is_none, is_some, unwrap_or}
 use Rattle.deny_text.specs.Path.{components_of, join_of}
@@ -21,6 +21,7 @@ use Rattle.gather_license.specs.files.KnownReads.{FolderReads, known_reads_by, h
 use Rattle.gather_license.specs.files.NamedFile.{NamedFileView}
 use Rattle.gather_license.specs.files.Pack.{first_spellings, license_files_in, reads_of, same_path, wanted_of, without_path}
 use Rattle.gather_license.specs.files.Steps.{file_record}
+use Rattle.gather_license.specs.files.View.{paths_read}
 use Rattle.gather_license.proofs.files.PackLemmas.{by_test}
 use Rattle.gather_license.proofs.files.PathLemmas.{parts_of_same, same_itself}
 use Rattle.gather_license.specs.location.Calls.{manifest_by}
@@ -28,6 +29,7 @@ use Rattle.gather_license.specs.location.Location.{located_by, manifest_record}
 use Rattle.gather_license.specs.expression.Scanned.{Scanner}
 use Rattle.gather_license.specs.Clarification.{ClarificationView, named_files, named_in}
 use Rattle.gather_license.specs.Priority.{folder_of, holding_clarification, is_nothing, looks_at_files, records_of, records_with}
+use Rattle.gather_core.specs.Exceptions.{ExceptionEntry, ExceptionRules, further_paths, is_for, looked_for, named_for}
 use Rattle.gather_core.specs.Taken.{turn_with}
 use Rattle.gather_core.specs.Turns.{asks_manifest, field_text, in_order, not_asked, records_in}
 use Rattle.run_found.specs.Hearing.{TellsContent}
@@ -239,6 +241,31 @@ module _ (one other : FolderReads) where
         ap (λ b. is_none (cond b (Some first) (holding_clarification one more))) no ∙ rest.1 ∙ sym (ap (λ b. is_none (cond b (Some first) (holding_clarification other more))) own),
       ))
 
+  -- what exceptions look up
+  each_looked : (entries : List ExceptionEntry) → AllAgree (flat_map (λ (entry : ExceptionEntry). looked_of one entry.files) entries)
+      → flat_map (λ (entry : ExceptionEntry). looked_of one entry.files) entries ≡ flat_map (λ (entry : ExceptionEntry). looked_of other entry.files) entries
+  each_looked [] agree = refl
+  each_looked (entry ∷ entries) agree =
+      let behind = flat_map (λ (entry : ExceptionEntry). looked_of one entry.files) entries in
+      ap₂ (λ paths others. paths ++ others) (looked_alike entry.files (agree_front (looked_of one entry.files) behind agree)).0
+      (each_looked entries (agree_back (looked_of one entry.files) behind agree))
+
+  named_where : (each_counts : Bool) (entries : List ExceptionEntry) → AllAgree (cond each_counts (flat_map (λ (entry : ExceptionEntry). looked_of one entry.files) entries) [])
+      → cond each_counts (flat_map (λ (entry : ExceptionEntry). looked_of one entry.files) entries) []
+      ≡ cond each_counts (flat_map (λ (entry : ExceptionEntry). looked_of other entry.files) entries) []
+  named_where true entries agree = each_looked entries agree
+  named_where false entries agree = refl
+
+  looked_for_alike : (rules : ExceptionRules) (krate : CrateRecord) → AllAgree (looked_for rules krate one) → looked_for rules krate one ≡ looked_for rules krate other
+  looked_for_alike rules krate agree = ap first_spellings (named_where rules.each_counts (filter (is_for krate) rules.entries) (respelled (named_for rules krate one) agree))
+
+  agree_kept : (test : List ℕ → Bool) (paths : List (List ℕ)) → AllAgree paths → AllAgree (filter test paths)
+  agree_kept test [] all = tt
+  agree_kept test (path ∷ paths) all =
+      by_test (test path)
+      (λ passed. subst (λ b. AllAgree (cond b (path ∷ filter test paths) (filter test paths))) (sym passed) (all.0, agree_kept test paths all.1))
+      (λ failed. subst (λ b. AllAgree (cond b (path ∷ filter test paths) (filter test paths))) (sym failed) (agree_kept test paths all.1))
+
   records_alike : (paths : List (List ℕ)) → AllAgree paths → map (file_record one) paths ≡ map (file_record other) paths
   records_alike [] all = refl
   records_alike (path ∷ paths) all = ap₂ (λ heard rest. read_record_of LicenseFile path heard ∷ rest) all.0 (records_alike paths all.1)
@@ -262,7 +289,46 @@ any_records : (known_reads : FolderReads) (path : List ℕ) (paths : List (List 
 any_records known_reads path [] = refl
 any_records known_reads path (next ∷ paths) = ap (λ b. same_path path next || b) (any_records known_reads path paths)
 
-module _ (content : Content) (scanner : Scanner) (all : List ClarificationView) (krate : CrateRecord) (files : List File) where
+-- a path that was not read before is kept, where it is among those that are looked at
+any_further : (path : List ℕ) (read paths : List (List ℕ)) → list_any (same_path path) read ≡ false → list_any (same_path path) paths ≡ true → list_any (same_path path) (further_paths read paths) ≡ true
+any_further path read [] none any = cc
+any_further path read (next ∷ paths) none any =
+    let rest = further_paths read paths in
+    let kept : Bool → List (List ℕ) = λ b. cond (not b) (next ∷ rest) rest in
+    let there = list_any (same_path next) read in
+    by_test (same_path path next)
+    (λ same.
+    let lacks : there ≡ false = ap (λ (parts : List (List ℕ)). list_any (λ other. same_parts parts (components_of other)) read) (sym (parts_of_same path next same)) ∙ none in
+    ap (λ b. list_any (same_path path) (kept b)) lacks ∙ or_left (same_path path next) (list_any (same_path path) rest) same)
+    (λ differs.
+    let behind : list_any (same_path path) rest ≡ true = any_further path read paths none (sym (ap (λ b. b || list_any (same_path path) paths) differs) ∙ any) in
+    by_test there
+    (λ has. ap (λ b. list_any (same_path path) (kept b)) has ∙ behind)
+    (λ lacks. ap (λ b. list_any (same_path path) (kept b)) lacks ∙ or_right (same_path path next) (list_any (same_path path) rest) behind))
+
+-- records have a read of a path where it is among the paths that they read
+one_tested : (path at : List ℕ) (own rest : Bool) (paths : List (List ℕ)) → rest ≡ list_any (same_path path) paths
+    → ((own && same_path path at) || rest) ≡ list_any (same_path path) (cons_option (cond own (Some at) None) paths)
+one_tested path at true rest paths e = ap (λ b. same_path path at || b) e
+one_tested path at false rest paths e = e
+
+paths_tested : (path : List ℕ) (records : List ReadRecord) → list_any (is_read LicenseFile (components_of path)) records ≡ list_any (same_path path) (paths_read records)
+paths_tested path [] = refl
+paths_tested path (read ∷ records) =
+    one_tested path read.path (is_kind LicenseFile read.kind) (list_any (is_read LicenseFile (components_of path)) records) (paths_read records) (paths_tested path records)
+
+-- a path that is looked at was read before, or is read behind
+looked_read : (known_reads : FolderReads) (path : List ℕ) (records : List ReadRecord) (paths : List (List ℕ)) → list_any (same_path path) paths ≡ true
+    → list_any (is_read LicenseFile (components_of path)) (records ++ map (file_record known_reads) (further_paths (paths_read records) paths)) ≡ true
+looked_read known_reads path records paths any =
+    let test = is_read LicenseFile (components_of path) in
+    let read = paths_read records in
+    let more = further_paths read paths in
+    by_test (list_any (same_path path) read)
+    (λ has. any_front test records (map (file_record known_reads) more) (paths_tested path records ∙ has))
+    (λ lacks. any_back test records (map (file_record known_reads) more) (any_records known_reads path more ∙ any_further path read paths lacks any))
+
+module _ (content : Content) (scanner : Scanner) (all : List ClarificationView) (rules : ExceptionRules) (krate : CrateRecord) (files : List File) where
   abbrev base : List ℕ
   base = folder_of krate
 
@@ -275,13 +341,23 @@ module _ (content : Content) (scanner : Scanner) (all : List ClarificationView) 
   abbrev id : Option ℕ
   id = file_id_at files krate.manifest_path
 
-  -- the records of a turn by what is read of the files and of the manifest
-  abbrev pub records_heard : FolderReads → ReadResult → List ReadRecord
-  records_heard known_reads manifest = in_order (is_nothing all) (manifest_asked (asks_manifest all krate known_reads) id krate.manifest_path manifest) (records_of scanner all krate known_reads)
+  -- the records of a turn by what is read of the files and of the manifest: those before the files of exceptions, and all
+  abbrev first_records : FolderReads → ReadResult → List ReadRecord
+  first_records known_reads manifest = in_order (is_nothing all) (manifest_asked (asks_manifest all krate known_reads) id krate.manifest_path manifest) (records_of scanner all krate known_reads)
 
-  records_are : (policy : ℕ) (known_reads : FolderReads) (manifest : ReadResult) → records_in (turn_with scanner policy all krate known_reads manifest files) ≡ records_heard known_reads manifest
+  abbrev behind_of : FolderReads → List ReadRecord → List (List ℕ)
+  behind_of known_reads before = further_paths (paths_read before) (looked_for rules krate known_reads)
+
+  abbrev with_behind : FolderReads → List ReadRecord → List ReadRecord
+  with_behind known_reads before = before ++ map (file_record known_reads) (behind_of known_reads before)
+
+  abbrev pub records_heard : FolderReads → ReadResult → List ReadRecord
+  records_heard known_reads manifest = with_behind known_reads (first_records known_reads manifest)
+
+  records_are : (policy : ℕ) (known_reads : FolderReads) (manifest : ReadResult) → records_in (turn_with scanner policy all rules krate known_reads manifest files) ≡ records_heard known_reads manifest
   records_are policy known_reads manifest =
-      ap (λ read. in_order (is_nothing all) read (records_of scanner all krate known_reads)) (manifest_located (asks_manifest all krate known_reads) id krate.manifest_path (field_text krate) files manifest)
+      ap (λ read. with_behind known_reads (in_order (is_nothing all) read (records_of scanner all krate known_reads)))
+      (manifest_located (asks_manifest all krate known_reads) id krate.manifest_path (field_text krate) files manifest)
 
   -- the records of two known reads are the same, and whether a clarification holds by them
   pub record AsksAlike (one other : FolderReads) : Type 0 where
@@ -305,29 +381,45 @@ module _ (content : Content) (scanner : Scanner) (all : List ClarificationView) 
     abbrev paths : List (List ℕ)
     paths = reads_of known_reads krate.license_file (named_files all)
 
-    -- with this manifest's read these are the records
-    module _ (first : Bool) (manifest : Option ReadRecord) (own : records_of_reads reads ≡ in_order first manifest (records_of scanner all krate known_reads)) (looks : looks_at_files scanner all krate ≡ true)
+    -- a licence file that was read is what the content has
+    read_agrees : (path : List ℕ) → list_any (is_read LicenseFile (components_of path)) (records_of_reads reads) ≡ true → Agree known_reads there_known_reads path
+    read_agrees path any =
+        let test = is_read LicenseFile (components_of path) in
+        first_there content base test (there_known_reads.file (components_of path)) reads hear
+        (tell_each content base test (there_known_reads.file (components_of path)) (λ read. license_there content base path read.kind read.path) (records_of_reads reads)) any
+
+    -- with this manifest's read, and these files behind, these are the records
+    module _ (first : Bool) (manifest : Option ReadRecord) (more : List (List ℕ))
+        (own : records_of_reads reads ≡ in_order first manifest (records_of scanner all krate known_reads) ++ map (file_record known_reads) more) (looks : looks_at_files scanner all krate ≡ true)
         (of_manifest : AllTell content base (λ read. is_kind Listing read.kind) there_known_reads.listing (option_to_list manifest)) where
       records_looked : records_of scanner all krate known_reads ≡ records_with all krate known_reads
       records_looked = ap (λ b. cond b (records_with all krate known_reads) []) looks
 
-      own_looked : records_of_reads reads ≡ in_order first manifest (records_with all krate known_reads)
-      own_looked = own ∙ ap (in_order first manifest) records_looked
+      abbrev behind : List ReadRecord
+      behind = map (file_record known_reads) more
+
+      own_looked : records_of_reads reads ≡ in_order first manifest (records_with all krate known_reads) ++ behind
+      own_looked = own ∙ ap (λ records. in_order first manifest records ++ behind) records_looked
 
       listing_agrees : known_reads.listing ≡ there_known_reads.listing
       listing_agrees =
-          first_there content base (λ read. is_kind Listing read.kind) there_known_reads.listing reads hear
-          (subst (AllTell content base (λ read. is_kind Listing read.kind) there_known_reads.listing) (sym own_looked)
-          (tell_in_order content base (λ read. is_kind Listing read.kind) there_known_reads.listing first manifest (records_with all krate known_reads) of_manifest
-          (λ e. refl, tell_files content base (λ read. is_kind Listing read.kind) there_known_reads.listing known_reads (λ path e. apart e) paths)))
-          (subst (λ records. list_any (λ read. is_kind Listing read.kind) records ≡ true) (sym own_looked) (any_reads (λ read. is_kind Listing read.kind) first manifest (records_with all krate known_reads) refl))
+          let test = λ (read : ReadRecord). is_kind Listing read.kind in
+          let heard = there_known_reads.listing in
+          let front = in_order first manifest (records_with all krate known_reads) in
+          first_there content base test heard reads hear
+          (subst (AllTell content base test heard) (sym own_looked)
+          (tell_joined content base test heard front behind
+          (tell_in_order content base test heard first manifest (records_with all krate known_reads) of_manifest
+          (λ e. refl, tell_files content base test heard known_reads (λ path e. apart e) paths))
+          (tell_files content base test heard known_reads (λ path e. apart e) more)))
+          (subst (λ records. list_any test records ≡ true) (sym own_looked) (any_front test front behind (any_reads test first manifest (records_with all krate known_reads) refl)))
 
       file_agrees : (path : List ℕ) → list_any (same_path path) paths ≡ true → Agree known_reads there_known_reads path
       file_agrees path any =
           let test = is_read LicenseFile (components_of path) in
-          first_there content base test (there_known_reads.file (components_of path)) reads hear
-          (tell_each content base test (there_known_reads.file (components_of path)) (λ read. license_there content base path read.kind read.path) (records_of_reads reads))
-          (subst (λ records. list_any test records ≡ true) (sym own_looked) (any_reads test first manifest (records_with all krate known_reads) (any_records known_reads path paths ∙ any)))
+          read_agrees path
+          (subst (λ records. list_any test records ≡ true) (sym own_looked)
+          (any_front test (in_order first manifest (records_with all krate known_reads)) behind (any_reads test first manifest (records_with all krate known_reads) (any_records known_reads path paths ∙ any))))
 
       all_agree : AllAgree known_reads there_known_reads paths
       all_agree = agree_each known_reads there_known_reads paths file_agrees
@@ -359,29 +451,50 @@ module _ (content : Content) (scanner : Scanner) (all : List ClarificationView) 
     tell_manifest true = (λ e. absurd (apart e), tell_files content base (λ read. is_kind Manifest read.kind) there_manifest known_reads (λ path e. apart e) paths)
     tell_manifest false = tt
 
-    manifest_alike : (asks : Bool) (found : Option ℕ) → records_of_reads reads ≡ in_order (is_nothing all) (manifest_asked asks found krate.manifest_path (manifest_by reads)) (records_of scanner all krate known_reads)
+    manifest_alike : (asks : Bool) (found : Option ℕ) (more : List (List ℕ))
+        → records_of_reads reads ≡ in_order (is_nothing all) (manifest_asked asks found krate.manifest_path (manifest_by reads)) (records_of scanner all krate known_reads) ++ map (file_record known_reads) more
         → manifest_asked asks found krate.manifest_path (manifest_by reads) ≡ manifest_asked asks found krate.manifest_path there_manifest
-    manifest_alike true None own =
+    manifest_alike true None more own =
         let test = λ (read : ReadRecord). is_kind Manifest read.kind in
         let read = Some (manifest_record krate.manifest_path (manifest_by reads)) in
+        let front = in_order (is_nothing all) read (records_of scanner all krate known_reads) in
+        let behind = map (file_record known_reads) more in
         ap (λ manifest. Some (manifest_record krate.manifest_path manifest))
         (first_there content base test there_manifest reads hear
         (subst (AllTell content base test there_manifest) (sym own)
-        (tell_in_order content base test there_manifest (is_nothing all) read (records_of scanner all krate known_reads) (λ e. refl, tt) (tell_manifest (looks_at_files scanner all krate))))
-        (subst (λ records. list_any test records ≡ true) (sym own) (any_manifest test (is_nothing all) read (records_of scanner all krate known_reads) refl)))
-    manifest_alike true (Some at) own = refl
-    manifest_alike false None own = refl
-    manifest_alike false (Some at) own = refl
+        (tell_joined content base test there_manifest front behind
+        (tell_in_order content base test there_manifest (is_nothing all) read (records_of scanner all krate known_reads) (λ e. refl, tt) (tell_manifest (looks_at_files scanner all krate)))
+        (tell_files content base test there_manifest known_reads (λ path e. apart e) more)))
+        (subst (λ records. list_any test records ≡ true) (sym own) (any_front test front behind (any_manifest test (is_nothing all) read (records_of scanner all krate known_reads) refl))))
+    manifest_alike true (Some at) more own = refl
+    manifest_alike false None more own = refl
+    manifest_alike false (Some at) more own = refl
+
+    -- each file that exceptions look up was read
+    looked_agree : (front : List ReadRecord) → records_of_reads reads ≡ with_behind known_reads front → AllAgree known_reads there_known_reads (looked_for rules krate known_reads)
+    looked_agree front own =
+        let looked = looked_for rules krate known_reads in
+        agree_each known_reads there_known_reads looked
+        (λ path any. read_agrees path
+        (subst (λ records. list_any (is_read LicenseFile (components_of path)) records ≡ true) (sym own) (looked_read known_reads path front looked any)))
 
     -- the records of the turn are those by what the content has
-    pub records_there : (policy : ℕ) → records_of_reads reads ≡ records_in (turn_with scanner policy all krate known_reads (manifest_by reads) files) → records_of_reads reads ≡ records_heard there_known_reads there_manifest
+    pub records_there : (policy : ℕ) → records_of_reads reads ≡ records_in (turn_with scanner policy all rules krate known_reads (manifest_by reads) files)
+        → records_of_reads reads ≡ records_heard there_known_reads there_manifest
     records_there policy has =
         let asks = asks_manifest all krate known_reads in
+        let front = first_records known_reads (manifest_by reads) in
+        let looked = looked_for rules krate known_reads in
+        let more = behind_of known_reads front in
         let own : records_of_reads reads ≡ records_heard known_reads (manifest_by reads) = has ∙ records_are policy known_reads (manifest_by reads) in
         let alike : AsksAlike known_reads there_known_reads =
         by_test (looks_at_files scanner all krate)
-        (λ yes. asks_alike (is_nothing all) (manifest_asked asks id krate.manifest_path (manifest_by reads)) own yes (no_listing asks id (manifest_by reads)))
+        (λ yes. asks_alike (is_nothing all) (manifest_asked asks id krate.manifest_path (manifest_by reads)) more own yes (no_listing asks id (manifest_by reads)))
         (λ no. nothing_looked known_reads there_known_reads no) in
+        let front_same : front ≡ first_records there_known_reads there_manifest =
+        ap (λ read. in_order (is_nothing all) read (records_of scanner all krate known_reads)) (manifest_alike asks id more own)
+        ∙ ap₂ (λ none records. in_order (is_nothing all) (manifest_asked (none && is_some krate.license) id krate.manifest_path there_manifest) records) alike.holds alike.records in
+        let agree = looked_agree front own in
         own
-        ∙ ap (λ read. in_order (is_nothing all) read (records_of scanner all krate known_reads)) (manifest_alike asks id own)
-        ∙ ap₂ (λ none records. in_order (is_nothing all) (manifest_asked (none && is_some krate.license) id krate.manifest_path there_manifest) records) alike.holds alike.records
+        ∙ ap (λ rest. front ++ rest) (records_alike known_reads there_known_reads more (agree_kept known_reads there_known_reads (λ path. not (list_any (same_path path) (paths_read front))) looked agree))
+        ∙ ap₂ (λ records paths. records ++ map (file_record there_known_reads) (further_paths (paths_read records) paths)) front_same (looked_for_alike known_reads there_known_reads rules krate agree)

@@ -24,7 +24,8 @@ use Rattle.policy_core.specs.declared.valid.policy.ValidConfig.{ValidConfig}
 use Rattle.gather_license.specs.expression.Scanned.{Scanner}
 use Rattle.gather_license.specs.Priority.{folder_of}
 use Rattle.gather_core.specs.Calls.{ReadsOfCrate, CrateTurn, HasOwnReads, calls_of_all, turn_by, turns_of}
-use Rattle.gather_core.specs.Entries.{ClarificationEntry, clarifications_of, entries_of}
+use Rattle.gather_core.specs.Entries.{clarifications_of}
+use Rattle.gather_core.specs.Rules.{GatherRules, rules_of}
 use Rattle.gather_core.specs.Turns.{files_behind}
 use Rattle.check_core.specs.Check.{AreVerdicts, all_hits, findings_of, packs_of}
 use Rattle.check_core.specs.Turns.{GatheredCrate, expression_of, hits_by, pack_by}
@@ -90,16 +91,16 @@ module _ (content : Content) where
       tails : x.recorded ∷ records_of_reads xs ≡ y.recorded ∷ records_of_reads ys → records_of_reads xs ≡ records_of_reads ys
       tails e = cc
 
-  module _ (scanner : Scanner) (policy : ℕ) (all : List ClarificationEntry) where
+  module _ (scanner : Scanner) (policy : ℕ) (all : GatherRules) where
     -- reads of a crate that tell the content, and are those that its turn asks for
     abbrev OwnReads : List File → CrateRecord → List AnsweredRead → Type 0
     OwnReads files krate reads = Told (calls_in (folder_of krate) reads) × HasOwnReads (turn_by scanner policy all files (record { krate = krate; reads = reads }))
 
     own_records : (files : List File) (krate : CrateRecord) (reads : List AnsweredRead) → OwnReads files krate reads
         → records_of_reads reads
-        ≡ records_heard content scanner (clarifications_of krate all) krate files (known_reads_there content (folder_of krate)) (there_of content (folder_of krate) Manifest krate.manifest_path)
+        ≡ records_heard content scanner (clarifications_of krate all.clarifications) all.exceptions krate files (known_reads_there content (folder_of krate)) (there_of content (folder_of krate) Manifest krate.manifest_path)
     own_records files krate reads own =
-        records_there content scanner (clarifications_of krate all) krate files reads (hear_there content (folder_of krate) reads own.0) policy own.1
+        records_there content scanner (clarifications_of krate all.clarifications) all.exceptions krate files reads (hear_there content (folder_of krate) reads own.0) policy own.1
 
     own_alike : (files : List File) (krate : CrateRecord) (one other : List AnsweredRead) → OwnReads files krate one → OwnReads files krate other → one ≡ other
     own_alike files krate one other first second =
@@ -150,21 +151,22 @@ module _ (policy : Policy) where
   skips_as (Accepted choice hits) = refl
   skips_as (Rejected least blocks) = refl
 
-  skips_by : (private : Bool) (krate : CrateRecord) (expression : Option ExpressionView) → skips (verdict_of private policy krate expression) ≡ private
-  skips_by true krate expression = refl
-  skips_by false krate None = refl
-  skips_by false krate (Some expression) = either (is_allowed policy krate expression.terms expression.tree)
+  skips_by : (private : Bool) (counted : List ℕ) (expression : Option ExpressionView) → skips (verdict_of private policy counted expression) ≡ private
+  skips_by true counted expression = refl
+  skips_by false counted None = refl
+  skips_by false counted (Some expression) = either (is_allowed policy counted expression.terms expression.tree)
     where
       either : (b : Bool) → skips (cond b accepted rejected) ≡ false
       either true = refl
       either false = refl
 
-  skipped_by : (krate : CrateRecord) (expression : Option ExpressionView) (verdict : Verdict) (is : IsVerdict policy krate expression verdict) → is_skipped verdict ≡ is.judged.private
-  skipped_by krate expression verdict is = sym (skips_as verdict) ∙ ap skips is.judged.is ∙ skips_by is.judged.private krate expression
+  skipped_by : (krate : CrateRecord) (counted : List ℕ) (expression : Option ExpressionView) (verdict : Verdict) (is : IsVerdict policy krate counted expression verdict) → is_skipped verdict ≡ is.judged.private
+  skipped_by krate counted expression verdict is = sym (skips_as verdict) ∙ ap skips is.judged.is ∙ skips_by is.judged.private counted expression
 
-  skipped_alike : (krate : CrateRecord) (expression : Option ExpressionView) (one other : Verdict) → IsVerdict policy krate expression one → IsVerdict policy krate expression other → is_skipped one ≡ is_skipped other
-  skipped_alike krate expression one other first second =
-      skipped_by krate expression one first ∙ same_test first.judged.private second.judged.private (λ (own : IsPrivate policy krate). own) (λ (own : IsPrivate policy krate). own) first.judged.tells second.judged.tells ∙ sym (skipped_by krate expression other second)
+  skipped_alike : (krate : CrateRecord) (counted : List ℕ) (expression : Option ExpressionView) (one other : Verdict) → IsVerdict policy krate counted expression one → IsVerdict policy krate counted expression other
+      → is_skipped one ≡ is_skipped other
+  skipped_alike krate counted expression one other first second =
+      skipped_by krate counted expression one first ∙ same_test first.judged.private second.judged.private (λ (own : IsPrivate policy krate). own) (λ (own : IsPrivate policy krate). own) first.judged.tells second.judged.tells ∙ sym (skipped_by krate counted expression other second)
 
   packs_alike : (asked : List GatheredCrate) (one other : List Verdict) → AreVerdicts policy asked one → AreVerdicts policy asked other → packs_of policy asked one ≡ packs_of policy asked other
   packs_alike [] [] [] first second = refl
@@ -173,7 +175,7 @@ module _ (policy : Policy) where
   packs_alike (asked ∷ more) [] other first second = absurd first
   packs_alike (asked ∷ more) (v ∷ vs) [] first second = absurd second
   packs_alike (asked ∷ more) (v ∷ vs) (w ∷ ws) first second =
-      ap₂ (λ private rest. pack_by private policy asked ∷ rest) (skipped_alike asked.krate (expression_of asked.info) v w first.0 second.0) (packs_alike more vs ws first.1 second.1)
+      ap₂ (λ private rest. pack_by private policy asked ∷ rest) (skipped_alike asked.krate asked.exceptions (expression_of asked.info) v w first.0 second.0) (packs_alike more vs ws first.1 second.1)
 
   hits_alike : (asked : List GatheredCrate) (one other : List Verdict) → AreVerdicts policy asked one → AreVerdicts policy asked other → all_hits policy asked one ≡ all_hits policy asked other
   hits_alike [] [] [] first second = refl
@@ -182,7 +184,7 @@ module _ (policy : Policy) where
   hits_alike (asked ∷ more) [] other first second = absurd first
   hits_alike (asked ∷ more) (v ∷ vs) [] first second = absurd second
   hits_alike (asked ∷ more) (v ∷ vs) (w ∷ ws) first second =
-      ap₂ (λ private rest. hits_by private policy asked ++ rest) (skipped_alike asked.krate (expression_of asked.info) v w first.0 second.0) (hits_alike more vs ws first.1 second.1)
+      ap₂ (λ private rest. hits_by private policy asked ++ rest) (skipped_alike asked.krate asked.exceptions (expression_of asked.info) v w first.0 second.0) (hits_alike more vs ws first.1 second.1)
 
 findings_alike : (policy : ValidConfig) (asked : List GatheredCrate) (one other : List Verdict) → AreVerdicts (policy_of policy) asked one → AreVerdicts (policy_of policy) asked other → findings_of policy asked one ≡ findings_of policy asked other
 findings_alike policy asked one other first second =
@@ -242,7 +244,7 @@ module _ (given : CommandArguments) (content : Content) (one other : RequestHear
   reads_of_crates_alike =
       let policy = more.policy in
       let files = files_loaded given.request other in
-      crates_alike content (scanner_of_given given policy) policy.file_id (entries_of policy) files one.crates other.crates
+      crates_alike content (scanner_of_given given policy) policy.file_id (rules_of policy) files one.crates other.crates
       (first.verdicts.settled.crates ∙ selected_alike ∙ sym second.verdicts.settled.crates) found.crates.0 found.crates.1
       (subst (λ table. AllByRecursion HasOwnReads (turns_by policy table one.crates)) found.files
       (subst (λ own. AllByRecursion HasOwnReads (turns_by own (files_loaded given.request one) one.crates)) policies_alike

@@ -11,6 +11,7 @@ use Rattle.check_core.specs.Hits.{TellUnneeded}
 use Rattle.check_core.specs.Verdicts.{IsVerdictShown, is_skipped}
 use Rattle.run_found.specs.Found.{count_metadata, files_loaded}
 use Rattle.run_found.specs.Hearing.{RequestHearing, TreeSeen}
+use Rattle.run_found.specs.Licenses.{counted_heard}
 use Rattle.run_found.specs.Policy.{PolicyAt}
 use Rattle.run_command.specs.Found.{IsHeard, PutsInOrder, turns_in}
 use Rattle.run_command.specs.Given.{CommandArguments}
@@ -60,8 +61,8 @@ pub record ReportsCertificates (given : CommandArguments) (tree : TreeSeen) (rep
   pub hearing : RequestHearing
   pub heard : IsHeard given tree hearing
   pub shown : AllZip (λ (one : ReadsOfCrate) (crate : CrateReport).
-      IsVerdictShown (is_skipped crate.verdict) (policy_of report.policy) one.krate crate.expression crate.verdict)
-      hearing.crates report.crates
+      IsVerdictShown (is_skipped crate.verdict) (policy_of report.policy) (counted_heard report.policy one)
+      crate.expression crate.verdict) hearing.crates report.crates
 
 -- the failed reads that are listed rise one after another, between the tree's counts at the start and at the end
 abbrev pub FailedReadsRise : TreeSeen → Report → Type 0

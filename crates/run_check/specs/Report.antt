@@ -21,7 +21,7 @@ use Rattle.run_request.specs.declared.level.LintLevels.{LintLevels}
 use Rattle.run_found.specs.declared.error.Error.{Error}
 use Rattle.run_found.specs.Found.{files_loaded}
 use Rattle.run_found.specs.Hearing.{RequestHearing, TreeSeen}
-use Rattle.run_found.specs.Licenses.{ReadsItsFiles, expression_in, priority_heard}
+use Rattle.run_found.specs.Licenses.{ReadsItsFiles, counted_heard, expression_in, priority_heard}
 use Rattle.run_found.specs.Written.{SinkSeen}
 use Rattle.run_command.specs.Found.{scanner_of_given, turns_in}
 use Rattle.run_command.specs.Given.{CommandArguments}
@@ -38,7 +38,8 @@ source_in answer = option_map (λ own. own.source) answer
 
 -- The report on a crate, by a valid policy: it lists the crate's reads; it tells the expression that has priority, by
 -- what their answers say, where that comes from and what is noted of it, of which there is nothing where there is no
--- expression; and the verdict on that, with what shows it. Where a field is in its manifest is left out here.
+-- expression; and the verdict on that, by the exceptions that count by what the answers say, with what shows it. Where
+-- a field is in its manifest is left out here.
 pub record IsReportOf (given : CommandArguments) (policy : ValidConfig) (one : ReadsOfCrate)
     (report : CrateReport) : Type 0 where
   pub id : report.id ≡ one.krate.id
@@ -47,7 +48,7 @@ pub record IsReportOf (given : CommandArguments) (policy : ValidConfig) (one : R
   pub source : option_map source_view report.source
       ≡ source_in (priority_heard (scanner_of_given given policy) policy one)
   pub notes : report.notes ≡ notes_of (priority_heard (scanner_of_given given policy) policy one)
-  pub verdict : IsVerdict (policy_of policy) one.krate report.expression report.verdict
+  pub verdict : IsVerdict (policy_of policy) one.krate (counted_heard policy one) report.expression report.verdict
 
 -- The report on a crate tells the source that its turn says: of a field with the place where its manifest writes it,
 -- where that counts.

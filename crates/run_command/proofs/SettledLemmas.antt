@@ -12,7 +12,7 @@ use Rattle.tree_core.specs.file_reads.Read.{AreReads}
 use Rattle.policy_core.specs.declared.valid.policy.ValidConfig.{ValidConfig}
 use Rattle.gather_license.specs.expression.Scanned.{Scanner}
 use Rattle.gather_core.specs.Calls.{AreTurnsBy, ReadsOfCrate, calls_of_all, reads_of_all}
-use Rattle.gather_core.specs.Entries.{entries_of}
+use Rattle.gather_core.specs.Rules.{rules_of}
 use Rattle.gather_core.specs.Gathered.{include_of, krate_of}
 use Rattle.gather_core.specs.declared.summary.KrateLicense.{KrateLicense}
 use Rattle.gather_core.proofs.CrateTurns.{krates_told}
@@ -105,7 +105,7 @@ module _ (given : CommandArguments) (told middle tells : Option Content) (begun 
         selected = selected_at (map krate_of licenses) gathered.selected;
       };
       ordered = has.ordered;
-      crates = krates_told scanner found.policy.file_id (entries_of found.policy) (files_loaded given.request (hears gathered.crates)) gathered.crates licenses last turned;
+      crates = krates_told scanner found.policy.file_id (rules_of found.policy) (files_loaded given.request (hears gathered.crates)) gathered.crates licenses last turned;
       records = subst (λ n. AreReads n (reads_of_all gathered.crates)) count_at gathered.records;
       turns = turned;
     }

@@ -184,7 +184,12 @@ same_choice given found loaded is = ap (λ (graph : GraphConfig). choice_asked g
 in_order_at : (threshold : Option ℤ) (written sorted : ValidConfig) → PutsPolicyInOrder written sorted → PutsPolicyInOrder (at_threshold threshold written) (at_threshold threshold sorted)
 in_order_at None written sorted order = order
 in_order_at (Some threshold) written sorted order =
-    record { rest = ap (at_threshold (Some threshold)) order.rest; allowed = order.allowed; clarifications = order.clarifications }
+    record {
+      rest = ap (at_threshold (Some threshold)) order.rest;
+      allowed = order.allowed;
+      exceptions = order.exceptions;
+      clarifications = order.clarifications;
+    }
 
 module _ (given : CommandArguments) (once : first_twice given.options.levels ≡ None) (path : List ℕ) (at : given.request.context.metadata_path ≡ Some path)
     (begun mid after : ℕ) (told_first middle tells : Option Content) (old between more : List Call) (err : SinkSeen) (files : List File) (policy : LoadedPolicy)

@@ -17,7 +17,7 @@ use Rattle.gather_core.specs.declared.findings.license.LicenseInfo.{LicenseInfo}
 use Rattle.gather_core.specs.declared.findings.license.LicenseInfo.TheVariants.{SpdxExpression, Unlicensed}
 use Rattle.policy_core.specs.declared.valid.policy.ValidConfig.{ValidConfig}
 use Rattle.gather_core.specs.Calls.{ReadsOfCrate, CrateTurn, HasOwnReads, IsTurnBy, turn_by, turns_of}
-use Rattle.gather_core.specs.Entries.{entries_of}
+use Rattle.gather_core.specs.Rules.{rules_of}
 use Rattle.gather_core.specs.declared.summary.KrateLicense.{KrateLicense}
 use Rattle.run_found.specs.Licenses.{IsManifestRead, ReadsItsFiles, expression_in}
 use Rattle.run_command.specs.Settled.{IsLicenseHeard}
@@ -40,10 +40,10 @@ told_expression (SpdxExpression expression nfo) notes = refl
 
 module _ (scanner : Scanner) (policy : ValidConfig) where
   abbrev pub turn_at : List File → ReadsOfCrate → CrateTurn
-  turn_at files one = turn_by scanner policy.file_id (entries_of policy) files one
+  turn_at files one = turn_by scanner policy.file_id (rules_of policy) files one
 
   abbrev pub turns_at : List File → List ReadsOfCrate → List CrateTurn
-  turns_at files crates = turns_of scanner policy.file_id (entries_of policy) files crates
+  turns_at files crates = turns_of scanner policy.file_id (rules_of policy) files crates
 
   -- the reads of each crate are of its own files
   own_at : (files : List File) (one : ReadsOfCrate) → HasOwnReads (turn_at files one) → ReadsItsFiles scanner policy one
@@ -80,6 +80,7 @@ module _ (scanner : Scanner) (policy : ValidConfig) where
       krate = sym each.0.krate;
       reads = sym each.0.recorded_are;
       expression = told_expression license.lic_info license.notes ∙ ap expression_in each.0.answer;
+      exceptions = each.0.turn.counted;
     },
     licenses_heard (files_behind (turn_at files one).turn) crates licenses last each.1,
   )

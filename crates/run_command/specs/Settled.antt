@@ -13,7 +13,7 @@ use Rattle.gather_core.specs.declared.summary.KrateLicense.{KrateLicense}
 use Rattle.run_found.specs.declared.error.Error.{Error}
 use Rattle.run_found.specs.Found.{count_metadata, files_loaded}
 use Rattle.run_found.specs.Hearing.{RequestHearing, TreeSeen, crates_heard}
-use Rattle.run_found.specs.Licenses.{expression_in, priority_heard}
+use Rattle.run_found.specs.Licenses.{counted_heard, expression_in, priority_heard}
 use Rattle.run_found.specs.Error.{cause_of}
 use Rattle.run_found.specs.Written.{IsRefusedIn, IsSilent, SinkSeen}
 use Rattle.run_command.specs.Found.{HearsAllDue, IsHeard, PutsInOrder, load_heard, turns_in}
@@ -33,13 +33,15 @@ pub record IsSettled (given : CommandArguments) (hearing : RequestHearing) (poli
   pub records : AreReads (count_metadata given.request hearing) (reads_of_all hearing.crates)
   pub turns : AreTurnsBy (files_loaded given.request hearing) (turns_in given hearing policy) licenses last
 
--- The licence of a crate is the one that has priority by what the answers to its own reads say, and its reads are kept
--- as they were made. Of all crates this follows from their turns.
+-- The licence of a crate is the one that has priority by what the answers to its own reads say, the exceptions are
+-- those that count by these answers, and its reads are kept as they were made. Of all crates this follows from their
+-- turns.
 pub record IsLicenseHeard (scanner : Scanner) (policy : ValidConfig) (one : ReadsOfCrate)
     (license : KrateLicense) : Type 0 where
   pub krate : krate_of license ≡ one.krate
   pub reads : license.reads ≡ records_of_reads one.reads
   pub expression : expression_of license.lic_info ≡ expression_in (priority_heard scanner policy one)
+  pub exceptions : license.exceptions ≡ counted_heard policy one
 
 -- ---- what is so of a tree and a sink
 

@@ -20,14 +20,14 @@ use Rattle.graph_core.specs.selection.Walks.{Selected}
 use Rattle.graph_core.proofs.selection.SelectedLemmas.{selected-lists}
 use Rattle.policy_core.specs.declared.valid.policy.ValidConfig.{ValidConfig}
 use Rattle.gather_core.specs.Calls.{AreTurnsByReads, ReadsOfCrate, HasOwnReads, StarvesGathering, calls_of_all}
-use Rattle.gather_core.specs.Entries.{ClarificationEntry, entries_of}
 use Rattle.gather_core.specs.Gathered.{include_of, krate_of}
+use Rattle.gather_core.specs.Rules.{GatherRules, rules_of}
 use Rattle.gather_core.specs.declared.summary.KrateLicense.{KrateLicense}
 use Rattle.run_found.specs.Hearing.{MadeOn, TreeSeen}
 use Rattle.run_found.specs.Licenses.{IsGatherCut, IsGatheredOn}
 
 -- calls never lower the count, also where memory was wanting for gathering
-pub gathering_later : {held tells : Option Content} {before after : ℕ} {old new : List Call} {scanner : Scanner} {policy : ℕ} {all : List ClarificationEntry} {files : List File} {krates : List CrateRecord}
+pub gathering_later : {held tells : Option Content} {before after : ℕ} {old new : List Call} {scanner : Scanner} {policy : ℕ} {all : GatherRules} {files : List File} {krates : List CrateRecord}
     → Made held tells before after old new [] ⊎ StarvesGathering held tells before after old new scanner policy all files krates → before ≤ after
 gathering_later (inl made) = made-later made
 gathering_later (inr starves) = made-later starves.made
@@ -35,7 +35,7 @@ gathering_later (inr starves) = made-later starves.made
 module _ (scanner : Scanner) (policy : ValidConfig) (tree : TreeSeen) (files : List File) (graph : Graph) (choice : Choice) where
   -- they were gathered
   pub gathered_on : (last : List File) (licenses : List KrateLicense) → IsListOf graph (Selected graph choice (include_of policy)) (map krate_of licenses)
-      → AreTurnsByReads tree.told tree.tells tree.count_before tree.count_after tree.calls_before tree.calls_after scanner policy.file_id (entries_of policy) files licenses last
+      → AreTurnsByReads tree.told tree.tells tree.count_before tree.count_after tree.calls_before tree.calls_after scanner policy.file_id (rules_of policy) files licenses last
       → IsGatheredOn scanner policy tree files last graph choice licenses
   gathered_on last licenses selected reads = record {
     crates = reads.crates;
@@ -60,7 +60,7 @@ module _ (scanner : Scanner) (policy : ValidConfig) (tree : TreeSeen) (files : L
       turns = record { earlier = []; own = All-nil HasOwnReads; ends = inl (refl, refl); among = (reached, refl) };
     }
 
-    some_cut : StarvesGathering tree.told tree.tells tree.count_before tree.count_after tree.calls_before tree.calls_after scanner policy.file_id (entries_of policy) files reached
+    some_cut : StarvesGathering tree.told tree.tells tree.count_before tree.count_after tree.calls_before tree.calls_after scanner policy.file_id (rules_of policy) files reached
         → IsGatherCut scanner policy tree files graph choice
     some_cut starves =
         let all = starves.crates ++ starves.begun ∷ [] in
@@ -84,7 +84,7 @@ module _ (scanner : Scanner) (policy : ValidConfig) (tree : TreeSeen) (files : L
           };
         }
 
-    pub gather_cut : MadeOn tree [] ⊎ StarvesGathering tree.told tree.tells tree.count_before tree.count_after tree.calls_before tree.calls_after scanner policy.file_id (entries_of policy) files reached
+    pub gather_cut : MadeOn tree [] ⊎ StarvesGathering tree.told tree.tells tree.count_before tree.count_after tree.calls_before tree.calls_after scanner policy.file_id (rules_of policy) files reached
         → IsGatherCut scanner policy tree files graph choice
     gather_cut (inl made) = none_cut made
     gather_cut (inr starves) = some_cut starves

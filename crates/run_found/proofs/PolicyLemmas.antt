@@ -13,12 +13,12 @@ use Rattle.policy_load.specs.declared.error.LoadError.TheVariants.{ConfigInvalid
 use Rattle.policy_load.specs.declared.loading.PolicyPaths.{PolicyPaths}
 use Rattle.policy_core.specs.config.Root.{root_of}
 use Rattle.policy_core.specs.declared.config.root.RootConfig.{RootConfig}
-use Rattle.policy_core.specs.Exceptions.{ExceptionsRead, exceptions_findings, shape_diagnostic}
+use Rattle.policy_core.specs.Exceptions.{ExceptionsRead, exceptions_findings, file_version_findings, shape_diagnostic}
 use Rattle.policy_core.specs.Heard.{exceptions_read_of, value_or_fault}
 use Rattle.policy_core.specs.declared.exceptions.ExceptionsHeard.TheVariants.{Heard as heard}
 use Rattle.policy_core.specs.Policy.{PolicyFound, absence_findings, policy_found, load_findings, licenses_in}
 use Rattle.policy_core.specs.Findings.{target_findings, graph_key_findings, output_key_findings}
-use Rattle.policy_core.specs.validate.Valid.{address_findings, clarification_findings, removed_findings}
+use Rattle.policy_core.specs.validate.Valid.{address_findings, clarification_findings, removed_findings, version_findings}
 use Rattle.policy_parts.specs.entries.Exceptions.{exceptions_file_of}
 use Rattle.policy_core.specs.text.Config.{config_of_text, if_carried, or_shape, or_syntax, config_of_value, then_config}
 use Rattle.policy_core.specs.text.Text.{config_text_of}
@@ -53,12 +53,13 @@ pub told_among : (lists : CatalogLists) (policy exceptions : ℕ) (absence : Lis
     → list_any is_error (load_findings lists (record { policy = policy; exceptions = exceptions }) absence root read) ≡ true
 told_among lists policy exceptions absence root read any =
     let config = licenses_in root in
-    let front = absence ++ address_findings policy config ++ clarification_findings lists policy config ++ removed_findings policy config in
+    let front = absence ++ address_findings policy config ++ clarification_findings lists policy config ++ removed_findings policy config ++ version_findings config.version policy config.exceptions in
     let file = front ++ exceptions_findings lists exceptions read in
-    let targets = file ++ target_findings policy root in
+    let versions = file ++ file_version_findings lists config.version exceptions read in
+    let targets = versions ++ target_findings policy root in
     let keys = targets ++ graph_key_findings policy root in
-    any_front keys (output_key_findings policy root) (any_front targets (graph_key_findings policy root) (any_front file (target_findings policy root)
-    (any_behind front (exceptions_findings lists exceptions read) any)))
+    any_front keys (output_key_findings policy root) (any_front targets (graph_key_findings policy root) (any_front versions (target_findings policy root)
+    (any_front file (file_version_findings lists config.version exceptions read) (any_behind front (exceptions_findings lists exceptions read) any))))
 
 -- a policy that is answered has no error among its findings
 pub unless_Ok : (it found : PolicyFound) → unless_error it ≡ Ok found → (it ≡ found) × (list_any is_error it.findings ≡ false)

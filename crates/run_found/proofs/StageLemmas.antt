@@ -16,7 +16,7 @@ use Rattle.policy_core.specs.declared.valid.policy.ValidConfig.{ValidConfig}
 use Rattle.gather_core.specs.Calls.{ReadsOfCrate, calls_of_all}
 use Rattle.gather_core.specs.Gathered.{krate_of}
 use Rattle.gather_core.proofs.CrateTurns.{krates_told, own_turns}
-use Rattle.gather_core.specs.Entries.{entries_of}
+use Rattle.gather_core.specs.Rules.{rules_of}
 use Rattle.gather_core.specs.declared.summary.KrateLicense.{KrateLicense}
 use Rattle.graph_workspace.specs.Krates.{AreFrom, GathersBy, IsCarried}
 use Rattle.graph_workspace.specs.declared.error.KratesError.{KratesError}
@@ -45,7 +45,7 @@ gather_cut scanner policy tree files last graph choice licenses gathered = recor
     ends = inl (refl, refl);
     among = (
       [],
-      sym (krates_told scanner policy.file_id (entries_of policy) files gathered.crates licenses last gathered.turns)
+      sym (krates_told scanner policy.file_id (rules_of policy) files gathered.crates licenses last gathered.turns)
           ∙ sym (append-nil (map (λ (one : ReadsOfCrate). one.krate) gathered.crates)),
     );
   };

@@ -15,6 +15,8 @@ use Rattle.graph_core.specs.selection.Walks.{Selected}
 use Rattle.tree_core.specs.file_reads.Read.{AreReads, call_lost, records_of_reads}
 use Rattle.gather_license.specs.files.Calls.{IsFront}
 use Rattle.gather_license.specs.files.KnownReads.{FolderReads, known_reads_by}
+use Rattle.gather_license.specs.files.Steps.{file_record}
+use Rattle.gather_license.specs.files.View.{paths_read}
 use Rattle.gather_license.specs.expression.Scanned.{Scanner}
 use Rattle.gather_license.specs.Clarification.{ClarificationView}
 use Rattle.gather_license.specs.Priority.{LicenseAnswer, folder_of, is_nothing, priority_of, records_of}
@@ -23,7 +25,9 @@ use Rattle.policy_core.specs.declared.valid.policy.ValidConfig.{ValidConfig}
 use Rattle.gather_core.specs.Calls.{AreTurnsBy, ReadsOfCrate, CrateTurn, HasOwnReads, calls_of_all, files_behind_all}
 use Rattle.gather_core.specs.Calls.{reads_of_all, turn_by, turns_of}
 use Rattle.gather_core.specs.Entries.{clarifications_of, entries_of}
+use Rattle.gather_core.specs.Exceptions.{counted_of, exception_rules, further_paths, looked_for}
 use Rattle.gather_core.specs.Gathered.{include_of, krate_of, threshold_of}
+use Rattle.gather_core.specs.Rules.{rules_of}
 use Rattle.gather_core.specs.Turns.{asks_manifest, in_order, records_in}
 use Rattle.gather_core.specs.declared.summary.KrateLicense.{KrateLicense}
 use Rattle.run_found.specs.Hearing.{MadeOn, TreeSeen}
@@ -41,6 +45,11 @@ abbrev pub priority_heard : Scanner → ValidConfig → ReadsOfCrate → Option 
 priority_heard scanner policy one =
     priority_of scanner (clarifications_of one.krate (entries_of policy)) one.krate (known_reads_by one.reads)
 
+-- The exceptions of the policy that count for a crate, as their places in its list, by what the answers to its own
+-- reads say.
+abbrev pub counted_heard : ValidConfig → ReadsOfCrate → List ℕ
+counted_heard policy one = counted_of (exception_rules policy) one.krate (known_reads_by one.reads)
+
 -- its expression
 abbrev pub expression_in : Option LicenseAnswer → Option ExpressionView
 expression_in answer = option_map (λ own. own.expression) answer
@@ -52,21 +61,34 @@ pub record IsManifestRead (clarifications : List ClarificationView) (krate : Cra
   pub kind : read.kind ≡ Manifest
   pub path : read.path ≡ krate.manifest_path
 
--- The records of a crate's reads are those that its licence asks for by what their answers say, each file once, and
--- perhaps the one of its manifest.
+-- the records that a crate's licence asks for by what the answers to its own reads say, and perhaps the one of its
+-- manifest
+abbrev pub license_records : Scanner → ValidConfig → ReadsOfCrate → Option ReadRecord → List ReadRecord
+license_records scanner policy one manifest =
+    in_order (is_nothing (clarifications_of one.krate (entries_of policy))) manifest
+    (records_of scanner (clarifications_of one.krate (entries_of policy)) one.krate (known_reads_by one.reads))
+
+-- those of the files that exceptions look at by what the answers say, and that were not read before
+abbrev pub exception_records : ValidConfig → ReadsOfCrate → List ReadRecord → List ReadRecord
+exception_records policy one before =
+    map (file_record (known_reads_by one.reads))
+    (further_paths (paths_read before) (looked_for (exception_rules policy) one.krate (known_reads_by one.reads)))
+
+-- The records of a crate's reads are those that its licence asks for, perhaps the one of its manifest, and behind them
+-- those of the files that exceptions look at, all by what their answers say; each file is read once.
 pub record ReadsItsFiles (scanner : Scanner) (policy : ValidConfig) (one : ReadsOfCrate) : Type 0 where
   pub manifest : Option ReadRecord
   pub of_manifest : IfSome manifest
       (IsManifestRead (clarifications_of one.krate (entries_of policy)) one.krate (known_reads_by one.reads))
   pub are : records_of_reads one.reads
-      ≡ in_order (is_nothing (clarifications_of one.krate (entries_of policy))) manifest
-      (records_of scanner (clarifications_of one.krate (entries_of policy)) one.krate (known_reads_by one.reads))
+      ≡ license_records scanner policy one manifest
+      ++ exception_records policy one (license_records scanner policy one manifest)
 
 -- ---- turn after turn
 
 -- the turns of the crates, one after another, each by its own reads, from a file table on
 abbrev pub turns_heard : Scanner → ValidConfig → List File → List ReadsOfCrate → List CrateTurn
-turns_heard scanner policy files crates = turns_of scanner policy.file_id (entries_of policy) files crates
+turns_heard scanner policy files crates = turns_of scanner policy.file_id (rules_of policy) files crates
 
 -- ---- over a tree
 
@@ -89,7 +111,7 @@ pub record IsTurnBegun (scanner : Scanner) (policy : ValidConfig) (files : List 
   pub crates_are : crates ≡ earlier ++ one ∷ []
   pub lost_is : lost ≡ call_lost (folder_of one.krate) next
   pub front : IsFront (records_of_reads one.reads ++ option_to_list next)
-      (records_in (turn_by scanner policy.file_id (entries_of policy)
+      (records_in (turn_by scanner policy.file_id (rules_of policy)
       (files_behind_all files (turns_heard scanner policy files earlier)) one).turn)
 
 -- The first ones of these crates had their turns, from a file table on, each by its own reads, and perhaps one more was

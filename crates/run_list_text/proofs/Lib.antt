@@ -1,4 +1,5 @@
 mod Examples
+mod GroupLemmas
 mod JsonLemmas
 mod ListLemmas
 mod MarkLemmas

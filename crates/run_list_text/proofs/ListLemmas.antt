@@ -47,10 +47,14 @@ pub distinct_more : (crates : List ListedCrate) (i : ℕ) (listed : ListedCrate)
 distinct_more crates i listed within at =
     ap distinct_texts (text_more crates i listed within at (λ krate. krate.licenses)) ∙ fold-append (insert_key (slice_cmp nat_cmp)) [] (flat_map (λ krate. krate.licenses) (take i crates)) listed.licenses
 
+-- the names of crates, and of further ones
+pub names_split : (license : Option (List ℕ)) (before more : List ListedCrate) → names_under license (before ++ more) ≡ names_under license before ++ names_under license more
+names_split license before more =
+    ap (map (λ krate. krate.name)) (filter-append (is_under license) before more)
+    ∙ map-append (λ krate. krate.name) (filter (is_under license) before) (filter (is_under license) more)
+
 -- the names of one crate more
 pub names_more : (license : Option (List ℕ)) (crates : List ListedCrate) (i : ℕ) (listed : ListedCrate) → i < length crates → listed ≡ get_or crates i listed
     → names_under license (take (i + 1) crates) ≡ names_under license (take i crates) ++ names_under license (listed ∷ [])
 names_more license crates i listed within at =
-    ap (names_under license) (one_more crates i listed within at)
-    ∙ ap (map (λ krate. krate.name)) (filter-append (is_under license) (take i crates) (listed ∷ []))
-    ∙ map-append (λ krate. krate.name) (filter (is_under license) (take i crates)) (filter (is_under license) (listed ∷ []))
+    ap (names_under license) (one_more crates i listed within at) ∙ names_split license (take i crates) (listed ∷ [])

@@ -36,7 +36,7 @@ right_too : (a b : Bool) → b ≡ true → (a || b) ≡ true
 right_too true b e = refl
 right_too false b e = e
 
-left_too : (a b : Bool) → a ≡ true → (a || b) ≡ true
+pub left_too : (a b : Bool) → a ≡ true → (a || b) ≡ true
 left_too true b e = refl
 left_too false b e = let bad : false ≡ true = e in cc
 
@@ -44,21 +44,21 @@ other_one : (a b : Bool) → a ≡ false → (a || b) ≡ true → b ≡ true
 other_one true b first e = let bad : true ≡ false = first in cc
 other_one false b first e = e
 
-neither : (a b : Bool) → a ≡ false → b ≡ false → (a || b) ≡ false
+pub neither : (a b : Bool) → a ≡ false → b ≡ false → (a || b) ≡ false
 neither true b first none = first
 neither false b first none = none
 
-by_test : {G : Type 0} (b : Bool) → (b ≡ true → G) → (b ≡ false → G) → G
+pub by_test : {G : Type 0} (b : Bool) → (b ≡ true → G) → (b ≡ false → G) → G
 by_test true holds differs = holds refl
 by_test false holds differs = differs refl
 
-same_text : (x y : List ℕ) → bytes_eq x y ≡ true → x ≡ y
+pub same_text : (x y : List ℕ) → bytes_eq x y ≡ true → x ≡ y
 same_text x y e = (bytes_eq-Decides x y).0 e
 
-itself : (x : List ℕ) → bytes_eq x x ≡ true
+pub itself : (x : List ℕ) → bytes_eq x x ≡ true
 itself x = (bytes_eq-Decides x x).1 refl
 
-not_less : {G : Type 0} (x y : List ℕ) → x ≡ y → slice_cmp nat_cmp x y ≡ Less → G
+pub not_less : {G : Type 0} (x y : List ℕ) → x ≡ y → slice_cmp nat_cmp x y ≡ Less → G
 not_less x y e less =
     let tied : slice_cmp nat_cmp x x ≡ Equal = tied_itself nat_list_cmp_total x in
     let same : slice_cmp nat_cmp x x ≡ Less = subst (λ z. slice_cmp nat_cmp x z ≡ Less) (sym e) less in
@@ -66,7 +66,7 @@ not_less x y e less =
     cc
 
 -- a text that is less is another
-other_text : (x y : List ℕ) → slice_cmp nat_cmp x y ≡ Less → bytes_eq x y ≡ false
+pub other_text : (x y : List ℕ) → slice_cmp nat_cmp x y ≡ Less → bytes_eq x y ≡ false
 other_text x y less = by_test (bytes_eq x y) (λ same. not_less x y (same_text x y same) less) (λ differs. differs)
 
 greater_text : (x y : List ℕ) → slice_cmp nat_cmp x y ≡ Less → bytes_eq y x ≡ false
@@ -172,7 +172,7 @@ in_front [] more q has = let bad : false ≡ true = has in cc
 in_front (text ∷ texts) more q has =
     by_test (bytes_eq text q) (λ same. left_too _ _ same) (λ differs. right_too (bytes_eq text q) _ (in_front texts more q (other_one _ _ differs has)))
 
-in_back : (texts more : List (List ℕ)) (q : List ℕ) → has_text more q ≡ true → has_text (texts ++ more) q ≡ true
+pub in_back : (texts more : List (List ℕ)) (q : List ℕ) → has_text more q ≡ true → has_text (texts ++ more) q ≡ true
 in_back [] more q has = has
 in_back (text ∷ texts) more q has = right_too (bytes_eq text q) _ (in_back texts more q has)
 

@@ -1,5 +1,5 @@
 -- Texts that are put behind one another, and written now and then.
-use Rattle.std.proofs.Common.{◌≡◌, ◌∙◌, refl, sym, ap, subst, ℕ, ◌+◌, ◌<◌, List, [], ◌++◌, length, take, drop, get_or, Option, Some, None, Result, Ok, Err, OnErr, OnOk, append_assoc, append-nil}
+use Rattle.std.proofs.Common.{◌≡◌, ◌∙◌, refl, sym, ap, ap₂, subst, ℕ, ◌+◌, ◌<◌, List, [], ◌++◌, length, take, drop, get_or, Option, Some, None, Result, Ok, Err, OnErr, OnOk, append_assoc, append-nil}
 use Rattle.std.specs.List.{flat_map}
 use Rattle.tree_core.specs.Faults.{Gained, GainedPrefix}
 use Rattle.tree_core.proofs.GainedLemmas.{Gained-then}
@@ -116,3 +116,7 @@ all_of_nothing start text none = append-nil (start ++ text) ∙ ap (λ front. fr
 -- a text with nothing behind it, of whose front another name is known
 pub front_known : (start wanted text : List ℕ) → start ≡ wanted → (start ++ text) ++ [] ≡ wanted ++ text
 front_known start wanted text e = append-nil (start ++ text) ∙ ap (λ front. front ++ text) e
+
+-- lines with nothing before them and a text behind them, of which other names are known
+pub three_parts : (start lines last known_lines known_last : List ℕ) → start ≡ [] → lines ≡ known_lines → last ≡ known_last → (start ++ lines) ++ last ≡ known_lines ++ known_last
+three_parts start lines last known_lines known_last none same same_last = ap₂ (λ front behind. front ++ behind) (ap (λ front. front ++ lines) none ∙ same) same_last

@@ -2,12 +2,13 @@
 //! Called by `write_crates` and `write_licenses` of `listing`; a line may be made apart and then appended.
 ghost use Rattle.std.specs.Prelude.{◌≡◌, ◌++◌, IfOk, None, OnOk, ⊤};
 ghost use Rattle.deny_text.specs.Fronts.{StandsInFront};
+ghost use Rattle.run_list_text.specs.Grouped.{entry_line, entry_of};
 ghost use Rattle.run_list_text.specs.Listed.{names_under};
-ghost use Rattle.run_list_text.specs.Listing.{crate_line, crate_words, group_line, license_line, title_of};
-ghost use Rattle.run_list_text.specs.Listing.{unlicensed_line};
+ghost use Rattle.run_list_text.specs.Listing.{crate_line, crate_words, group_line, title_of, unlicensed_line};
 
+use crate::grouped::LicenseNames;
 use crate::lines::Lines;
-use crate::listed::{ListedCrate, names_under};
+use crate::listed::{ListedCrate, names_without};
 use crate::plain::{push_joined, push_plain, push_text};
 use deny_text::Text;
 use std::alloc::{AllocError, Global};
@@ -67,19 +68,20 @@ impl Lines<ListedCrate> for CrateLines {
 
 /// A licence and the crates that have it.
 #[derive(Clone, Copy)]
-pub(crate) struct LicenseLines<'c> {
-    pub(crate) crates: &'c [ListedCrate],
-}
+pub(crate) struct LicenseLines;
 
-impl<'c> Lines<Text> for LicenseLines<'c> {
-    ghost line = { λ lines license. license_line lines.crates.now license };
+impl Lines<LicenseNames> for LicenseLines {
+    ghost line = { λ _ group. entry_line (entry_of group) };
 
     ghost fits = { λ _ _. ⊤ };
 
-    fn push(&self, out: &mut Vec<u8>, alloc: Global, item: &Text) -> Result<(), AllocError> {
-        let license = item.as_str();
-        let names = names_under(alloc, self.crates, Some(license))?;
-        push_group(out, alloc, license, names.items())
+    fn push(
+        &self,
+        out: &mut Vec<u8>,
+        alloc: Global,
+        item: &LicenseNames,
+    ) -> Result<(), AllocError> {
+        push_group(out, alloc, item.license.as_str(), item.names.items())
     }
 }
 
@@ -107,6 +109,6 @@ fn line_of_unlicensed(alloc: Global, names: &[Text]) -> Result<Vec<u8>, AllocErr
 pub(crate) fn unlicensed_line(alloc: Global, crates: &[ListedCrate]) -> Result<Vec<u8>, AllocError>
     ensures { IfOk result (λ line. line.items ≡ unlicensed_line (names_under None crates.now)) }
 {
-    let names = names_under(alloc, crates, None)?;
+    let names = names_without(alloc, crates)?;
     line_of_unlicensed(alloc, names.items())
 }

@@ -1,13 +1,16 @@
 //! A listing for a program.
-//! Called by `write_json` of `listing`; how crates under a licence are found may change, clauses have values.
-ghost use Rattle.std.specs.Prelude.{◌≡◌, IfOk, OnOk, map};
+//! Called by `write_json` of `listing`; how its tokens are made may change, clauses have values.
+ghost use Rattle.std.specs.Prelude.{◌≡◌, All, IfOk, OnOk, map};
 ghost use Rattle.serde_json.specs.Data.{array};
 ghost use Rattle.serde_json.specs.View.{items_of};
 ghost use Rattle.diag_print.specs.JsonTokens.{Adds, data_tokens};
+ghost use Rattle.graph_core.specs.Metadata.{AreRising};
+ghost use Rattle.run_list_text.specs.Grouped.{entry_data, entry_of};
 ghost use Rattle.run_list_text.specs.Listing.{crate_data, data_by_crate, data_by_license, data_of, json_text};
-ghost use Rattle.run_list_text.specs.Listing.{license_data, texts_data};
+ghost use Rattle.run_list_text.specs.Listing.{texts_data};
 
-use crate::listed::{ListedCrate, all_licenses, names_under};
+use crate::grouped::{LicenseNames, names_by_license};
+use crate::listed::{ListedCrate, names_without};
 use deny_text::Text;
 use json::Writer;
 use run_request::Layout;
@@ -48,34 +51,23 @@ fn write_by_crate(out: &mut Writer, crates: &[ListedCrate]) -> Result<(), AllocE
 }
 
 /// A licence and the crates that have it.
-fn write_license(
-    alloc: Global,
-    out: &mut Writer,
-    crates: &[ListedCrate],
-    license: &str,
-) -> Result<(), AllocError>
-    ensures { OnOk result (Adds out.old out.new (data_tokens (license_data crates.now license.now))) }
+fn write_license(out: &mut Writer, group: &LicenseNames) -> Result<(), AllocError>
+    ensures { OnOk result (Adds out.old out.new (data_tokens (entry_data (entry_of group.now)))) }
 {
-    let names = names_under(alloc, crates, Some(license))?;
     out.begin_array()?;
-    out.string(license)?;
-    write_texts(out, names.items())?;
+    out.string(group.license.as_str())?;
+    write_texts(out, group.names.items())?;
     out.end_array()
 }
 
 /// Licences and the crates that have them.
-fn write_licenses(
-    alloc: Global,
-    out: &mut Writer,
-    crates: &[ListedCrate],
-    licenses: &[Text],
-) -> Result<(), AllocError>
-    ensures { let licenses = items_of (map (license_data crates.now) licenses.now) in
+fn write_licenses(out: &mut Writer, groups: &[LicenseNames]) -> Result<(), AllocError>
+    ensures { let licenses = items_of (map (λ group. entry_data (entry_of group)) groups.now) in
         OnOk result (Adds out.old out.new (data_tokens (array licenses))) }
 {
     out.begin_array()?;
-    'licenses: for license in licenses {
-        write_license(alloc, out, crates, license.as_str())?;
+    'groups: for group in groups {
+        write_license(out, group)?;
     }
     out.end_array()
 }
@@ -86,13 +78,14 @@ fn write_by_license(
     out: &mut Writer,
     crates: &[ListedCrate],
 ) -> Result<(), AllocError>
+    requires { All (λ listed. AreRising listed.licenses) crates.now }
     ensures { OnOk result (Adds out.old out.new (data_tokens (data_by_license crates.now))) }
 {
-    let licenses = all_licenses(alloc, crates)?;
-    let names = names_under(alloc, crates, None)?;
+    let groups = names_by_license(alloc, crates)?;
+    let names = names_without(alloc, crates)?;
     out.begin_object()?;
     out.key("licenses")?;
-    write_licenses(alloc, out, crates, licenses.items())?;
+    write_licenses(out, groups.items())?;
     out.key("unlicensed")?;
     write_texts(out, names.items())?;
     out.end_object()
@@ -105,6 +98,7 @@ fn write_value(
     crates: &[ListedCrate],
     layout: Layout,
 ) -> Result<(), AllocError>
+    requires { All (λ listed. AreRising listed.licenses) crates.now }
     ensures { OnOk result (Adds out.old out.new (data_tokens (data_of layout crates.now))) }
 {
     match layout {
@@ -119,6 +113,7 @@ pub(crate) fn json_text(
     crates: &[ListedCrate],
     layout: Layout,
 ) -> Result<Vec<u8>, AllocError>
+    requires { All (λ listed. AreRising listed.licenses) crates.now }
     ensures { IfOk result (λ text. text.items ≡ json_text (data_of layout crates.now)) }
 {
     let mut writer = Writer::new(Vec::new(alloc));

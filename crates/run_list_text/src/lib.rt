@@ -2,6 +2,7 @@
 //! Used by run_list, deny_run's clauses and tests_gather; what is passed on may change, no clause is here.
 #![tactic(auto)]
 
+mod grouped;
 mod human;
 mod json_text;
 pub mod lines;

@@ -1,10 +1,10 @@
 //! The crates of a listing.
-//! Called by `run_list`, `human`, `json_text` and `listing`; `has_text` may look from either end.
-ghost use Rattle.std.specs.Prelude.{◌≡◌, ◌↔◌, All, IfOk, IsTrue, OnOk, [], ◌∷◌, ◌++◌, map, option_copied};
-ghost use Rattle.graph_core.specs.Krate.{has_text, record_of};
+//! Called by `run_list`, `human`, `json_text` and `listing`; a set of licences may be any that is in order.
+ghost use Rattle.std.specs.Prelude.{◌≡◌, All, IfOk, None, OnOk, [], ◌∷◌, ◌++◌, map};
+ghost use Rattle.graph_core.specs.Krate.{record_of};
 ghost use Rattle.graph_core.specs.Metadata.{AreRising};
-ghost use Rattle.run_list_text.specs.Listed.{all_licenses, crate_name, is_under, licenses_of};
-ghost use Rattle.run_list_text.specs.Listed.{listed_of, names_under, printed_terms};
+ghost use Rattle.run_list_text.specs.Listed.{all_licenses, crate_name, licenses_of, listed_of};
+ghost use Rattle.run_list_text.specs.Listed.{names_under, printed_terms};
 
 use crate::sets::{copies_in, distinct, texts_of};
 use deny_text::{ListOf, Text, Texts};
@@ -99,49 +99,22 @@ pub(crate) fn all_licenses(alloc: Global, crates: &[ListedCrate]) -> Result<Text
     texts_of(alloc, set)
 }
 
-/// Whether a text is among these.
-fn has_text(texts: &Texts, text: &str) -> bool
-    ensures { result ≡ has_text texts.now text.now }
-{
-    texts.items().iter().any(|own| own.as_str() == text)
-}
-
-/// Whether a crate is under a licence, or under none where none is named.
-fn is_under(listed: &ListedCrate, license: Option<&str>) -> bool
-    ensures { result ≡ is_under (option_copied license.entry) listed.now }
-{
-    match license {
-        Some(license) => has_text(&listed.licenses, license),
-        None => listed.licenses.items().is_empty(),
-    }
-}
-
-/// The names of the crates under a licence, or under none where none is named, in order.
-pub(crate) fn names_under(
-    alloc: Global,
-    crates: &[ListedCrate],
-    license: Option<&str>,
-) -> Result<Texts, AllocError>
-    ensures { IfOk result (λ names. names ≡ names_under (option_copied license.entry) crates.now) }
+/// The names of the crates without a licence, in order.
+pub(crate) fn names_without(alloc: Global, crates: &[ListedCrate]) -> Result<Texts, AllocError>
+    ensures { IfOk result (λ names. names ≡ names_under None crates.now) }
 {
     let mut names = Texts::new(alloc);
     'crates: for listed in crates {
-        add_name(alloc, &mut names, listed, license)?;
+        add_name(alloc, &mut names, listed)?;
     }
     Ok(names)
 }
 
-/// Appends the name of a crate that is under a licence.
-fn add_name(
-    alloc: Global,
-    names: &mut Texts,
-    listed: &ListedCrate,
-    license: Option<&str>,
-) -> Result<(), AllocError>
-    ensures { OnOk result
-        (names.new ≡ names.old ++ names_under (option_copied license.entry) (listed.now ∷ [])) }
+/// Appends the name of a crate that has no licence.
+fn add_name(alloc: Global, names: &mut Texts, listed: &ListedCrate) -> Result<(), AllocError>
+    ensures { OnOk result (names.new ≡ names.old ++ names_under None (listed.now ∷ [])) }
 {
-    if !is_under(listed, license) {
+    if !listed.licenses.items().is_empty() {
         return Ok(());
     }
     let name = Text::copy(alloc, listed.name.as_str())?;

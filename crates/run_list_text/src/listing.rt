@@ -7,6 +7,7 @@ ghost use Rattle.run_list_text.specs.Listed.{listed_of};
 ghost use Rattle.run_list_text.specs.Listing.{data_of, human_by_crate, human_by_license, json_text, listing_of, table_of};
 ghost use Rattle.run_list_text.specs.Written.{HasReasonSince};
 
+use crate::grouped::names_by_license;
 use crate::human::{CrateLines, LicenseLines, unlicensed_line};
 use crate::json_text::json_text;
 use crate::lines::{ListError, write_lines, write_text};
@@ -43,7 +44,8 @@ fn write_licenses<S: Sink>(
     sink: &mut S,
     begun: u64,
 ) -> Result<(), ListError>
-    requires { begun ≤ S.fault_count sink.old }
+    requires ordered { All (λ listed. AreRising listed.licenses) crates.now }
+    requires begun { begun ≤ S.fault_count sink.old }
     ensures ok { OnOk result
         (Gained (S.written sink.old) (S.written sink.new) (human_by_license crates.now)) }
     ensures err { OnErr result
@@ -51,15 +53,14 @@ fn write_licenses<S: Sink>(
     ensures reason { IfErr result (HasReasonSince begun (S.fault_count sink.new)) }
     ensures later { S.fault_count sink.old ≤ S.fault_count sink.new }
 {
-    let licenses = all_licenses(alloc, crates)?;
+    let groups = names_by_license(alloc, crates)?;
     let last = unlicensed_line(alloc, crates)?;
-    let lines = LicenseLines { crates };
     let mut pending = Vec::new(alloc);
     write_lines(
         alloc,
         &mut pending,
-        &lines,
-        licenses.items(),
+        &LicenseLines,
+        groups.items(),
         last.as_slice(),
         sink,
         begun,
@@ -97,7 +98,8 @@ fn write_json<S: Sink>(
     sink: &mut S,
     begun: u64,
 ) -> Result<(), ListError>
-    requires { begun ≤ S.fault_count sink.old }
+    requires ordered { All (λ listed. AreRising listed.licenses) crates.now }
+    requires begun { begun ≤ S.fault_count sink.old }
     ensures ok { OnOk result (Gained (S.written sink.old) (S.written sink.new)
         (json_text (data_of layout crates.now))) }
     ensures err { OnErr result (GainedPrefix (S.written sink.old) (S.written sink.new)

@@ -9,7 +9,7 @@ use Rattle.spdx_core.specs.Reading.{ExpressionView}
 use Rattle.spdx_core.specs.declared.certificates.verdict.Verdict.{Verdict}
 use Rattle.spdx_core.specs.declared.certificates.verdict.Verdict.TheVariants.{Skipped, Unlicensed, Accepted, Rejected}
 use Rattle.diag_core.specs.File.{File}
-use Rattle.graph_core.specs.Krate.{CrateRecord, ids_in}
+use Rattle.graph_core.specs.Krate.{ids_in}
 use Rattle.graph_core.specs.Metadata.{AreRising}
 use Rattle.policy_core.specs.valid.Policy.{Policy}
 use Rattle.policy_core.specs.valid.View.{policy_of}
@@ -30,6 +30,7 @@ use Rattle.run_found.specs.declared.reads.CrateRead.{CrateRead}
 use Rattle.run_found.specs.Error.{cause_of}
 use Rattle.run_found.specs.Found.{files_loaded}
 use Rattle.run_found.specs.Hearing.{RequestHearing, TreeSeen, crates_heard}
+use Rattle.run_found.specs.Licenses.{counted_heard}
 use Rattle.run_found.specs.Written.{IsSilent, SinkSeen}
 use Rattle.run_command.specs.Found.{IsHeard, load_heard, turns_in}
 use Rattle.run_command.specs.Given.{CommandArguments}
@@ -47,19 +48,19 @@ use Rattle.run_record.proofs.EndLemmas.{write_counts}
 
 -- ---- verdicts that can be recorded
 
-shown_recordable : (policy : Policy) (krate : CrateRecord) (expression : Option ExpressionView) (verdict : Verdict) → IfSome expression (λ view. IsExpression view.text view.terms view.tree)
-    → IsVerdictShown (is_skipped verdict) policy krate expression verdict → IsRecordable verdict
-shown_recordable policy krate expression Skipped facts shown = tt
-shown_recordable policy krate expression Unlicensed facts shown = tt
-shown_recordable policy krate None (Accepted choice hits) facts shown = absurd cc
-shown_recordable policy krate (Some view) (Accepted choice hits) facts shown =
-    accepted_recordable _ view.tree facts.places (term_hits policy krate view.terms) choice hits shown
-shown_recordable policy krate None (Rejected least blocks) facts shown = absurd cc
-shown_recordable policy krate (Some view) (Rejected least blocks) facts shown =
-    rejected_recordable _ view.tree facts.places (term_hits policy krate view.terms) least blocks shown
+shown_recordable : (policy : Policy) (counted : List ℕ) (expression : Option ExpressionView) (verdict : Verdict) → IfSome expression (λ view. IsExpression view.text view.terms view.tree)
+    → IsVerdictShown (is_skipped verdict) policy counted expression verdict → IsRecordable verdict
+shown_recordable policy counted expression Skipped facts shown = tt
+shown_recordable policy counted expression Unlicensed facts shown = tt
+shown_recordable policy counted None (Accepted choice hits) facts shown = absurd cc
+shown_recordable policy counted (Some view) (Accepted choice hits) facts shown =
+    accepted_recordable _ view.tree facts.places (term_hits policy counted view.terms) choice hits shown
+shown_recordable policy counted None (Rejected least blocks) facts shown = absurd cc
+shown_recordable policy counted (Some view) (Rejected least blocks) facts shown =
+    rejected_recordable _ view.tree facts.places (term_hits policy counted view.terms) least blocks shown
 
 pub recordable : (report : CrateReport) → IfSome report.expression (λ view. IsExpression view.text view.terms view.tree) → IsJudgedReport report → IsRecordable report.verdict
-recordable report facts judged = shown_recordable judged.policy judged.krate report.expression report.verdict facts judged.verdict.shown
+recordable report facts judged = shown_recordable judged.policy judged.counted report.expression report.verdict facts judged.verdict.shown
 
 -- ---- reports that can be recorded
 
@@ -69,7 +70,7 @@ module _ (given : CommandArguments) (policy : ValidConfig) where
   each_judged [] (report ∷ reports) each = absurd each
   each_judged (one ∷ crates) [] each = absurd each
   each_judged (one ∷ crates) (report ∷ reports) each =
-      (record { policy = policy_of policy; krate = one.krate; verdict = each.0.verdict }, each_judged crates reports each.1)
+      (record { policy = policy_of policy; krate = one.krate; counted = counted_heard policy one; verdict = each.0.verdict }, each_judged crates reports each.1)
 
   ids_reported : (crates : List ReadsOfCrate) (reports : List CrateReport) → AllZip (IsReportOf given policy) crates reports
       → map (λ (report : CrateReport). report.id) reports ≡ ids_in (map (λ (one : ReadsOfCrate). one.krate) crates)

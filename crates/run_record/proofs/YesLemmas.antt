@@ -25,7 +25,7 @@ use Rattle.check_verify.specs.declared.answer.VerifyAnswer.TheVariants.{Yes}
 use Rattle.check_verify.proofs.RightLemmas.{IsRightAbout, yes_right}
 use Rattle.run_found.specs.Found.{files_loaded}
 use Rattle.run_found.specs.Hearing.{MadeOn, RequestHearing, TreeSeen}
-use Rattle.run_found.specs.Licenses.{expression_in, priority_heard}
+use Rattle.run_found.specs.Licenses.{counted_heard, expression_in, priority_heard}
 use Rattle.run_found.specs.Written.{SinkSeen}
 use Rattle.run_command.specs.Found.{calls_of, scanner_of_given}
 use Rattle.run_command.specs.Given.{CommandArguments}
@@ -54,10 +54,11 @@ bytes_read count after call.no_memory text e = absurd cc
 
 -- ---- crate after crate
 
-right_moved : (policy : Policy) (krate other : CrateRecord) (expression view : Option ExpressionView) (item : RecordItem) → krate ≡ other → expression ≡ view → IsRightOf policy krate expression item
-    → IsRightOf policy other view item
-right_moved policy krate other expression view item same alike right =
-    subst (λ (own : CrateRecord). IsRightOf policy own view item) same (subst (λ (own : Option ExpressionView). IsRightOf policy krate own item) alike right)
+right_moved : (policy : Policy) (krate other : CrateRecord) (counted those : List ℕ) (expression view : Option ExpressionView) (item : RecordItem)
+    → krate ≡ other → counted ≡ those → expression ≡ view → IsRightOf policy krate counted expression item → IsRightOf policy other those view item
+right_moved policy krate other counted those expression view item same count alike right =
+    subst (λ (own : CrateRecord). IsRightOf policy own those view item) same
+    (subst (λ (own : List ℕ). IsRightOf policy krate own view item) count (subst (λ (own : Option ExpressionView). IsRightOf policy krate counted own item) alike right))
 
 module _ (given : CommandArguments) (policy : ValidConfig) where
   all_right : (crates : List ReadsOfCrate) (licenses : List KrateLicense) (items : List RecordItem) → AllZip (IsLicenseHeard (scanner_of_given given policy) policy) crates licenses
@@ -68,8 +69,8 @@ module _ (given : CommandArguments) (policy : ValidConfig) where
   all_right (one ∷ crates) [] items heard each = absurd heard
   all_right (one ∷ crates) (license ∷ licenses) [] heard each = absurd each
   all_right (one ∷ crates) (license ∷ licenses) (item ∷ items) heard each = (
-    right_moved (policy_of policy) (krate_of license) one.krate (expression_of license.lic_info) (expression_in (priority_heard (scanner_of_given given policy) policy one)) item
-        heard.0.krate heard.0.expression each.0,
+    right_moved (policy_of policy) (krate_of license) one.krate license.exceptions (counted_heard policy one) (expression_of license.lic_info)
+        (expression_in (priority_heard (scanner_of_given given policy) policy one)) item heard.0.krate heard.0.exceptions heard.0.expression each.0,
     all_right crates licenses items heard.1 each.1,
   )
 

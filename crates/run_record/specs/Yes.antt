@@ -12,18 +12,18 @@ use Rattle.check_record.specs.Items.{ids_of}
 use Rattle.check_record.specs.declared.items.RecordItem.{RecordItem}
 use Rattle.check_verify.specs.Right.{IsRightOf}
 use Rattle.run_found.specs.Hearing.{RequestHearing}
-use Rattle.run_found.specs.Licenses.{ReadsItsFiles, expression_in, priority_heard}
+use Rattle.run_found.specs.Licenses.{ReadsItsFiles, counted_heard, expression_in, priority_heard}
 use Rattle.run_command.specs.Found.{scanner_of_given}
 use Rattle.run_command.specs.Given.{CommandArguments}
 use Rattle.run_command.specs.Settled.{IsSettled}
 
 -- The recorded verdict of a crate, by a valid policy: it is the one that the policy gives the crate's record and the
--- expression that has priority by what the answers to the crate's own reads say, and what is recorded beside it shows
--- it.
+-- expression that has priority by what the answers to the crate's own reads say, by the exceptions that count by these
+-- answers, and what is recorded beside it shows it.
 abbrev pub IsRecordedRight : CommandArguments → ValidConfig → ReadsOfCrate → RecordItem → Type 0
 IsRecordedRight given policy one item =
-    IsRightOf (policy_of policy) one.krate (expression_in (priority_heard (scanner_of_given given policy) policy one))
-    item
+    IsRightOf (policy_of policy) one.krate (counted_heard policy one)
+    (expression_in (priority_heard (scanner_of_given given policy) policy one)) item
 
 -- The bytes of a verdict file are the spelling of a record. What was read asks for these crates, whose licences were
 -- settled by the policy that was found, its lists in order; each crate's own files were read, once, and no other file

@@ -12,14 +12,15 @@ use diag_print::{Color, DiagPrinter, Format, LogContext, pack_labels_are_inside}
 use gather_core::{Diags, LicenseExprInfo, LicenseExprSource};
 use graph_core::{Krate, Source};
 use policy_core::valid::{CountedPolicy, ValidConfig};
+use policy_parts::spec::Places;
 use spdx_core::Expression;
 use std::alloc::{AllocError, Global};
 use std::marker::Brand;
 use std::sync::ledger::{Blank, Ledger};
 use tests_files::{AnswerText, Case, CaseEntry, ok, some};
 use tests_gather::given::{
-    expression, first_word, krate, number, placed_text, policy, policy_of, span, table, texts,
-    value,
+    expression, first_word, krate, number, placed_text, places, policy, policy_of, span, table,
+    texts, value,
 };
 use tree_core::MemSink;
 
@@ -54,12 +55,13 @@ fn put_certificate(out: &mut AnswerText, verdict: &Verdict) {
     }
 }
 
-/// What an evaluator answers the second time that it is asked, and the certificate.
+/// What an evaluator answers the second time that it is asked, where the exceptions at some places count, and the
+/// certificate.
 fn asked_twice<L: Ledger>(
     alloc: Global,
     out: &mut AnswerText,
     expression: &Expression,
-    krate: &Krate,
+    exceptions: &Places,
     policy: &ValidConfig,
     ledger: Blank,
 ) -> Result<(), AllocError>
@@ -71,8 +73,8 @@ fn asked_twice<L: Ledger>(
     let policy = CountedPolicy::<L>::of(policy);
     let mut evaluator = Evaluator::with_room(alloc, nodes, &policy)?;
     let mut steps = Steps::<L>::new(ledger);
-    let _first = evaluator.evaluate(expression, krate, &policy, &mut steps);
-    let accepts = evaluator.evaluate(expression, krate, &policy, &mut steps);
+    let _first = evaluator.evaluate(expression, exceptions, &policy, &mut steps);
+    let accepts = evaluator.evaluate(expression, exceptions, &policy, &mut steps);
     out.put(if accepts { "accepted:" } else { "rejected:" });
     match &evaluator.certificate(alloc, expression) {
         Ok(verdict) => put_certificate(out, verdict),
@@ -87,16 +89,17 @@ fn beside_bar(text: &str) -> (&str, &str) {
     (one.trim(), other.trim())
 }
 
-/// The verdict on an expression; behind bars are the allowed licences and the exceptions.
+/// The verdict on an expression; behind bars are the allowed licences, the exceptions, and the places of those that count.
 pub fn put_verdict(alloc: Global, text: &str, out: &mut AnswerText) -> Option<()> {
     let (text, lists) = beside_bar(text);
-    let (allow, exceptions) = beside_bar(lists);
+    let (allow, lists) = beside_bar(lists);
+    let (exceptions, counted) = beside_bar(lists);
     let expression = expression(alloc, text);
-    let krate = krate(alloc, "a", "a");
+    let counted = places(alloc, counted);
     let policy = policy(alloc, allow, exceptions);
-    match (&expression, &krate, &policy) {
-        (Some(expression), Some(krate), Some(policy)) => {
-            asked_twice::<Brand>(alloc, out, expression, krate, policy, Blank::new(1)).ok()
+    match (&expression, &counted, &policy) {
+        (Some(expression), Some(counted), Some(policy)) => {
+            asked_twice::<Brand>(alloc, out, expression, counted, policy, Blank::new(1)).ok()
         }
         _ => None,
     }

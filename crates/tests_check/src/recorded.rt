@@ -10,11 +10,12 @@ use gather_core::{
 };
 use graph_core::Krate;
 use policy_core::valid::{CountedPolicy, ValidConfig};
+use policy_parts::spec::Places;
 use std::alloc::Global;
 use std::marker::Brand;
 use std::sync::ledger::{Blank, Ledger};
 use tests_files::AnswerText;
-use tests_gather::given::{expression, krate, policy};
+use tests_gather::given::{expression, krate, places, policy};
 use tree_core::Reads;
 
 /// Whether a text is a verdict file, and is written as it was read.
@@ -70,7 +71,19 @@ fn license(alloc: Global, text: &str) -> Option<LicenseInfo> {
     Some(LicenseInfo::SpdxExpression { expr, nfo })
 }
 
-fn summary_of<'k>(alloc: Global, krate: &'k Krate, lic_info: LicenseInfo) -> Option<Summary<'k>> {
+/// What was gathered of a crate.
+#[derive(Drop)]
+struct Gathered {
+    lic_info: LicenseInfo,
+    /// The places of the exceptions that count for it.
+    exceptions: Places,
+}
+
+fn summary_of<'k>(alloc: Global, krate: &'k Krate, gathered: Gathered) -> Option<Summary<'k>> {
+    let Gathered {
+        lic_info,
+        exceptions,
+    } = gathered;
     let mut nfos = KrateLicenses::new(alloc);
     let license = KrateLicense {
         krate,
@@ -78,6 +91,7 @@ fn summary_of<'k>(alloc: Global, krate: &'k Krate, lic_info: LicenseInfo) -> Opt
         notes: Notes::new(alloc),
         diags: Diags::new(alloc),
         reads: Reads::new(alloc),
+        exceptions,
     };
     nfos.push(license).ok()?;
     Some(Summary { nfos })
@@ -100,7 +114,7 @@ fn verify_file<L: Ledger>(
     out: &mut AnswerText,
     verdicts: &Record,
     krate: &Krate,
-    lic_info: LicenseInfo,
+    gathered: Gathered,
     policy: &ValidConfig,
     ledger: Blank,
 ) -> Option<()>
@@ -108,7 +122,7 @@ fn verify_file<L: Ledger>(
     requires parts { ledger.parts ≡ L.parts }
     requires some { 0 < ledger.parts }
 {
-    let summary = summary_of(alloc, krate, lic_info)?;
+    let summary = summary_of(alloc, krate, gathered)?;
     let mut steps = Steps::<L>::new(ledger);
     let policy = CountedPolicy::<L>::of(policy);
     let answer = verify(alloc, verdicts, &summary, &policy, &mut steps).ok()?;
@@ -116,19 +130,31 @@ fn verify_file<L: Ledger>(
     Some(())
 }
 
-/// Whether a record is right about the crate `a`: its expression, the allowed licences, the exceptions, and the
-/// lines of the record, with bars between them.
+/// Whether a record is right about the crate `a`: its expression, the allowed licences, the exceptions, the places of those
+/// that count for the crate, and the lines of the record, with bars between them.
 pub fn put_verified(alloc: Global, text: &str, out: &mut AnswerText) -> Option<()> {
     let (text, rest) = cut(text);
     let (allow, rest) = cut(rest);
-    let (exceptions, lines) = cut(rest);
+    let (exceptions, rest) = cut(rest);
+    let (counted, lines) = cut(rest);
     let file = file_of(alloc, lines)?;
     let policy = policy(alloc, allow, exceptions)?;
     let mut krate = krate(alloc, "a", "a")?;
     if text == "private" {
         krate.publish = Some(Texts::new(alloc));
     }
-    let info = license(alloc, text)?;
+    let gathered = Gathered {
+        lic_info: license(alloc, text)?,
+        exceptions: places(alloc, counted)?,
+    };
     let verdicts = decode(alloc, file.as_bytes()).ok()?;
-    verify_file::<Brand>(alloc, out, &verdicts, &krate, info, &policy, Blank::new(1))
+    verify_file::<Brand>(
+        alloc,
+        out,
+        &verdicts,
+        &krate,
+        gathered,
+        &policy,
+        Blank::new(1),
+    )
 }

@@ -1,6 +1,7 @@
 //! What the definitions make of verdicts and of what is reported of them.
 ghost use Rattle.std.specs.Prelude.{◌≡◌, map, take};
 ghost use Rattle.check_core.specs.Rows.{judged_row, rows};
+ghost use Rattle.tests_code.specs.Entries.{entries_asked};
 ghost use Rattle.check_core.specs.unused.Rows.{reported_row, unused_rows};
 ghost use Rattle.policy_core.specs.valid.Rows as hits;
 ghost use Rattle.check_core.specs.findings.Rows.{findings_meant, findings_said, label_rows, row_with_labels};
@@ -15,6 +16,7 @@ fn rows_by_hand()
     ensures sources { map row_with_text source_rows ≡ source_rows }
     ensures judged { map judged_row rows ≡ rows }
     ensures hits { map hits.computed_row hits.rows ≡ hits.rows }
+    ensures asked { entries_asked ≡ 3 }
 {}
 
 #[test]

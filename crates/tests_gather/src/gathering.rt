@@ -85,6 +85,17 @@ fn put_licenses(out: &mut AnswerText, licenses: &[KrateLicense<'_>]) {
     }
 }
 
+/// A line for each crate: the places of the exceptions that count for it, each behind a blank.
+fn put_counted(out: &mut AnswerText, licenses: &[KrateLicense<'_>]) {
+    for license in licenses {
+        write!(out, "{}:", license.krate.id);
+        for place in license.exceptions.items() {
+            write!(out, " {place}");
+        }
+        out.put("\n");
+    }
+}
+
 /// The place of a label, with lines and columns from 0, what it cuts out, and its text, with a mark where its style is primary.
 fn put_label(out: &mut AnswerText, files: &Files, label: &Label) {
     let name = files.name(label.file_id).unwrap_or("no file");
@@ -146,10 +157,11 @@ fn gathered<'k>(
         .ok()
 }
 
-/// Puts the licence of each crate, what is found of each, or the text of the second file of the table.
+/// Puts the licence of each crate, the exceptions that count for each, what is found of each, or the text of the second file of the table.
 fn put_of(out: &mut AnswerText, key: &str, files: &Files, licenses: &[KrateLicense<'_>]) {
     match key {
         "gathered" => put_licenses(out, licenses),
+        "counted" => put_counted(out, licenses),
         "found" => {
             for license in licenses {
                 put_findings(out, files, license.diags.items());

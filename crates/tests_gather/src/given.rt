@@ -1,5 +1,6 @@
-//! What cases and rows are given: words, trees, tables, crates and policies, in which `MIT@21-24` is a name with its place, and
-//! `c@52-53: ISC@66-69` an exception for a crate. Each is none where it can't be read or has no memory.
+//! What cases and rows are given: words, trees, tables, crates and policies, in which `MIT@21-24` is a name with its place,
+//! `c@52-53: ISC@66-69` an exception for a crate, and `c: ISC + A B` one that is tied to files. Each is none where it can't be
+//! read or has no memory.
 use deny_text::{PathBuf, Span, Spanned, Text, TextMap, Texts};
 use diag_core::Files;
 use graph_core::Krate;
@@ -7,7 +8,7 @@ use policy_core::valid::{
     Urls, ValidClarification, ValidClarifications, ValidConfig, ValidException, ValidExceptions,
 };
 use policy_parts::entries::{Licensee, Licensees};
-use policy_parts::spec::PackageSpec;
+use policy_parts::spec::{PackageSpec, Places};
 use policy_parts::{FileSource, FileSources, LintLevel, Private, SpannedTexts};
 use semver::Version;
 use spdx_core::{Expression, ParseMode, Table};
@@ -21,7 +22,7 @@ use url::Url;
 /// The hash of one LF, as `xxhsum -H0` has it.
 pub const OF_FEED: u32 = 0x81c9_d352;
 
-/// Where the policy's file has the path of a clarification's file.
+/// Where the policy's file has the path of a file of a clarification or an exception.
 const PATH: Span = Span { start: 10, end: 17 };
 
 /// Where it has the expression.
@@ -91,6 +92,15 @@ pub fn texts(alloc: Global, words: &str) -> Option<Texts> {
         ok!(texts.push(text));
     }
     Some(texts)
+}
+
+/// Places by their words.
+pub fn places(alloc: Global, words: &str) -> Option<Places> {
+    let mut places = Places::new(alloc);
+    for word in words.split_whitespace() {
+        ok!(places.push(number(word)));
+    }
+    Some(places)
 }
 
 /// A crate of version 1.0.0 in the folder `/w`.
@@ -196,16 +206,20 @@ fn spec(alloc: Global, word: &str) -> Option<PackageSpec> {
     })
 }
 
-/// A crate behind the number of its file, which may be left out, and what it allows.
+/// A crate behind the number of its file, which may be left out, what it allows, and behind a plus the files that it is tied
+/// to, each with the hash of one LF.
 fn exception(alloc: Global, words: &str) -> Option<ValidException> {
-    let (krate, names) = words.split_once(':').unwrap_or((words, ""));
+    let (krate, lists) = words.split_once(':').unwrap_or((words, ""));
+    let (names, paths) = lists.split_once('+').unwrap_or((lists, ""));
     let krate = krate.trim();
     let (file, krate) = krate.split_once(' ').unwrap_or(("0", krate));
     let spec = some!(spec(alloc, krate));
     let allowed = some!(licensees(alloc, names));
+    let license_files = some!(sources(alloc, paths));
     Some(ValidException {
         spec,
         allowed,
+        license_files,
         file_id: number(file),
     })
 }
@@ -267,7 +281,7 @@ fn addresses(alloc: Global) -> Option<Urls> {
     Some(addresses)
 }
 
-/// The allowed licences, and the exceptions. Private crates are passed over: those of the registries `mine` and `ours` and of
+/// The allowed licences, and the exceptions, in version 1. Private crates are passed over: those of the registries `mine` and `ours` and of
 /// the address `https://h/a`.
 pub fn policy(alloc: Global, allow: &str, excepted: &str) -> Option<ValidConfig> {
     let ignore_sources = some!(addresses(alloc));
@@ -276,6 +290,7 @@ pub fn policy(alloc: Global, allow: &str, excepted: &str) -> Option<ValidConfig>
     let exceptions = some!(exceptions(alloc, excepted));
     Some(ValidConfig {
         file_id: 0,
+        version: 1,
         private: Private {
             ignore: true,
             ignore_sources: SpannedTexts::new(alloc),
@@ -293,11 +308,12 @@ pub fn policy(alloc: Global, allow: &str, excepted: &str) -> Option<ValidConfig>
     })
 }
 
-/// The policy of a case, with its clarifications by the key `clarify`.
+/// The policy of a case, with its clarifications by the key `clarify`, and its version by the key `version`.
 pub fn policy_of(alloc: Global, case: &Case<'_>) -> Option<ValidConfig> {
     let clarifications = some!(clarifications(alloc, case.own));
     let mut policy = some!(policy(alloc, case.word("allow"), case.word("exceptions")));
     policy.clarifications = clarifications;
+    policy.version = case.word("version").parse::<i32>().unwrap_or(1);
     policy.unused_allowed_license = level(case.word("unused-allowed-license"));
     policy.unused_license_exception = level(case.word("unused-license-exception"));
     Some(policy)

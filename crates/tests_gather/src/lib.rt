@@ -33,7 +33,7 @@ struct CrateCases;
 
 /// The keys that say what is put in.
 const GIVEN: &str =
-    "file fail table metadata threshold clarify license-file clarified read list locate name field settles \
+    "file fail table metadata threshold version exceptions clarify license-file clarified read list locate name field settles \
     unlisted scanned joined-names missing plain marked package files-expr open-list line close-list \
     room";
 
@@ -44,7 +44,9 @@ impl Cases for CrateCases {
 
     fn told(&self, alloc: Global, case: &Case<'_>, key: &str, out: &mut AnswerText) -> KeyAnswer {
         let tried = match key {
-            "gathered" | "found" | "second-file" => gathering::put(alloc, case, key, out),
+            "gathered" | "counted" | "found" | "second-file" => gathering::put(
+                alloc, case, key, out,
+            ),
             "points" | "messages" | "first-file" => pointed::put(alloc, case, key, out),
             _ => return told_of_files(alloc, case, key, out),
         };

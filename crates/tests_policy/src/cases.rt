@@ -1,12 +1,13 @@
 //! Cases of policies: as they are written, and as they are loaded out of a tree in memory.
 use crate::show::{
-    put_all, put_clarified, put_config, put_findings, put_refusal, put_root, put_texts,
+    put_all, put_clarified, put_config, put_excepted, put_findings, put_printed, put_refusal,
+    put_root, put_texts,
 };
 use deny_text::PathBuf;
 use diag_core::{Files, LevelFilter};
 use diag_print::{Color, Format, LogContext};
 use policy_core::text::{ConfigError, read_config};
-use policy_core::{Config, Licensees, RootConfig, ValidConfig, ValidExceptions};
+use policy_core::{Config, RootConfig, ValidConfig};
 use policy_load::{LoadError, LoadedPolicy, PolicyPaths, load};
 use spdx_core::Table;
 use std::alloc::{AllocError, Global};
@@ -33,6 +34,7 @@ fn put_key(out: &mut AnswerText, key: &str, root: &RootConfig) {
         }
         _ => match &root.licenses {
             Some(config) if key == "licenses" => put_config(out, config),
+            Some(config) if key == "version" => write!(out, "{}", config.version),
             Some(config) => write!(out, "{}", config.confidence_threshold.0),
             None => out.put("no licences"),
         },
@@ -163,12 +165,6 @@ fn ending_of(alloc: Global, case: &Case<'_>, room: usize) -> Option<LoadEnding> 
     }
 }
 
-fn put_printed(out: &mut AnswerText, licensees: &Licensees) {
-    for licensee in licensees.items() {
-        write!(out, " {}", licensee.0.value);
-    }
-}
-
 fn put_settings(out: &mut AnswerText, valid: &ValidConfig) {
     let exceptions = valid.exceptions.items().len();
     let (dev, build) = (valid.include_dev, valid.include_build);
@@ -189,14 +185,6 @@ fn put_answer(out: &mut AnswerText, answer: &Result<LoadedPolicy, LoadError>) {
             put_settings(out, valid);
         }
         Err(error) => put_refusal(out, error),
-    }
-}
-
-fn put_excepted(out: &mut AnswerText, exceptions: &ValidExceptions) {
-    for exception in exceptions.items() {
-        write!(out, "{} in {}", exception.spec, exception.file_id);
-        put_printed(out, &exception.allowed);
-        out.put(";");
     }
 }
 
@@ -324,9 +312,10 @@ impl Cases for PolicyCases {
     fn told(&self, alloc: Global, case: &Case<'_>, key: &str, out: &mut AnswerText) -> KeyAnswer {
         match (key, case.entry("policy")) {
             ("left-out", _) => put_left_out(alloc, out),
-            ("licenses" | "faults" | "whole" | "whole-faults" | "read", Some(policy)) => {
-                put_policy(alloc, key, wanted(policy), out);
-            }
+            ("licenses" | "version" | "faults" | "whole" | "whole-faults" | "read", Some(policy)) =>
+                {
+                    put_policy(alloc, key, wanted(policy), out);
+                }
             _ => return put_load(alloc, case, key, out),
         }
         KeyAnswer::Yes

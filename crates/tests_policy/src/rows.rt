@@ -1,6 +1,8 @@
 //! Rows of the parts and entries of a policy, each a text that is one value, and of parts that are validated.
 use crate::cases::{put_policy, read_policy};
-use crate::show::{Fields, put_at, put_clarified, put_findings, put_refusal, put_spans};
+use crate::show::{
+    Fields, put_at, put_clarified, put_excepted, put_findings, put_refusal, put_spans,
+};
 use deny_text::{Span, Spanned, Text};
 use diag_core::{Diagnostic, Files, Severity};
 use policy_core::text::{ConfigError, ConfigText, ReadFault};
@@ -159,10 +161,11 @@ fn put_of_table(
     put_removed(alloc, value, out)
 }
 
-/// The table `licenses` of a policy with an expression or an address.
+/// The table `licenses` of a policy with an expression, an address, or these keys.
 fn config_of(alloc: Global, group: &str, text: &str) -> Result<Option<Config>, ConfigError> {
     let (before, behind) = match group {
         "private addresses" => ("[licenses.private]\nignore-sources = [", "]\n"),
+        "tied exceptions" => ("licenses = { ", " }\n"),
         _ => (
             "licenses.clarify = [{ name = \"a\", license-files = [], expression = ",
             " }]\n",
@@ -177,9 +180,10 @@ fn put_valid_lists(out: &mut AnswerText, valid: &ValidConfig) {
     for address in valid.ignore_sources.items() {
         write!(out, "{address};");
     }
+    put_excepted(out, &valid.exceptions);
 }
 
-/// Puts the expressions and the addresses of a policy with one of them that are valid.
+/// Puts the expressions, the addresses and the exceptions of a policy with one of them that are valid.
 fn put_valid(
     alloc: Global,
     group: &str,
@@ -319,7 +323,8 @@ impl Rows for PolicyRows {
             | "two licensees"
             | "policy's file"
             | "clarified expression"
-            | "private addresses" => put_tried(alloc, group, text, out),
+            | "private addresses"
+            | "tied exceptions" => put_tried(alloc, group, text, out),
             _ => return false,
         }
         true

@@ -3,8 +3,8 @@ use deny_text::{Span, Spanned, Texts};
 use diag_core::{Label, LabelStyle, Severity};
 use policy_core::{
     BlanketAgreement, Clarification, Config, Exception, ExceptionsFile, FileSource, FileSources,
-    GraphConfig, Licensee, LintLevel, OutputConfig, Private, RootConfig, Scope,
-    ValidClarifications,
+    GraphConfig, Licensee, Licensees, LintLevel, OutputConfig, Private, RootConfig, Scope,
+    ValidClarifications, ValidExceptions,
 };
 use policy_load::{Diagnostics, LoadError};
 use std::fmt::Display;
@@ -112,10 +112,24 @@ impl Fields for Licensee {
     }
 }
 
+/// An exception, with the files that it is tied to where it has that key.
 impl Fields for Exception {
     fn put(&self, out: &mut AnswerText) {
         write!(out, "{}:", self.spec);
         put_all(out, self.allow.items());
+        if let Some(files) = &self.license_files {
+            out.put(" files");
+            put_tied(out, files);
+        }
+    }
+}
+
+/// Puts the files that an exception is tied to, each with the place of its path.
+fn put_tied(out: &mut AnswerText, files: &FileSources) {
+    for file in files.items() {
+        out.put(" ");
+        file.put(out);
+        out.put(";");
     }
 }
 
@@ -197,6 +211,26 @@ pub fn put_clarified(out: &mut AnswerText, clarifications: &ValidClarifications)
             None => write!(out, "{}", clarification.expr_offset),
         }
         put_sources(out, &clarification.license_files);
+        out.put(";");
+    }
+}
+
+/// Puts licensees as they are printed, each behind a blank.
+pub fn put_printed(out: &mut AnswerText, licensees: &Licensees) {
+    for licensee in licensees.items() {
+        write!(out, " {}", licensee.0.value);
+    }
+}
+
+/// Puts exceptions that are valid, each with the number of its file and the files that it is tied to.
+pub fn put_excepted(out: &mut AnswerText, exceptions: &ValidExceptions) {
+    for exception in exceptions.items() {
+        write!(out, "{} in {}", exception.spec, exception.file_id);
+        put_printed(out, &exception.allowed);
+        if !exception.license_files.items().is_empty() {
+            out.put(" with");
+            put_sources(out, &exception.license_files);
+        }
         out.put(";");
     }
 }

@@ -1,5 +1,5 @@
 -- What is found by numbers is what is found by walking.
-use Rattle.std.proofs.Common.{◌≡◌, ◌⊎◌, inl, inr, ℕ, zero, suc, ◌+◌, ◌<◌, ◌==◌, eqb, Bool, true, false, IsTrue, ◌||◌, cond, List, [], ◌∷◌, ◌++◌, length, map, codes, slice_get, Option, Some, None, unwrap_or, option_map, refl, sym, ap, subst, ◌∙◌, arith, slice_index_or, Any}
+use Rattle.std.proofs.Common.{◌≡◌, ◌⊎◌, inl, inr, ℕ, zero, suc, ◌<◌, ◌==◌, eqb, Bool, true, false, IsTrue, ◌||◌, cond, List, [], ◌∷◌, ◌++◌, length, map, codes, slice_get, Some, unwrap_or, option_map, refl, sym, ap, subst, ◌∙◌, arith, slice_index_or, Any}
 use Rattle.std.specs.List.{list_any}
 use Rattle.std.specs.Option.{option_map_or}
 use Rattle.std.specs.Str.{bytes_eq}
@@ -7,7 +7,7 @@ use Rattle.std.proofs.lemmas.Bool.Decides.{nat_tests}
 use Rattle.std.proofs.lemmas.Slice.Eq.{bytes_eq-Decides}
 use Rattle.url.specs.Host.{host_text}
 use Rattle.url.specs.Parts.{Parts, nonempty_host}
-use Rattle.graph_core.specs.Krate.{has_text, SourceMatches}
+use Rattle.graph_core.specs.Krate.{has_text}
 use Rattle.graph_core.specs.source.Matching.{AddressMatches, IsAt, IsCratesIo}
 use Rattle.policy_parts.specs.spec.Index.{name_number, places_from, places_of}
 use Rattle.policy_parts.proofs.spec.IndexLemmas.{passes_at}

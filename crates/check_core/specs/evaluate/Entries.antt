@@ -1,14 +1,12 @@
 -- How many entries of a policy can allow a term: those of the term's own licence family.
-use Rattle.std.specs.Prelude.{ℕ, ◌+◌, List, [], length, slice_get, sum_by, Option, unwrap_or}
-use Rattle.std.specs.Option.{option_map_or}
+use Rattle.std.specs.Prelude.{ℕ, ◌+◌, List, [], length, slice_get, sum_by, unwrap_or}
 use Rattle.spdx_terms.specs.declared.term.ExpressionReq.{ExpressionReq}
 use Rattle.spdx_terms.specs.declared.term.Family.{Family}
 use Rattle.spdx_terms.specs.declared.term.LicenseReq.{LicenseReq}
 use Rattle.spdx_terms.specs.Terms.{family_of}
 use Rattle.spdx_terms.specs.families.Places.{places_in}
-use Rattle.graph_core.specs.Krate.{CrateRecord}
 pub use Rattle.policy_core.specs.valid.Indexes.{families_in, granted_families}
-use Rattle.policy_core.specs.valid.Policy.{Grant, Policy, first_exception, granted_licensees}
+use Rattle.policy_core.specs.valid.Policy.{Grant, Policy, granted_licensees}
 
 -- ---- families
 
@@ -34,23 +32,16 @@ places_for licensees term = places_in (family_of term) (families_in licensees)
 abbrev pub entries_in : List LicenseReq → LicenseReq → ℕ
 entries_in licensees term = length (places_for licensees term)
 
--- those of the exception at a place, if there is one
-abbrev pub granted_entries : List Grant → Option ℕ → LicenseReq → ℕ
-granted_entries exceptions exception term =
-    option_map_or (λ place. entries_in (granted_licensees exceptions place) term) exception 0
+-- those of the exceptions at some places
+abbrev pub granted_entries : List Grant → List ℕ → LicenseReq → ℕ
+granted_entries exceptions counted term =
+    sum_by (λ place. entries_in (granted_licensees exceptions place) term) counted
 
--- those of an exception and of what is allowed together
-abbrev pub entries_by : Policy → Option ℕ → LicenseReq → ℕ
-entries_by policy exception term = granted_entries policy.exceptions exception term + entries_in policy.allowed term
+-- How many entries are asked at most for a term of a crate: those of the term's family in each exception that counts
+-- for the crate, and in what is allowed.
+abbrev pub entries_of : Policy → List ℕ → LicenseReq → ℕ
+entries_of policy counted term = granted_entries policy.exceptions counted term + entries_in policy.allowed term
 
--- How many entries are asked at most for a term of a crate: those of the term's family in the first exception that
--- matches the crate, and in what is allowed.
-abbrev pub entries_of : Policy → CrateRecord → LicenseReq → ℕ
-entries_of policy krate term = entries_by policy (first_exception policy krate) term
-
--- those of all terms of an expression, where it is known which exception is the first that matches
-abbrev pub entries_by_terms : Policy → Option ℕ → List ExpressionReq → ℕ
-entries_by_terms policy exception terms = sum_by (λ term. entries_by policy exception term.req) terms
-
-abbrev pub entries_of_terms : Policy → CrateRecord → List ExpressionReq → ℕ
-entries_of_terms policy krate terms = entries_by_terms policy (first_exception policy krate) terms
+-- those of all terms of an expression
+abbrev pub entries_of_terms : Policy → List ℕ → List ExpressionReq → ℕ
+entries_of_terms policy counted terms = sum_by (λ term. entries_of policy counted term.req) terms

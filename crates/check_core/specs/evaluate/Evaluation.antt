@@ -2,28 +2,24 @@
 use Rattle.std.specs.Prelude.{ℕ, Bool, List, map, Option}
 use Rattle.spdx_terms.specs.declared.term.ExpressionReq.{ExpressionReq}
 use Rattle.spdx_core.specs.Grammar.{ExpressionTree}
-use Rattle.graph_core.specs.Krate.{CrateRecord}
 use Rattle.spdx_core.specs.declared.certificates.verdict.Hit.{Hit}
 use Rattle.spdx_core.specs.certificates.Certificates.{has_hit}
 use Rattle.spdx_core.specs.certificates.Choices.{is_accepted}
-pub use Rattle.policy_core.specs.valid.Indexes.{exception_numbers}
 use Rattle.policy_core.specs.valid.Policy.{Policy, hit_of}
 use Rattle.check_core.specs.evaluate.Entries.{EntryFamilies}
 
--- the hit of each term, or none, in text order
-abbrev pub term_hits : Policy → CrateRecord → List ExpressionReq → List (Option Hit)
-term_hits policy krate terms = map (λ term. hit_of policy krate term.req) terms
+-- the hit of each term, or none, in text order, by the places of the exceptions that count for the crate
+abbrev pub term_hits : Policy → List ℕ → List ExpressionReq → List (Option Hit)
+term_hits policy counted terms = map (λ term. hit_of policy counted term.req) terms
 
 -- some choice of the tree has a hit at each of its places
-abbrev pub is_allowed : Policy → CrateRecord → List ExpressionReq → ExpressionTree → Bool
-is_allowed policy krate terms tree = is_accepted (has_hit (term_hits policy krate terms)) tree
+abbrev pub is_allowed : Policy → List ℕ → List ExpressionReq → ExpressionTree → Bool
+is_allowed policy counted terms tree = is_accepted (has_hit (term_hits policy counted terms)) tree
 
--- An evaluator: for how many nodes it has room, the numbers of the exceptions that it was made for, place by place, the
--- families of the entries that it was made for, list by list, the hits that it keeps, and how many hits and answers the
--- memory of its two lists holds.
+-- An evaluator: for how many nodes it has room, the families of the entries that it was made for, list by list, the
+-- hits that it keeps, and how many hits and answers the memory of its two lists holds.
 pub record Evaluation : Type 0 where
   pub nodes : ℕ
-  pub numbers : List ℕ
   pub families : EntryFamilies
   pub hits : List (Option Hit)
   pub hits_room : ℕ

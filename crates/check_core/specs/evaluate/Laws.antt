@@ -3,7 +3,6 @@ use Rattle.std.specs.Prelude.{ℕ, IsTrue, List, [], ◌∷◌, ◌++◌, insert
 use Rattle.spdx_terms.specs.declared.term.ExpressionReq.{ExpressionReq}
 use Rattle.spdx_terms.specs.declared.term.LicenseReq.{LicenseReq}
 use Rattle.spdx_core.specs.Grammar.{ExpressionTree}
-use Rattle.graph_core.specs.Krate.{CrateRecord}
 use Rattle.policy_core.specs.valid.Policy.{Grant, Policy}
 use Rattle.check_core.specs.evaluate.Evaluation.{is_allowed}
 
@@ -29,12 +28,14 @@ with_exception policy grant = record {
 
 abbrev pub MoreAllowedNeverReject : Type 0
 MoreAllowedNeverReject =
-    (policy : Policy) (krate : CrateRecord) (terms : List ExpressionReq) (tree : ExpressionTree) (place : ℕ)
+    (policy : Policy) (counted : List ℕ) (terms : List ExpressionReq) (tree : ExpressionTree) (place : ℕ)
     (licensee : LicenseReq)
-    → IsTrue (is_allowed policy krate terms tree)
-    → IsTrue (is_allowed (with_allowed policy place licensee) krate terms tree)
+    → IsTrue (is_allowed policy counted terms tree)
+    → IsTrue (is_allowed (with_allowed policy place licensee) counted terms tree)
 
+-- the exceptions that counted count as before, and others may count behind them
 abbrev pub MoreExceptionsNeverReject : Type 0
 MoreExceptionsNeverReject =
-    (policy : Policy) (krate : CrateRecord) (terms : List ExpressionReq) (tree : ExpressionTree) (grant : Grant)
-    → IsTrue (is_allowed policy krate terms tree) → IsTrue (is_allowed (with_exception policy grant) krate terms tree)
+    (policy : Policy) (counted more : List ℕ) (terms : List ExpressionReq) (tree : ExpressionTree) (grant : Grant)
+    → IsTrue (is_allowed policy counted terms tree)
+    → IsTrue (is_allowed (with_exception policy grant) (counted ++ more) terms tree)

@@ -1,6 +1,6 @@
 -- The numbers by which it is found whether a policy passes over a crate.
-use Rattle.std.specs.Prelude.{◌≡◌, ℕ, Bool, true, false, List, [], map, Option, Some, None, unwrap_or, option_map}
-use Rattle.std.specs.Prelude.{slice_get, Any}
+use Rattle.std.specs.Prelude.{ℕ, Bool, true, false, List, [], map, Option, Some, None, unwrap_or, option_map}
+use Rattle.std.specs.Prelude.{slice_get}
 use Rattle.std.specs.Option.{option_map_or}
 use Rattle.std.specs.Str.{bytes_eq}
 use Rattle.url.specs.Host.{host_text}

@@ -38,12 +38,14 @@ abbrev exception : ℕ → ℕ → ℕ → List Licensee → ValidException
 exception file start end licensees = record {
   spec = record { name = codes "a"; span = from_to start end; requirement = None };
   allowed = licensees;
+  license_files = [];
   file_id = file;
 }
 
 abbrev policy : LintLevel → LintLevel → List Licensee → List ValidException → ValidConfig
 policy licenses grants licensees exceptions = record {
   file_id = 0;
+  version = pos 1;
   private = record { ignore = false; ignore_sources = []; registries = [] };
   unused_allowed_license = licenses;
   unused_license_exception = grants;

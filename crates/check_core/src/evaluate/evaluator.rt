@@ -1,21 +1,18 @@
 //! Evaluators.
 //! Called by `crate_check`; both lists may have more room than `nodes`, which the invariant bounds below.
 ghost use Rattle.std.specs.Prelude.{◌≡◌, ◌+◌, ◌≤◌, [], map, length, IfOk};
-ghost use Rattle.graph_core.specs.Krate.{record_of};
 ghost use Rattle.spdx_core.specs.Reading.{postfix};
 ghost use Rattle.spdx_core.specs.certificates.Certificates.{CertificateAnswers};
-ghost use Rattle.policy_parts.specs.spec.Index.{spec_numbers};
 ghost use Rattle.policy_core.specs.valid.View.{policy_of};
 ghost use Rattle.check_core.specs.evaluate.Entries.{entries_of_terms, entry_families};
-ghost use Rattle.check_core.specs.evaluate.Evaluation.{term_hits, is_allowed, exception_numbers};
+ghost use Rattle.check_core.specs.evaluate.Evaluation.{term_hits, is_allowed};
 
 use crate::evaluate::answers::is_accepted;
 use crate::evaluate::entry_index::EntryIndex;
 use crate::evaluate::hits::keep_hits;
 use deny_text::Steps;
-use graph_core::Krate;
 use policy_core::valid::CountedPolicy;
-use policy_parts::spec::SpecIndex;
+use policy_parts::spec::Places;
 use spdx_core::Expression;
 use spdx_core::certificates::{Hit, Verdict};
 use std::alloc::{AllocError, Global};
@@ -27,7 +24,6 @@ use std::sync::ledger::Ledger;
 #[derive(Drop)]
 pub struct Evaluator {
     nodes: usize,
-    exceptions: SpecIndex,
     index: EntryIndex,
     kept: Vec<Option<Hit>>,
     answers: Vec<bool>,
@@ -41,7 +37,6 @@ impl Model for Evaluator {
 
     ghost view = { λ e. record {
       nodes = e.nodes;
-      numbers = e.exceptions;
       families = e.index;
       hits = e.kept.items;
       hits_room = vec_capacity e.kept;
@@ -60,53 +55,49 @@ impl Evaluator {
     ) -> Result<Evaluator, AllocError>
         ensures { let policy = policy_of policy.now in IfOk result (λ e. e ≡ record {
           nodes = nodes;
-          numbers = exception_numbers policy;
           families = entry_families policy;
           hits = [];
           hits_room = e.hits_room;
           answers_room = e.answers_room;
         }) }
     {
-        let exceptions = policy.exception_index(alloc)?;
         let index = EntryIndex::of(alloc, policy)?;
         let kept = Vec::with_capacity(alloc, nodes)?;
         let answers = Vec::with_capacity(alloc, nodes)?;
         Ok(Evaluator {
             nodes,
-            exceptions,
             index,
             kept,
             answers,
         })
     }
 
-    /// Whether a policy allows a crate to have an expression. It keeps what allows each term, also of those
-    /// that no choice needs, and takes no memory. A step is counted for each licensee that is asked: of the
-    /// crate's exception and of those that are allowed, at most the ones of the term's family.
+    /// Whether a policy allows a crate to have an expression, where the exceptions at some places count for the
+    /// crate. It keeps what allows each term, also of those that no choice needs, and takes no memory. A step is
+    /// counted for each licensee that is asked: of those exceptions and of those that are allowed, at most the
+    /// ones of the term's family.
     pub fn evaluate<L: Ledger>(
         &mut self,
         expression: &Expression,
-        krate: &Krate,
+        exceptions: &Places,
         policy: &CountedPolicy<'_, L>,
         steps: &mut Steps<L>,
     ) -> bool
         requires room { length (postfix expression.now.tree) ≤ self.old.nodes }
-        requires exceptions { exception_numbers (policy_of policy.now) ≡ self.old.numbers }
         requires families { entry_families (policy_of policy.now) ≡ self.old.families }
         ensures answer { let policy = policy_of policy.now in
-            result ≡ is_allowed policy (record_of krate.now) expression.now.terms expression.now.tree }
+            result ≡ is_allowed policy exceptions.now expression.now.terms expression.now.tree }
         ensures evaluator { let policy = policy_of policy.now in
-            self.new ≡ record self.old { hits = term_hits policy (record_of krate.now) expression.now.terms } }
+            self.new ≡ record self.old { hits = term_hits policy exceptions.now expression.now.terms } }
         ensures steps { steps.old ≤ steps.new }
         ensures bound { let policy = policy_of policy.now in
-            steps.new ≤ steps.old + entries_of_terms policy (record_of krate.now) expression.now.terms }
+            steps.new ≤ steps.old + entries_of_terms policy exceptions.now expression.now.terms }
     {
-        let exception = policy.first_exception(&self.exceptions, krate);
         keep_hits(
             &mut self.kept,
             policy,
             &self.index,
-            exception,
+            exceptions,
             expression.requirements(),
             steps,
         );

@@ -1,16 +1,18 @@
 //! What allows the terms of an expression.
 //! Called by `evaluate` and `check_verify`; fewer entries may be asked, as steps have an upper bound alone.
-ghost use Rattle.std.specs.Prelude.{◌≡◌, ◌+◌, ◌≤◌, map, length, Some, option_map, vec_capacity};
+ghost use Rattle.std.specs.Prelude.{◌≡◌, ◌+◌, ◌≤◌, map, length, option_map, vec_capacity};
 ghost use Rattle.spdx_core.specs.declared.certificates.verdict.Hit.TheVariants.{Allowed};
 ghost use Rattle.policy_core.specs.valid.Policy as spec;
 ghost use Rattle.policy_core.specs.valid.View.{req_of, grant_of, policy_of};
-ghost use Rattle.check_core.specs.evaluate.Entries.{entries_by, entries_by_terms, entries_in, entry_families};
+ghost use Rattle.check_core.specs.evaluate.Entries.{entries_in, entries_of, entries_of_terms, entry_families};
 ghost use Rattle.check_core.specs.evaluate.Entries.{families_in, granted_entries, granted_families, places_for};
+ghost use Rattle.check_core.specs.evaluate.Evaluation.{term_hits};
 
 use crate::evaluate::entry_index::EntryIndex;
 use crate::evaluate::room::put;
 use deny_text::Steps;
 use policy_core::valid::{CountedLicensees, CountedPolicy};
+use policy_parts::spec::Places;
 use spdx_core::certificates::Hit;
 use spdx_core::{ExpressionReq, LicenseReq};
 use std::sync::ledger::Ledger;
@@ -37,7 +39,7 @@ fn first_entry<L: Ledger>(
 }
 
 /// The hit of a term by the exception at a place. It asks the entries of the term's family alone.
-fn granted_hit<L: Ledger>(
+fn exception_hit<L: Ledger>(
     policy: &CountedPolicy<'_, L>,
     index: &EntryIndex,
     exception: usize,
@@ -45,7 +47,7 @@ fn granted_hit<L: Ledger>(
     steps: &mut Steps<L>,
 ) -> Option<Hit>
     requires { granted_families (map grant_of policy.now.exceptions) ≡ index.now.granted }
-    ensures hit { result ≡ spec.exception_hit (map grant_of policy.now.exceptions) (Some exception) term.now }
+    ensures hit { result ≡ spec.exception_hit (map grant_of policy.now.exceptions) exception term.now }
     ensures steps { steps.old ≤ steps.new }
     ensures bound { steps.new
         ≤ steps.old + entries_in (spec.granted_licensees (map grant_of policy.now.exceptions) exception) term.now }
@@ -56,24 +58,26 @@ fn granted_hit<L: Ledger>(
     Some(Hit::Exception { exception, entry })
 }
 
-/// The hit of a term by the exception at a place, if there is one.
-fn exception_hit<L: Ledger>(
+/// The hit of a term by the first of some exceptions that has one. It asks them in order, and none behind that.
+fn granted_hit<L: Ledger>(
     policy: &CountedPolicy<'_, L>,
     index: &EntryIndex,
-    exception: Option<usize>,
+    exceptions: &[usize],
     term: &LicenseReq,
     steps: &mut Steps<L>,
 ) -> Option<Hit>
     requires { granted_families (map grant_of policy.now.exceptions) ≡ index.now.granted }
-    ensures hit { result ≡ spec.exception_hit (map grant_of policy.now.exceptions) exception term.now }
+    ensures hit { result ≡ spec.granted_hit (map grant_of policy.now.exceptions) exceptions.now term.now }
     ensures steps { steps.old ≤ steps.new }
     ensures bound { steps.new
-        ≤ steps.old + granted_entries (map grant_of policy.now.exceptions) exception term.now }
+        ≤ steps.old + granted_entries (map grant_of policy.now.exceptions) exceptions.now term.now }
 {
-    match exception {
-        Some(exception) => granted_hit(policy, index, exception, term, steps),
-        None => None,
+    'exceptions: for exception in exceptions {
+        if let Some(hit) = exception_hit(policy, index, *exception, term, steps) {
+            return Some(hit);
+        }
     }
+    None
 }
 
 /// The hit of a term by what is allowed. It asks the entries of the term's family alone.
@@ -95,21 +99,21 @@ fn allowed_hit<L: Ledger>(
     Some(Hit::Allowed(entry))
 }
 
-/// What allows a term, where `exception` is the place of the first exception that matches the crate. It takes
-/// a step for each licensee that it asks.
+/// What allows a term, where the exceptions at some places count for the crate. It takes a step for each licensee
+/// that it asks.
 pub fn hit_by<L: Ledger>(
     policy: &CountedPolicy<'_, L>,
     index: &EntryIndex,
-    exception: Option<usize>,
+    exceptions: &Places,
     term: &LicenseReq,
     steps: &mut Steps<L>,
 ) -> Option<Hit>
     requires { entry_families (policy_of policy.now) ≡ index.now }
-    ensures hit { result ≡ spec.hit_by (policy_of policy.now) exception term.now }
+    ensures hit { result ≡ spec.hit_of (policy_of policy.now) exceptions.now term.now }
     ensures steps { steps.old ≤ steps.new }
-    ensures bound { steps.new ≤ steps.old + entries_by (policy_of policy.now) exception term.now }
+    ensures bound { steps.new ≤ steps.old + entries_of (policy_of policy.now) exceptions.now term.now }
 {
-    match exception_hit(policy, index, exception, term, steps) {
+    match granted_hit(policy, index, exceptions.items(), term, steps) {
         Some(hit) => Some(hit),
         None => allowed_hit(policy, index, term, steps),
     }
@@ -120,21 +124,20 @@ pub fn keep_hits<L: Ledger>(
     kept: &mut Vec<Option<Hit>>,
     policy: &CountedPolicy<'_, L>,
     index: &EntryIndex,
-    exception: Option<usize>,
+    exceptions: &Places,
     terms: &[ExpressionReq],
     steps: &mut Steps<L>,
 )
     requires room { length terms.now ≤ vec_capacity kept.old }
     requires families { entry_families (policy_of policy.now) ≡ index.now }
-    ensures kept { kept.new.items
-        ≡ map (λ term. spec.hit_by (policy_of policy.now) exception term.req) terms.now }
+    ensures kept { kept.new.items ≡ term_hits (policy_of policy.now) exceptions.now terms.now }
     ensures room { vec_capacity kept.new ≡ vec_capacity kept.old }
     ensures steps { steps.old ≤ steps.new }
-    ensures bound { steps.new ≤ steps.old + entries_by_terms (policy_of policy.now) exception terms.now }
+    ensures bound { steps.new ≤ steps.old + entries_of_terms (policy_of policy.now) exceptions.now terms.now }
 {
     kept.clear();
     'terms: for term in terms {
-        let hit = hit_by(policy, index, exception, &term.req, steps);
+        let hit = hit_by(policy, index, exceptions, &term.req, steps);
         put(kept, hit);
     }
 }

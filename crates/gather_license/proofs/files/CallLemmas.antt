@@ -3,6 +3,7 @@ use Rattle.std.proofs.Common.{◌≡◌, ℕ, Bool, true, false, ◌&&◌, ◌||
 use Rattle.std.specs.List.{cons_option, fold, list_any}
 use Rattle.std.specs.Option.{option_map, option_to_list}
 use Rattle.std.proofs.lemmas.List.{map-append}
+use Rattle.std.proofs.lemmas.List.Elements.{filter_map-append}
 use Rattle.std.proofs.lemmas.List.Sums.{fold-append}
 use Rattle.deny_text.specs.Path.{components_of, join_of}
 use Rattle.tree_core.specs.Call as call
@@ -21,8 +22,8 @@ use Rattle.gather_license.specs.files.KnownReads.{FolderReads, known_reads_by}
 use Rattle.gather_license.specs.files.Pack.{license_files_in, same_path}
 use Rattle.gather_license.specs.files.Steps.{Agrees, BeginsPack, file_record, records_by, with_file, with_path}
 use Rattle.gather_license.specs.files.Told.{file_state}
-use Rattle.gather_license.specs.files.View.{PackView, file_at, normal_heard, paths_read}
-use Rattle.gather_license.proofs.files.PackLemmas.{file_at-insert, from_cond, none_told, paths_read-push, records-with_file, stays-with_file}
+use Rattle.gather_license.specs.files.View.{PackView, file_at, normal_heard, path_read, paths_read}
+use Rattle.gather_license.proofs.files.PackLemmas.{file_at-insert, from_cond, none_told, paths_read-push, record_heard, records-with_file, stays-with_file}
 use Rattle.gather_license.proofs.files.PathLemmas.{parts_of_same}
 
 -- ---- prefixes
@@ -79,7 +80,9 @@ takes_none pack = record {
   listing = refl;
   stays = λ path heard is. is;
   adds = sym (append-nil pack.reads);
+  of_files = λ known_reads agrees. refl;
   records = λ known_reads agrees is. is;
+  agreeing = λ earlier same agrees. subst (λ reads. Agrees (known_reads_by reads) pack) (sym (append-nil earlier)) agrees;
   made_of = λ earlier is. subst (λ reads. IsMadeOf reads pack) (sym (append-nil earlier)) is;
 }
 
@@ -90,6 +93,20 @@ agrees_before reads old new known_reads takes agrees = record {
   files = λ path heard is. agrees.files path heard (takes.stays path heard is);
 }
 
+-- the licence files of reads behind others
+pub paths_read-append : (front back : List ReadRecord) → paths_read (front ++ back) ≡ paths_read front ++ paths_read back
+paths_read-append front back = filter_map-append path_read front back
+
+files_joined : (known_reads : FolderReads) (reads more : List AnsweredRead) → records_of_reads reads ≡ map (file_record known_reads) (paths_read (records_of_reads reads))
+    → records_of_reads more ≡ map (file_record known_reads) (paths_read (records_of_reads more))
+    → records_of_reads (reads ++ more) ≡ map (file_record known_reads) (paths_read (records_of_reads (reads ++ more)))
+files_joined known_reads reads more first then =
+    records_in-append reads more
+    ∙ ap₂ (λ (front back : List ReadRecord). front ++ back) first then
+    ∙ sym (map-append (file_record known_reads) (paths_read (records_of_reads reads)) (paths_read (records_of_reads more)))
+    ∙ ap (map (file_record known_reads)) (sym (paths_read-append (records_of_reads reads) (records_of_reads more)))
+    ∙ ap (λ (those : List ReadRecord). map (file_record known_reads) (paths_read those)) (sym (records_in-append reads more))
+
 pub takes_then : (reads more : List AnsweredRead) (old mid new : PackView) → TakesIn reads old mid → TakesIn more mid new → TakesIn (reads ++ more) old new
 takes_then reads more old mid new first then = record {
   folder = then.folder ∙ first.folder;
@@ -98,7 +115,15 @@ takes_then reads more old mid new first then = record {
   adds =
       then.adds ∙ ap (λ those. those ++ records_of_reads more) first.adds ∙ append_assoc old.reads (records_of_reads reads) (records_of_reads more)
       ∙ ap (λ those. old.reads ++ those) (sym (records_in-append reads more));
+  of_files = λ known_reads agrees. files_joined known_reads reads more (first.of_files known_reads (agrees_before more mid new known_reads then agrees)) (then.of_files known_reads agrees);
   records = λ known_reads agrees is. then.records known_reads agrees (first.records known_reads (agrees_before more mid new known_reads then agrees) is);
+  agreeing = λ earlier same agrees.
+      subst (λ those. Agrees (known_reads_by those) new) (append_assoc earlier reads more)
+      (then.agreeing (earlier ++ reads)
+      (ap paths_read (records_in-append earlier reads) ∙ paths_read-append (records_of_reads earlier) (records_of_reads reads)
+      ∙ ap (λ paths. paths ++ paths_read (records_of_reads reads)) same
+      ∙ sym (paths_read-append old.reads (records_of_reads reads)) ∙ ap paths_read (sym first.adds))
+      (first.agreeing earlier same agrees));
   made_of = λ earlier is. subst (λ those. IsMadeOf those new) (append_assoc earlier reads more) (then.made_of (earlier ++ reads) (first.made_of earlier is));
 }
 
@@ -111,25 +136,32 @@ takes_file pack path heard answer before after none unread hears = record {
   listing = refl;
   stays = stays-with_file pack path heard none;
   adds = refl;
+  of_files = λ known_reads agrees. ap (λ (read : ReadRecord). read ∷ []) (record_heard pack path heard none known_reads agrees);
   records = records-with_file pack path heard none;
-  made_of = λ earlier is.
-      let last : AnsweredRead = read_with LicenseFile path heard answer in
-      record {
-        records = ap (λ reads. reads ++ read_record_of LicenseFile path heard ∷ []) is.records ∙ sym (records_in-append earlier (last ∷ []));
-        agrees = record {
-          listing = first_heard-skip (λ read. is_kind Listing read.kind) earlier last refl ∙ is.agrees.listing;
-          files = λ at found there.
-              from_cond (λ found. normal_heard (first_heard (is_read LicenseFile (components_of at)) (earlier ++ last ∷ [])) ≡ found)
-              (same_path at path) (normal_heard heard) (file_at pack.files at) found
-              (λ same. ap normal_heard (none_read at earlier
-              (ap (λ parts. list_any (λ other. same_parts parts (components_of other)) (paths_read (records_of_reads earlier))) (parts_of_same at path same)
-              ∙ ap (λ reads. list_any (same_path path) (paths_read reads)) (sym is.records) ∙ unread) last same
-              ∙ heard_recorded LicenseFile path before after answer heard hears))
-              (λ differs was. ap normal_heard (first_heard-skip (is_read LicenseFile (components_of at)) earlier last differs) ∙ is.agrees.files at found was)
-              (sym (file_at-insert pack.files path (normal_heard heard) at none) ∙ there);
-        };
-      };
+  agreeing = agreeing;
+  made_of = λ earlier is. record {
+    records = ap (λ reads. reads ++ read_record_of LicenseFile path heard ∷ []) is.records ∙ sym (records_in-append earlier (last ∷ []));
+    agrees = agreeing earlier (ap paths_read (sym is.records)) is.agrees;
+  };
 }
+  where
+    last : AnsweredRead
+    last = read_with LicenseFile path heard answer
+
+    agreeing : (earlier : List AnsweredRead) → paths_read (records_of_reads earlier) ≡ paths_read pack.reads → Agrees (known_reads_by earlier) pack
+        → Agrees (known_reads_by (earlier ++ last ∷ [])) (with_file pack path heard)
+    agreeing earlier alike agrees = record {
+      listing = first_heard-skip (λ read. is_kind Listing read.kind) earlier last refl ∙ agrees.listing;
+      files = λ at found there.
+          from_cond (λ found. normal_heard (first_heard (is_read LicenseFile (components_of at)) (earlier ++ last ∷ [])) ≡ found)
+          (same_path at path) (normal_heard heard) (file_at pack.files at) found
+          (λ same. ap normal_heard (none_read at earlier
+          (ap (λ parts. list_any (λ other. same_parts parts (components_of other)) (paths_read (records_of_reads earlier))) (parts_of_same at path same)
+          ∙ ap (λ paths. list_any (same_path path) paths) alike ∙ unread) last same
+          ∙ heard_recorded LicenseFile path before after answer heard hears))
+          (λ differs was. ap normal_heard (first_heard-skip (is_read LicenseFile (components_of at)) earlier last differs) ∙ agrees.files at found was)
+          (sym (file_at-insert pack.files path (normal_heard heard) at none) ∙ there);
+    }
 
 -- ---- over a tree
 
@@ -315,7 +347,7 @@ starves_listing folder license_file called some = record {
 
 -- ---- from the files that are wanted to the records
 
-map_option : {A B : Type 0} (f : A → B) (o : Option A) → map f (option_to_list o) ≡ option_to_list (option_map f o)
+pub map_option : {A B : Type 0} (f : A → B) (o : Option A) → map f (option_to_list o) ≡ option_to_list (option_map f o)
 map_option f None = refl
 map_option f (Some x) = refl
 
@@ -331,7 +363,7 @@ front_records known_reads folder paths next all front = (
 )
 
 -- the call that found no memory is that of its path, whatever its record tells
-same_lost : (folder : List ℕ) (known_reads : FolderReads) (next : Option (List ℕ)) → call_lost folder (option_map unread_file next) ≡ call_lost folder (option_map (file_record known_reads) next)
+pub same_lost : (folder : List ℕ) (known_reads : FolderReads) (next : Option (List ℕ)) → call_lost folder (option_map unread_file next) ≡ call_lost folder (option_map (file_record known_reads) next)
 same_lost folder known_reads None = refl
 same_lost folder known_reads (Some path) = refl
 
@@ -361,6 +393,15 @@ starves_among {told} {mid} {tells} {before} {middle} {after} {old} {between} {ne
           (front_records known_reads folder paths starves.next (wider known_reads)
           (front_then (paths ++ option_to_list starves.next) (wanted known_reads) (wider known_reads) (starves.front known_reads all.agrees) (wide known_reads at_first)));
     }
+
+-- memory was wanting before any call
+pub starves_unasked : (told : Option Content) (count : ℕ) (calls : List Call) (folder : List ℕ) (wanted : FolderReads → List ReadRecord) → StarvesAmong told told count count calls calls folder wanted
+starves_unasked told count calls folder wanted = record {
+  reads = [];
+  next = None;
+  made = lacked_behind folder [] (no_reads told count calls folder);
+  front = (wanted (known_reads_by []), refl);
+}
 
 -- ---- memory was wanting behind a pack
 

@@ -22,7 +22,7 @@ use Rattle.tree_core.specs.file_reads.Views.{heard_bad, heard_file}
 use Rattle.gather_license.specs.files.KnownReads.{FolderReads, has_hash, is_absent, matches, missing_from, holds, looked_of}
 use Rattle.gather_license.specs.files.NamedFile.{NamedFileView}
 use Rattle.gather_license.specs.files.Pack.{same_path, paths_with, in_path_order}
-use Rattle.gather_license.specs.files.Steps.{Agrees, file_record, records_by, with_file, with_path}
+use Rattle.gather_license.specs.files.Steps.{Agrees, file_record, records_by, unread_pack, with_file, with_path}
 use Rattle.gather_license.specs.files.Told.{tells_absent, tells_hash, file_state}
 use Rattle.gather_license.specs.declared.files.told.FileState.{FileState}
 use Rattle.gather_license.specs.files.View.{PackView, KeepsReadFiles, file_at, kept_files, normal_heard, path_read, paths_of, paths_read, unlisted_of}
@@ -143,16 +143,21 @@ stays-with_file pack path heard none at found is =
     (λ same. let gone : file_at pack.files at ≡ None = file_at-parts pack.files at path (parts_of_same at path same) ∙ none in cc)
     (λ differs. ap (λ b. cond b (Some (normal_heard heard)) (file_at pack.files at)) differs ∙ is)
 
-pub records-with_file : (pack : PackView) (path : List ℕ) (heard : ReadResult) → file_at pack.files path ≡ None
-    → (known_reads : FolderReads) → Agrees known_reads (with_file pack path heard) → pack.reads ≡ records_by known_reads pack.folder (paths_read pack.reads)
-    → (with_file pack path heard).reads ≡ records_by known_reads pack.folder (paths_read (with_file pack path heard).reads)
-records-with_file pack path heard none known_reads agrees old =
+-- the record of the further file is that by any known reads that agree with the pack then
+pub record_heard : (pack : PackView) (path : List ℕ) (heard : ReadResult) → file_at pack.files path ≡ None
+    → (known_reads : FolderReads) → Agrees known_reads (with_file pack path heard) → read_record_of LicenseFile path heard ≡ file_record known_reads path
+record_heard pack path heard none known_reads agrees =
     let here : file_at (with_file pack path heard).files path ≡ Some (normal_heard heard) =
     file_at-insert pack.files path (normal_heard heard) path none ∙ ap (λ b. cond b (Some (normal_heard heard)) (file_at pack.files path)) (same_itself path) in
     let answer : read_answer_of heard ≡ read_answer_of (known_reads.file (components_of path)) =
     sym (sym (answer_of-normal (known_reads.file (components_of path))) ∙ ap read_answer_of (agrees.files path (normal_heard heard) here) ∙ answer_of-normal heard) in
-    let one : read_record_of LicenseFile path heard ≡ file_record known_reads path =
-    ap (λ (a : ReadAnswer). let r : ReadRecord = record { path = path; kind = LicenseFile; answer = a } in r) answer in
+    ap (λ (a : ReadAnswer). let r : ReadRecord = record { path = path; kind = LicenseFile; answer = a } in r) answer
+
+pub records-with_file : (pack : PackView) (path : List ℕ) (heard : ReadResult) → file_at pack.files path ≡ None
+    → (known_reads : FolderReads) → Agrees known_reads (with_file pack path heard) → pack.reads ≡ records_by known_reads pack.folder (paths_read pack.reads)
+    → (with_file pack path heard).reads ≡ records_by known_reads pack.folder (paths_read (with_file pack path heard).reads)
+records-with_file pack path heard none known_reads agrees old =
+    let one : read_record_of LicenseFile path heard ≡ file_record known_reads path = record_heard pack path heard none known_reads agrees in
     ap (λ reads. reads ++ read_record_of LicenseFile path heard ∷ []) old
     ∙ ap (λ read. records_by known_reads pack.folder (paths_read pack.reads) ++ read ∷ []) one
     ∙ ap (λ rest. read_record_of Listing pack.folder known_reads.listing ∷ rest) (sym (map-push (file_record known_reads) (paths_read pack.reads) path))
@@ -167,6 +172,9 @@ same_pack {f} {g} {l} {m} {xs} {ys} {rs} {qs} folder listing files reads =
     ∙ ap (λ (a : ReadResult). let p : PackView = record { folder = g; listing = a; files = xs; reads = rs } in p) listing
     ∙ ap (λ (a : List (List ℕ × ReadResult)). let p : PackView = record { folder = g; listing = m; files = a; reads = rs } in p) files
     ∙ ap (λ (a : List ReadRecord). let p : PackView = record { folder = g; listing = m; files = ys; reads = a } in p) reads
+
+pub kept_unread : (folder : List ℕ) → KeepsReadFiles (unread_pack folder)
+kept_unread folder = record { paths = refl }
 
 pub kept_of_listing : (folder : List ℕ) (heard : ReadResult) → KeepsReadFiles (record { folder = folder; listing = heard; files = []; reads = read_record_of Listing folder heard ∷ [] })
 kept_of_listing folder heard = record { paths = refl }

@@ -1,5 +1,5 @@
 -- Paths of the same parts, and lists of paths.
-use Rattle.std.proofs.Common.{◌≡◌, ℕ, Bool, true, false, not, ◌||◌, cond, List, [], ◌∷◌, ◌++◌, refl, sym, ap, ◌∙◌, append-nil, append_assoc}
+use Rattle.std.proofs.Common.{◌≡◌, ℕ, Bool, true, false, not, ◌||◌, cond, filter, List, [], ◌∷◌, ◌++◌, refl, sym, ap, ◌∙◌, append-nil, append_assoc}
 use Rattle.std.specs.List.{fold, list_any}
 use Rattle.std.specs.Ordering.{ordering_then, is_eq, is_lt, nat_cmp}
 use Rattle.std.specs.declared.cmp.Ordering.{Ordering}
@@ -148,3 +148,72 @@ from_done done (path ∷ rest) =
 
 pub look_ups_keep_first_spellings : LookUpsKeepFirstSpellings
 look_ups_keep_first_spellings paths = from_done [] paths
+
+-- ---- paths that are looked up behind others
+
+-- the paths that have the parts of none of these
+abbrev pub apart_from : List (List ℕ) → List (List ℕ) → List (List ℕ)
+apart_from read paths = filter (λ path. not (list_any (same_path path) read)) paths
+
+-- a path that was there goes away with those of the same parts
+apart_known : (read : List (List ℕ)) (x : List ℕ) (paths : List (List ℕ)) → list_any (same_path x) read ≡ true → apart_from read (without_path x paths) ≡ apart_from read paths
+apart_known read x [] there = refl
+apart_known read x (path ∷ paths) there =
+    by_same (same_path x path)
+    (λ same.
+    ap (λ b. apart_from read (cond (not b) (path ∷ without_path x paths) (without_path x paths))) same
+    ∙ apart_known read x paths there
+    ∙ sym (ap (λ b. cond (not b) (path ∷ apart_from read paths) (apart_from read paths)) (known_too same)))
+    (λ differs.
+    ap (λ b. apart_from read (cond (not b) (path ∷ without_path x paths) (without_path x paths))) differs
+    ∙ ap (λ more. cond (not (list_any (same_path path) read)) (path ∷ more) more) (apart_known read x paths there))
+  where
+    known_too : same_path x path ≡ true → list_any (same_path path) read ≡ true
+    known_too same = ap (λ parts. list_any (λ other. is_eq (slice_cmp part_cmp parts (components_of other))) read) (sym (parts_of_same x path same)) ∙ there
+
+any-push : (y : List ℕ) (read : List (List ℕ)) (x : List ℕ) → list_any (same_path y) (read ++ x ∷ []) ≡ (same_path x y || list_any (same_path y) read)
+any-push y [] x = ap (λ b. b || false) (symmetric y x)
+any-push y (one ∷ read) x =
+    ap (λ b. same_path y one || b) (any-push y read x) ∙ three (same_path y one) (same_path x y) (list_any (same_path y) read)
+  where
+    three : (a b c : Bool) → (a || (b || c)) ≡ (b || (a || c))
+    three true true c = refl
+    three true false c = refl
+    three false true c = refl
+    three false false c = refl
+
+-- one more path that was read takes away those of its parts
+apart_more : (read : List (List ℕ)) (x : List ℕ) (paths : List (List ℕ)) → apart_from (read ++ x ∷ []) paths ≡ apart_from read (without_path x paths)
+apart_more read x [] = refl
+apart_more read x (path ∷ paths) =
+    ap (λ b. cond (not b) (path ∷ apart_from (read ++ x ∷ []) paths) (apart_from (read ++ x ∷ []) paths)) (any-push path read x)
+    ∙ ap (λ more. cond (not (same_path x path || list_any (same_path path) read)) (path ∷ more) more) (apart_more read x paths)
+    ∙ either (same_path x path)
+  where
+    rest : List (List ℕ)
+    rest = without_path x paths
+
+    known : Bool
+    known = list_any (same_path path) read
+
+    either : (b : Bool) → cond (not (b || known)) (path ∷ apart_from read rest) (apart_from read rest) ≡ apart_from read (cond (not b) (path ∷ rest) rest)
+    either true = refl
+    either false = refl
+
+-- what is looked up onto some paths is these, and then the first spelling of each other one, in order
+pub looks_behind : (read paths : List (List ℕ)) → fold with_path read paths ≡ read ++ apart_from read (first_spellings paths)
+looks_behind read [] = sym (append-nil read)
+looks_behind read (path ∷ paths) =
+    by_same (list_any (same_path path) read)
+    (λ there.
+    ap (λ b. fold with_path (cond b read (read ++ path ∷ [])) paths) there
+    ∙ looks_behind read paths
+    ∙ ap (λ more. read ++ more)
+    (sym (ap (λ b. cond (not b) (path ∷ apart_from read (without_path path (first_spellings paths))) (apart_from read (without_path path (first_spellings paths)))) there
+    ∙ apart_known read path (first_spellings paths) there)))
+    (λ new.
+    ap (λ b. fold with_path (cond b read (read ++ path ∷ [])) paths) new
+    ∙ looks_behind (read ++ path ∷ []) paths
+    ∙ append_assoc read (path ∷ []) (apart_from (read ++ path ∷ []) (first_spellings paths))
+    ∙ ap (λ more. read ++ path ∷ more) (apart_more read path (first_spellings paths))
+    ∙ sym (ap (λ b. read ++ cond (not b) (path ∷ apart_from read (without_path path (first_spellings paths))) (apart_from read (without_path path (first_spellings paths)))) new))

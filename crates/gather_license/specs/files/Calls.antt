@@ -1,6 +1,6 @@
 -- Over any tree, whatever it tells of its content: the calls that the steps of making a pack make, and what their
 -- answers let be read.
-use Rattle.std.specs.Prelude.{◌≡◌, ℕ, List, [], ◌++◌, Option, Some}
+use Rattle.std.specs.Prelude.{◌≡◌, ℕ, List, [], ◌++◌, map, Option, Some}
 use Rattle.std.specs.List.{fold}
 use Rattle.std.specs.Option.{option_map, option_to_list}
 use Rattle.tree_core.specs.Call.{Call}
@@ -11,7 +11,7 @@ use Rattle.tree_core.specs.file_reads.Heard.{ReadResult, absent, read_record_of}
 use Rattle.tree_core.specs.file_reads.Read.{LackedMemory, MadeReads, AnsweredRead, records_of_reads}
 use Rattle.gather_license.specs.files.KnownReads.{FolderReads, known_reads_by}
 use Rattle.gather_license.specs.files.Pack.{license_files_in}
-use Rattle.gather_license.specs.files.Steps.{Agrees, records_by, with_path}
+use Rattle.gather_license.specs.files.Steps.{Agrees, file_record, records_by, with_path}
 use Rattle.gather_license.specs.files.View.{PackView, file_at, paths_read}
 
 -- a pack is made of these reads: its records are theirs, and what it has is what their answers say
@@ -20,16 +20,21 @@ pub record IsMadeOf (reads : List AnsweredRead) (pack : PackView) : Type 0 where
   pub agrees : Agrees (known_reads_by reads) pack
 
 -- These reads went into a pack: what it had stays, their records come behind its own, there is one of each file that
--- came, and a pack that was made of some reads is then made of those and these.
+-- came, and a pack that was made of some reads is then made of those and these. Where earlier reads of the same files
+-- say what the pack had, those and these say what it has.
 pub record TakesIn (reads : List AnsweredRead) (old new : PackView) : Type 0 where
   pub folder : new.folder ≡ old.folder
   pub listing : new.listing ≡ old.listing
   pub stays : (path : List ℕ) (heard : ReadResult) → file_at old.files path ≡ Some heard
       → file_at new.files path ≡ Some heard
   pub adds : new.reads ≡ old.reads ++ records_of_reads reads
+  pub of_files : (known_reads : FolderReads) → Agrees known_reads new
+      → records_of_reads reads ≡ map (file_record known_reads) (paths_read (records_of_reads reads))
   pub records : (known_reads : FolderReads) → Agrees known_reads new
       → old.reads ≡ records_by known_reads old.folder (paths_read old.reads)
       → new.reads ≡ records_by known_reads new.folder (paths_read new.reads)
+  pub agreeing : (earlier : List AnsweredRead) → paths_read (records_of_reads earlier) ≡ paths_read old.reads
+      → Agrees (known_reads_by earlier) old → Agrees (known_reads_by (earlier ++ reads)) new
   pub made_of : (earlier : List AnsweredRead) → IsMadeOf earlier old → IsMadeOf (earlier ++ reads) new
 
 -- a pack went on over a tree by some reads, and no other call was made

@@ -5,7 +5,7 @@ use Rattle.std.specs.BTreeMap.{insert_entry}
 use Rattle.deny_text.specs.Path.{components_of, path_order}
 use Rattle.tree_core.specs.declared.reads.ReadKind.TheVariants.{Listing, LicenseFile}
 use Rattle.tree_core.specs.declared.reads.ReadRecord.{ReadRecord}
-use Rattle.tree_core.specs.file_reads.Heard.{ReadResult, read_record_of}
+use Rattle.tree_core.specs.file_reads.Heard.{ReadResult, absent, read_record_of}
 use Rattle.gather_license.specs.files.KnownReads.{FolderReads}
 use Rattle.gather_license.specs.files.Pack.{first_spellings, license_files_in, same_path}
 use Rattle.gather_license.specs.files.View.{PackView, file_at, normal_heard, paths_read}
@@ -36,6 +36,10 @@ with_file pack path heard = record {
   files = insert_entry path_order pack.files path (normal_heard heard);
   reads = pack.reads ++ read_record_of LicenseFile path heard ∷ [];
 }
+
+-- the pack of a folder that was not listed, and of which no file was read
+abbrev pub unread_pack : List ℕ → PackView
+unread_pack folder = record { folder = folder; listing = absent; files = []; reads = [] }
 
 -- A pack was begun: the folder was listed, and what is found was read.
 pub record BeginsPack (folder : List ℕ) (license_file : Option (List ℕ)) (pack : PackView) : Type 0 where

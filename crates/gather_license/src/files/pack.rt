@@ -1,6 +1,6 @@
 //! The pack of a crate.
 ghost use Rattle.std.specs.Prelude.{◌≡◌, List, [], ◌∷◌, IfOk, OnErr, true, false, is_some, None, Some, map};
-ghost use Rattle.std.specs.Prelude.{if◌then◌else◌, option_copied};
+ghost use Rattle.std.specs.Prelude.{if◌then◌else◌, length, option_copied};
 ghost use Rattle.deny_text.specs.Path.{components_of};
 ghost use Rattle.std.specs.List.{fold, list_any};
 ghost use Rattle.std.specs.Iterator.{YieldsFirstBy, item_count};
@@ -13,7 +13,7 @@ ghost use Rattle.gather_license.specs.files.Calls.{GoesBy, IsMadeBy, IsMadeOf, S
 ghost use Rattle.gather_license.specs.files.KnownReads as spec;
 ghost use Rattle.gather_license.specs.files.KnownReads.{FolderReads, known_reads_by, looked_of, missing_from};
 ghost use Rattle.gather_license.specs.files.Pack.{in_path_order, same_path};
-ghost use Rattle.gather_license.specs.files.Steps.{Agrees, BeginsPack, with_file, with_path};
+ghost use Rattle.gather_license.specs.files.Steps.{Agrees, BeginsPack, unread_pack, with_file, with_path};
 ghost use Rattle.gather_license.specs.files.Told.{file_state};
 ghost use Rattle.gather_license.specs.files.View.{file_at, normal_heard, paths_of, paths_read, unlisted_of};
 
@@ -130,6 +130,20 @@ impl LicensePack {
         Ok(LicensePack {
             folder,
             listing,
+            files: BTreeMap::new(alloc),
+            reads,
+        })
+    }
+
+    /// The pack of a folder that is not listed, and of which no file is read yet.
+    pub fn unread(alloc: Global, folder: &str) -> Result<LicensePack, AllocError>
+        ensures { IfOk result (λ pack. pack ≡ unread_pack folder.now) }
+    {
+        let reads = Reads::new(alloc);
+        let folder = PathBuf::copy(alloc, folder)?;
+        Ok(LicensePack {
+            folder,
+            listing: Err(BadRead::Absent),
             files: BTreeMap::new(alloc),
             reads,
         })
@@ -342,6 +356,14 @@ impl LicensePack {
         LicensePackIter {
             held: self.files.iter(),
         }
+    }
+
+    /// How many reads were made for it.
+    pub fn reads_made(&self) -> usize
+        ensures number { result ≡ length self.now.reads }
+        ensures sorted { paths_of self.now.files ≡ in_path_order (paths_read self.now.reads) }
+    {
+        self.reads.items().len()
     }
 
     /// The records of the reads in the order of the calls.

@@ -17,14 +17,14 @@ use Rattle.toml_value.specs.Taken.{string_of}
 use Rattle.policy_toml.specs.Readings.{list_of}
 use Rattle.policy_toml.specs.rows.Rows.{in_table, required_value, shaped_by}
 use Rattle.policy_parts.specs.Values.{file_source_of}
-use Rattle.policy_core.specs.place_laws.Places.{StaysIn, KeepsPlacesIn, keeps_each}
+use Rattle.policy_core.specs.place_laws.Places.{StaysIn, KeepsPlacesIn, keeps_each, keeps_where}
 use Rattle.policy_core.specs.place_laws.Parts.{file_source_keeps}
-use Rattle.policy_core.proofs.place_laws.PlaceLemmas.{KeepsInTable, map_stays, then_stays, list_stays, table_stays, needed_stays, rows_stay}
+use Rattle.policy_core.proofs.place_laws.PlaceLemmas.{KeepsInTable, map_stays, then_stays, list_stays, table_stays, needed_stays, given_kept, key_tells, rows_stay}
 use Rattle.policy_core.proofs.place_laws.PartLemmas.{file_source_stays}
 use Rattle.policy_parts.specs.spec.Reading.{spec_of, rest_of_spec}
 use Rattle.policy_parts.specs.spec.Spec.{Spec}
 use Rattle.policy_parts.specs.entries.Clarifications.{written_of, clarified_at, clarification_of}
-use Rattle.policy_parts.specs.entries.Exceptions.{allowed_at, exception_of, exceptions_of, exceptions_file_at, exceptions_file_of}
+use Rattle.policy_parts.specs.entries.Exceptions.{exception_rows, excepted_in, allowed_at, exception_of, exceptions_of, exceptions_file_at, exceptions_file_of}
 use Rattle.policy_parts.specs.entries.Licensees.{named_mode, span_from, place_in, licensee_by, part_in, licensee_in, licensee_of, licensees_of}
 use Rattle.policy_parts.specs.entries.WithSpec.{with_spec}
 use Rattle.policy_parts.specs.declared.entries.exception.Exception.{Exception}
@@ -48,8 +48,9 @@ ShapedBy {A} shape = A
 abbrev Allowed : CatalogLists → Type 0
 Allowed lists = ShapedBy (allowed_at lists)
 
-abbrev allowed_keeps : (lists : CatalogLists) → List ℕ → Allowed lists → Type 0
-allowed_keeps lists text keys = keeps_each licensee_keeps text keys.allow
+record AllowedKeeps (lists : CatalogLists) (text : List ℕ) (keys : Allowed lists) : Type 0 where
+  allow : keeps_each licensee_keeps text keys.allow
+  files : keeps_where (keeps_each file_source_keeps) text keys.license_files
 
 abbrev WrittenText : Type 0
 WrittenText = ReadBy written_of
@@ -108,20 +109,28 @@ module _ (text : List ℕ) (utf8 : IsUtf8 text) where
       (table_stays text keeps shape law (rest_of_spec value) (left_stands text value placed)))
       (spec_stays text utf8 value placed)
 
+  -- ---- files
+
+  files_stay : KeepsPlacesIn text (keeps_each file_source_keeps) (list_of file_source_of)
+  files_stay = list_stays text file_source_keeps file_source_of (file_source_stays text)
+
   -- ---- exceptions
 
   module _ (fits : length text < 2 ^ 64) (lists : CatalogLists) (laws : IsCatalog lists) where
-    allowed_stays : KeepsInTable text (allowed_keeps lists) (allowed_at lists)
+    allowed_stays : KeepsInTable text (AllowedKeeps lists) (allowed_at lists)
     allowed_stays entries span lies placed =
-        then_stays text (keeps_each licensee_keeps) (allowed_keeps lists) (λ (allow : List Licensee). shaped_by (codes "allow" ∷ []) [] (λ _. record { allow = allow }) entries span)
+        then_stays text (keeps_each licensee_keeps) (AllowedKeeps lists) (λ (allow : List Licensee). shaped_by (codes "allow" ∷ []) exception_rows (excepted_in allow) entries span)
         (required_value (codes "allow") (licensees_of lists) entries span)
-        (λ allow kept. rows_stay text (allowed_keeps lists) (codes "allow" ∷ []) [] (λ _. record { allow = allow }) tt entries span lies placed kept)
+        (λ allow kept. rows_stay text (AllowedKeeps lists) (codes "allow" ∷ []) exception_rows (excepted_in allow)
+        (key_tells text (keeps_each file_source_keeps) (codes "license-files") (list_of file_source_of) files_stay, tt) entries span lies placed
+        (record { allow = kept; files = given_kept text (keeps_each file_source_keeps) (codes "license-files") (list_of file_source_of) files_stay entries placed }))
         (needed_stays text (keeps_each licensee_keeps) (codes "allow") (licensees_of lists) (licensees_stay fits lists laws) entries span lies placed)
 
     pub exception_stays : KeepsPlacesIn text ExceptionKeeps (exception_of lists)
     exception_stays value placed =
-        map_stays text (keeps_both (allowed_keeps lists)) ExceptionKeeps (λ (read : Spec × Allowed lists). record { spec = read.0; allow = read.1.allow }) (with_spec (allowed_at lists) value)
-        (λ read kept. record { spec = kept.0; allow = kept.1 }) (with_spec_stays (allowed_keeps lists) (allowed_at lists) allowed_stays value placed)
+        map_stays text (keeps_both (AllowedKeeps lists)) ExceptionKeeps
+        (λ (read : Spec × Allowed lists). record { spec = read.0; allow = read.1.allow; license_files = read.1.license_files }) (with_spec (allowed_at lists) value)
+        (λ read kept. record { spec = kept.0; allow = kept.1.allow; files = kept.1.files }) (with_spec_stays (AllowedKeeps lists) (allowed_at lists) allowed_stays value placed)
 
     pub exceptions_stay : KeepsPlacesIn text (keeps_each ExceptionKeeps) (exceptions_of lists)
     exceptions_stay = list_stays text ExceptionKeeps (exception_of lists) exception_stays
@@ -145,9 +154,6 @@ module _ (text : List ℕ) (utf8 : IsUtf8 text) where
       (λ (string : WrittenString). record { text = record { value = string.text; span = value.span }; escapes = string.escaped })
       (string_of (codes "a string") value) (λ string spelled. record { expression = placed.0; spelled = spelled })
       (spelled_string text (codes "a string") value placed)
-
-  files_stay : KeepsPlacesIn text (keeps_each file_source_keeps) (list_of file_source_of)
-  files_stay = list_stays text file_source_keeps file_source_of (file_source_stays text)
 
   clarified_stays : KeepsInTable text ClarifiedKeeps clarified_at
   clarified_stays entries span lies placed =

@@ -40,6 +40,14 @@ held_more judge items item judged before after is added so_far =
     ∙ ap (λ j. kept_by judge items ++ option_to_list (result_ok j)) is
     ∙ sym (kept_more judge items item)
 
+-- what is reported of items so far, and of one more that may tell nothing
+pub filtered_more : {A B : Type 0} (f : A → Option B) (items : List A) (item : A) (first before after : List B)
+    → after ≡ before ++ option_to_list (f item) → before ≡ first ++ filter_map f items → after ≡ first ++ filter_map f (items ++ item ∷ [])
+filtered_more f items item first before after added so_far =
+    added ∙ ap (λ b. b ++ option_to_list (f item)) so_far
+    ∙ append_assoc first (filter_map f items) (option_to_list (f item))
+    ∙ ap (λ t. first ++ t) (sym (filter_map_more f items item))
+
 -- what is reported of items so far, and of one more
 pub mapped_more : {A B : Type 0} (f : A → B) (items : List A) (item : A) (first before after : List B)
     → after ≡ before ++ f item ∷ [] → before ≡ first ++ map f items → after ≡ first ++ map f (items ++ item ∷ [])
@@ -54,3 +62,12 @@ zipped_append R [] [] more others one other = other
 zipped_append R [] (y ∷ ys) more others one other = absurd one
 zipped_append R (x ∷ xs) [] more others one other = absurd one
 zipped_append R (x ∷ xs) (y ∷ ys) more others one other = (one.0, zipped_append R xs ys more others one.1 other)
+
+-- four lists of findings, one behind another
+joined : (first a b c d : List Diagnostic) → ((((first ++ a) ++ b) ++ c) ++ d) ≡ first ++ (((a ++ b) ++ c) ++ d)
+joined first a b c d = simp append_assoc refl
+
+pub all_told : (first a b c d one two three four : List Diagnostic) → one ≡ first ++ a → two ≡ one ++ b → three ≡ two ++ c → four ≡ three ++ d
+    → four ≡ first ++ (((a ++ b) ++ c) ++ d)
+all_told first a b c d one two three four told more further last =
+    last ∙ ap (λ x. x ++ d) (further ∙ ap (λ x. x ++ c) (more ∙ ap (λ x. x ++ b) told)) ∙ joined first a b c d

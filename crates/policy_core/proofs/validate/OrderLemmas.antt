@@ -7,8 +7,9 @@ use Rattle.std.specs.declared.cmp.Ordering.{Ordering}
 use Rattle.std.specs.Cmp.{IsTotalOrder, IsStrictWeakOrder}
 use Rattle.std.proofs.lemmas.List.Sorted.{ranks_by, sorted_far}
 use Rattle.policy_core.specs.validate.Laws.{OneOrder, OnePolicy}
-use Rattle.policy_core.specs.validate.Order.{by_path, by_printed, PutsFilesInOrder}
+use Rattle.policy_core.specs.validate.Order.{by_path, by_printed, PutsExceptionInOrder, PutsFilesInOrder}
 use Rattle.policy_core.specs.declared.valid.policy.ValidClarification.{ValidClarification}
+use Rattle.policy_core.specs.declared.valid.policy.ValidException.{ValidException}
 use Rattle.deny_text.specs.Path.{path_order_total}
 use Rattle.spdx_terms.specs.Licensee.{printed_order_total}
 use Rattle.policy_parts.specs.declared.file_source.FileSource.{FileSource}
@@ -103,21 +104,32 @@ clarification_one written one other puts_one puts_other =
     (files_one written.license_files one.license_files other.license_files puts_one.files puts_other.files)
     ∙ sym puts_other.rest
 
-clarifications_one : (written one other : List ValidClarification) → AllZip PutsFilesInOrder written one → AllZip PutsFilesInOrder written other → one ≡ other
-clarifications_one [] [] [] puts_one puts_other = refl
-clarifications_one [] [] (y ∷ ys) puts_one puts_other = absurd puts_other
-clarifications_one [] (x ∷ xs) other puts_one puts_other = absurd puts_one
-clarifications_one (w ∷ ws) [] other puts_one puts_other = absurd puts_one
-clarifications_one (w ∷ ws) (x ∷ xs) [] puts_one puts_other = absurd puts_other
-clarifications_one (w ∷ ws) (x ∷ xs) (y ∷ ys) puts_one puts_other =
-    ap (λ h. h ∷ xs) (clarification_one w x y puts_one.0 puts_other.0)
-    ∙ ap (λ t. y ∷ t) (clarifications_one ws xs ys puts_one.1 puts_other.1)
+exception_one : (written one other : ValidException) → PutsExceptionInOrder written one → PutsExceptionInOrder written other → one ≡ other
+exception_one written one other puts_one puts_other =
+    puts_one.rest
+    ∙ ap (λ files. record written { license_files = files })
+    (files_one written.license_files one.license_files other.license_files puts_one.files puts_other.files)
+    ∙ sym puts_other.rest
+
+-- each of a list in its one way
+each_one : {A B : Type 0} (R : A → B → Type 0) → ((written : A) (one other : B) → R written one → R written other → one ≡ other)
+    → (written : List A) (one other : List B) → AllZip R written one → AllZip R written other → one ≡ other
+each_one R law [] [] [] puts_one puts_other = refl
+each_one R law [] [] (y ∷ ys) puts_one puts_other = absurd puts_other
+each_one R law [] (x ∷ xs) other puts_one puts_other = absurd puts_one
+each_one R law (w ∷ ws) [] other puts_one puts_other = absurd puts_one
+each_one R law (w ∷ ws) (x ∷ xs) [] puts_one puts_other = absurd puts_other
+each_one R law (w ∷ ws) (x ∷ xs) (y ∷ ys) puts_one puts_other =
+    ap (λ h. h ∷ xs) (law w x y puts_one.0 puts_other.0)
+    ∙ ap (λ t. y ∷ t) (each_one R law ws xs ys puts_one.1 puts_other.1)
 
 pub policies_one : OnePolicy
 policies_one written one other puts_one puts_other =
     puts_one.rest
-    ∙ ap (λ allowed. record written { allowed = allowed; clarifications = one.clarifications })
+    ∙ ap (λ allowed. record written { allowed = allowed; clarifications = one.clarifications; exceptions = one.exceptions })
     (licensees_one written.allowed one.allowed other.allowed puts_one.allowed puts_other.allowed)
-    ∙ ap (λ clarifications. record written { allowed = other.allowed; clarifications = clarifications })
-    (clarifications_one written.clarifications one.clarifications other.clarifications puts_one.clarifications puts_other.clarifications)
+    ∙ ap (λ clarifications. record written { allowed = other.allowed; clarifications = clarifications; exceptions = one.exceptions })
+    (each_one PutsFilesInOrder clarification_one written.clarifications one.clarifications other.clarifications puts_one.clarifications puts_other.clarifications)
+    ∙ ap (λ exceptions. record written { allowed = other.allowed; clarifications = other.clarifications; exceptions = exceptions })
+    (each_one PutsExceptionInOrder exception_one written.exceptions one.exceptions other.exceptions puts_one.exceptions puts_other.exceptions)
     ∙ sym puts_other.rest

@@ -52,6 +52,7 @@ usual_threshold = record { 0 = pos 80 }
 -- what an empty table stands for
 abbrev pub no_config : Config
 no_config = record {
+  version = pos 1;
   private = no_private;
   confidence_threshold = usual_threshold;
   allow = [];
@@ -66,6 +67,7 @@ no_config = record {
 
 abbrev pub config_in : CatalogLists → Entries → Config
 config_in lists entries = record {
+  version = unwrap_or (optional_value (codes "version") i32_of entries) (pos 1);
   private = unwrap_or (optional_value (codes "private") private_of entries) no_private;
   confidence_threshold =
       unwrap_or (optional_value (codes "confidence-threshold") hundredths_of entries) usual_threshold;

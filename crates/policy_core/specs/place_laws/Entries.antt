@@ -9,7 +9,7 @@ use Rattle.policy_parts.specs.declared.entries.clarification.Clarification.{Clar
 use Rattle.policy_parts.specs.declared.entries.exception.Exception.{Exception}
 use Rattle.policy_parts.specs.declared.entries.exception.ExceptionsFile.{ExceptionsFile}
 use Rattle.policy_parts.specs.declared.entries.licensee.Licensee.{Licensee}
-use Rattle.policy_core.specs.place_laws.Places.{KeepsPlacesIn, keeps_its_span, keeps_each}
+use Rattle.policy_core.specs.place_laws.Places.{KeepsPlacesIn, keeps_its_span, keeps_each, keeps_where}
 use Rattle.policy_core.specs.place_laws.Parts.{file_source_keeps}
 
 -- Places are kept in each text of characters whose bytes a number of 64 bits counts.
@@ -25,6 +25,7 @@ licensee_keeps text licensee = keeps_its_span text licensee.0
 pub record ExceptionKeeps (text : List ℕ) (exception : Exception) : Type 0 where
   pub spec : spec_keeps text exception.spec
   pub allow : keeps_each licensee_keeps text exception.allow
+  pub files : keeps_where (keeps_each file_source_keeps) text exception.license_files
 
 abbrev pub exceptions_file_keeps : List ℕ → ExceptionsFile → Type 0
 exceptions_file_keeps text file = keeps_each ExceptionKeeps text file.exceptions

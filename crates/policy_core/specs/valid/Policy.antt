@@ -1,6 +1,5 @@
 -- What a valid policy says of a crate and of a term.
-use Rattle.std.specs.Prelude.{◌⊎◌, ℕ, Bool, true, IsTrue, List, [], map, Option, slice_get, Any, option_map}
-use Rattle.std.specs.Prelude.{option_and_then}
+use Rattle.std.specs.Prelude.{◌⊎◌, ℕ, Bool, true, IsTrue, List, [], ◌∷◌, map, Option, None, slice_get, Any, option_map}
 use Rattle.std.specs.Option.{option_or, option_map_or}
 use Rattle.url.specs.Parts.{Parts}
 use Rattle.graph_core.specs.Krate as crates
@@ -42,7 +41,7 @@ pub record IsPrivate (policy : Policy) (krate : CrateRecord) : Type 0 where
 abbrev pub first_place : {A : Type 0} → (A → Bool) → List A → Option ℕ
 first_place test items = first_of (places_from 0 test items)
 
--- the first exception whose spec matches a crate; no other one is asked
+-- the first exception whose spec matches a crate
 abbrev pub first_exception : Policy → CrateRecord → Option ℕ
 first_exception policy krate = first_of (matching_places (map (λ grant. grant.spec) policy.exceptions) krate)
 
@@ -50,22 +49,23 @@ first_exception policy krate = first_of (matching_places (map (λ grant. grant.s
 abbrev pub first_entry : List LicenseReq → LicenseReq → Option ℕ
 first_entry licensees term = first_place (λ licensee. satisfies licensee term) licensees
 
--- the licensees of the exception at a place
+-- the licensees of the exception at a place; behind the end of the list there are none
 abbrev pub granted_licensees : List Grant → ℕ → List LicenseReq
 granted_licensees exceptions place = option_map_or (λ grant. grant.allowed) (slice_get exceptions place) []
 
--- the hit of a term by the exception at a place, if there is one
-abbrev pub exception_hit : List Grant → Option ℕ → LicenseReq → Option Hit
-exception_hit exceptions exception term =
-    option_and_then
-    (λ place. option_map (Exception place) (first_entry (granted_licensees exceptions place) term)) exception
+-- the hit of a term by the exception at a place
+abbrev pub exception_hit : List Grant → ℕ → LicenseReq → Option Hit
+exception_hit exceptions place term =
+    option_map (Exception place) (first_entry (granted_licensees exceptions place) term)
 
--- the hit of a term, where it is known which exception is the first that matches
-abbrev pub hit_by : Policy → Option ℕ → LicenseReq → Option Hit
-hit_by policy exception term =
-    option_or (exception_hit policy.exceptions exception term) (option_map Allowed (first_entry policy.allowed term))
+-- the hit of a term by the exceptions at some places: by the first of them, in this order, that has one
+abbrev pub granted_hit : List Grant → List ℕ → LicenseReq → Option Hit
+granted_hit exceptions [] term = None
+granted_hit exceptions (place ∷ places) term =
+    option_or (exception_hit exceptions place term) (granted_hit exceptions places term)
 
--- The hit of a term of a crate's expression: the first licensee of the first exception that matches the crate which
--- satisfies the term, or else the first allowed one that does.
-abbrev pub hit_of : Policy → CrateRecord → LicenseReq → Option Hit
-hit_of policy krate term = hit_by policy (first_exception policy krate) term
+-- The hit of a term of a crate's expression, by the places of the exceptions that count for the crate: the first
+-- licensee that satisfies the term, exception by exception in the order of the places, or else the first allowed one.
+abbrev pub hit_of : Policy → List ℕ → LicenseReq → Option Hit
+hit_of policy counted term =
+    option_or (granted_hit policy.exceptions counted term) (option_map Allowed (first_entry policy.allowed term))

@@ -1,4 +1,5 @@
--- Rows of policies, terms of a crate named `a`, and what allows each, worked out by hand from the rules.
+-- Rows of policies, the exceptions that count for a crate, terms of its expression, and what allows each, worked out by
+-- hand from the rules.
 use Rattle.std.specs.Prelude.{ℕ, false, true, Bool, List, [], ◌∷◌, codes, Option, Some, None}
 use Rattle.graph_core.specs.Krate.{CrateRecord}
 use Rattle.spdx_terms.specs.declared.term.LicenseItem.TheVariants.{Spdx, Reference}
@@ -73,32 +74,63 @@ policy licensees grants =
 
 pub record HitRow : Type 0 where
   pub policy : Policy
+  pub counted : List ℕ
   pub term : LicenseReq
   pub hit : Option Hit
 
 -- what the definition makes of a row
 abbrev pub computed_row : HitRow → HitRow
-computed_row row = record { policy = row.policy; term = row.term; hit = hit_of row.policy crate_a row.term }
+computed_row row = record {
+  policy = row.policy;
+  counted = row.counted;
+  term = row.term;
+  hit = hit_of row.policy row.counted row.term;
+}
 
+-- by the exceptions at some places
+abbrev row_by : List ℕ → List LicenseReq → List Grant → LicenseReq → Option Hit → HitRow
+row_by counted licensees grants term hit =
+    record { policy = policy licensees grants; counted = counted; term = term; hit = hit }
+
+-- of a crate for which no exception counts
 abbrev row : List LicenseReq → List Grant → LicenseReq → Option Hit → HitRow
-row licensees grants term hit = record { policy = policy licensees grants; term = term; hit = hit }
+row licensees grants term hit = row_by [] licensees grants term hit
+
+-- two exceptions of one crate: the first allows Zlib and then ISC, the second ISC alone
+abbrev two_grants : List Grant
+two_grants = grant (codes "a") (zlib ∷ isc ∷ []) ∷ grant (codes "a") (isc ∷ []) ∷ []
 
 abbrev pub rows : List HitRow
 rows =
     -- allowed, by its place in the list
-    row (mit ∷ zlib ∷ []) (grant (codes "a") (isc ∷ []) ∷ []) mit (Some (Allowed 0))
-    ∷ row (mit ∷ zlib ∷ []) (grant (codes "a") (isc ∷ []) ∷ []) zlib (Some (Allowed 1))
-    ∷ row (mit ∷ zlib ∷ []) (grant (codes "a") (isc ∷ []) ∷ []) x11 None
-    -- the exception of the crate comes first, by the place of its entry
-    ∷ row (mit ∷ zlib ∷ []) (grant (codes "a") (isc ∷ []) ∷ []) isc (Some (Exception 0 0))
-    ∷ row (mit ∷ zlib ∷ []) (grant (codes "a") (mit ∷ []) ∷ []) mit (Some (Exception 0 0))
-    ∷ row (mit ∷ []) (grant (codes "b") (isc ∷ []) ∷ grant (codes "a") (zlib ∷ isc ∷ isc ∷ []) ∷ []) isc
+    row_by (0 ∷ []) (mit ∷ zlib ∷ []) (grant (codes "a") (isc ∷ []) ∷ []) mit (Some (Allowed 0))
+    ∷ row_by (0 ∷ []) (mit ∷ zlib ∷ []) (grant (codes "a") (isc ∷ []) ∷ []) zlib (Some (Allowed 1))
+    ∷ row_by (0 ∷ []) (mit ∷ zlib ∷ []) (grant (codes "a") (isc ∷ []) ∷ []) x11 None
+    -- an exception that counts comes first, by the place of its entry
+    ∷ row_by (0 ∷ []) (mit ∷ zlib ∷ []) (grant (codes "a") (isc ∷ []) ∷ []) isc (Some (Exception 0 0))
+    ∷ row_by (0 ∷ []) (mit ∷ zlib ∷ []) (grant (codes "a") (mit ∷ []) ∷ []) mit (Some (Exception 0 0))
+    ∷ row_by (1 ∷ []) (mit ∷ []) (grant (codes "b") (isc ∷ []) ∷ grant (codes "a") (zlib ∷ isc ∷ isc ∷ []) ∷ []) isc
     (Some (Exception 1 1))
-    -- that of another crate is none
-    ∷ row (mit ∷ []) (grant (codes "ab") (isc ∷ []) ∷ []) isc None
-    -- a second exception of the crate is not asked, also where the first has an empty list
-    ∷ row (mit ∷ []) (grant (codes "a") [] ∷ grant (codes "a") (isc ∷ []) ∷ []) isc None
-    ∷ row (mit ∷ []) (grant (codes "a") [] ∷ grant (codes "a") (isc ∷ []) ∷ []) mit (Some (Allowed 0))
+    -- one that does not count is none
+    ∷ row [] two_grants isc None
+    ∷ row (isc ∷ []) two_grants isc (Some (Allowed 0))
+    ∷ row_by (1 ∷ []) [] two_grants zlib None
+    -- of two that count the second alone satisfies, and the first is asked before it
+    ∷ row_by (0 ∷ 1 ∷ []) [] (grant (codes "a") (mit ∷ []) ∷ grant (codes "a") (isc ∷ []) ∷ []) isc
+    (Some (Exception 1 0))
+    ∷ row_by (0 ∷ 1 ∷ []) [] two_grants isc (Some (Exception 0 1))
+    ∷ row_by (0 ∷ 1 ∷ []) (mit ∷ []) two_grants mit (Some (Allowed 0))
+    ∷ row_by (0 ∷ 1 ∷ []) (zlib ∷ []) two_grants x11 None
+    -- an empty exception has no hit; alone it leaves what is allowed, and before another it does not hide that
+    ∷ row_by (0 ∷ []) (mit ∷ []) (grant (codes "a") [] ∷ grant (codes "a") (isc ∷ []) ∷ []) isc None
+    ∷ row_by (0 ∷ []) (mit ∷ []) (grant (codes "a") [] ∷ grant (codes "a") (isc ∷ []) ∷ []) mit (Some (Allowed 0))
+    ∷ row_by (0 ∷ 1 ∷ []) (isc ∷ []) (grant (codes "a") [] ∷ grant (codes "a") (isc ∷ []) ∷ []) isc
+    (Some (Exception 1 0))
+    -- the order is that of the places that count, whatever the list's
+    ∷ row_by (1 ∷ 0 ∷ []) [] two_grants isc (Some (Exception 1 0))
+    -- a place behind the end of the list grants nothing
+    ∷ row_by (2 ∷ []) (mit ∷ []) two_grants isc None
+    ∷ row_by (2 ∷ 1 ∷ []) (isc ∷ []) two_grants isc (Some (Exception 1 0))
     -- of two that satisfy the first in sorted order, whatever the policy wrote first
     ∷ row (gpl2_or_later ∷ gpl3_only ∷ []) [] gpl2_or_later (Some (Allowed 0))
     -- a later version satisfies a term that takes it; a licensee that takes later ones wants a term that does

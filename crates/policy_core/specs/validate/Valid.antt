@@ -1,6 +1,6 @@
 -- What of a policy that has its shape is valid, and what is found wrong with the rest.
-use Rattle.std.specs.Prelude.{ℕ, false, if◌then◌else◌, List, [], ◌∷◌, ◌++◌, map, codes, Option, Some, None, Result, Ok}
-use Rattle.std.specs.Prelude.{Err}
+use Rattle.std.specs.Prelude.{ℕ, ℤ, false, not, ◌&&◌, if◌then◌else◌, List, [], ◌∷◌, ◌++◌, map, codes}
+use Rattle.std.specs.Prelude.{Option, Some, None, is_some, unwrap_or, Result, Ok, Err}
 use Rattle.std.specs.List.{filter_map}
 use Rattle.std.specs.Result.{result_ok, result_err}
 use Rattle.spdx_terms.specs.catalog.Catalog.{CatalogLists}
@@ -28,6 +28,7 @@ use Rattle.policy_core.specs.declared.config.config.Config.{Config}
 use Rattle.policy_core.specs.declared.valid.policy.ValidClarification.{ValidClarification}
 use Rattle.policy_core.specs.declared.valid.policy.ValidConfig.{ValidConfig}
 use Rattle.policy_core.specs.declared.valid.policy.ValidException.{ValidException}
+use Rattle.policy_core.specs.valid.Version.{is_version_3}
 
 -- ---- items that are kept, or are found wrong
 
@@ -105,8 +106,28 @@ clarification_judged lists file clarification =
 
 -- ---- exceptions, and keys that were removed
 
+-- the exception with its file, its files as they are written
 abbrev pub exception_in : ℕ → Exception → ValidException
-exception_in file exception = record { spec = exception.spec; allowed = exception.allow; file_id = file }
+exception_in file exception = record {
+  spec = exception.spec;
+  allowed = exception.allow;
+  license_files = unwrap_or exception.license_files [];
+  file_id = file;
+}
+
+abbrev pub needs_version_3 : ℕ → Exception → Diagnostic
+needs_version_3 file exception =
+    error_at file (codes "license-files of an exception needs version 3") exception.spec.span []
+
+-- an exception that has the key, also with no file, under another version than 3
+abbrev pub version_finding : ℤ → ℕ → Exception → Option Diagnostic
+version_finding version file exception =
+    if not (is_version_3 version) && is_some exception.license_files then Some (needs_version_3 file exception)
+    else None
+
+-- one for each such exception, in order
+abbrev pub version_findings : ℤ → ℕ → List Exception → List Diagnostic
+version_findings version file exceptions = filter_map (version_finding version file) exceptions
 
 abbrev pub removed_text : List ℕ
 removed_text =
@@ -127,6 +148,7 @@ removed_key file place =
 abbrev pub valid_part : CatalogLists → ℕ → Config → ValidConfig
 valid_part lists file config = record {
   file_id = file;
+  version = config.version;
   private = config.private;
   unused_allowed_license = config.unused_allowed_license;
   unused_license_exception = config.unused_license_exception;
@@ -152,4 +174,7 @@ removed_findings file config = map (removed_key file) config.deprecated_spans
 -- what is found wrong with a policy of this file, in order
 abbrev pub validation_findings : CatalogLists → ℕ → Config → List Diagnostic
 validation_findings lists file config =
-    address_findings file config ++ clarification_findings lists file config ++ removed_findings file config
+    address_findings file config
+    ++ clarification_findings lists file config
+    ++ removed_findings file config
+    ++ version_findings config.version file config.exceptions

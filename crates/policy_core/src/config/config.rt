@@ -14,6 +14,9 @@ use std::alloc::Global;
 /// What a policy says of licences.
 #[derive(Drop)]
 pub struct Config {
+    /// Which rules the policy goes by: with version 3 each exception that holds for a crate counts, and may name
+    /// files; with any other one the first that matches does.
+    pub version: i32,
     pub private: Private,
     /// The least score at which a licence text is taken for a licence. It is kept as it is written, also
     /// outside of 0 to 1.
@@ -40,6 +43,7 @@ impl Config {
         ensures { result ≡ no_config }
     {
         Config {
+            version: 1,
             private: Private::default(alloc),
             confidence_threshold: Hundredths(80),
             allow: Licensees::new(alloc),
@@ -71,7 +75,7 @@ impl<C: Catalog> FromKeys<C> for Config {
         mut table: TableHelper<'_>,
         catalog: &C,
     ) -> Result<Config, DeserError> {
-        let _version: Option<i32> = table.optional(alloc, "version", &())?;
+        let version = table.optional(alloc, "version", &())?;
         let private = table.optional(alloc, "private", &())?;
         let unlicensed = take_removed(&mut table, "unlicensed");
         let agreement = take_removed(&mut table, "allow-osi-fsf-free");
@@ -89,6 +93,7 @@ impl<C: Catalog> FromKeys<C> for Config {
         let removed = [unlicensed, agreement, copyleft, default, deny];
         let deprecated_spans = places_of(alloc, &removed)?;
         let config = Config {
+            version: version.unwrap_or(1),
             private: or_no_private(alloc, private),
             confidence_threshold: threshold.unwrap_or(Hundredths(80)),
             allow: or_empty(alloc, allow),

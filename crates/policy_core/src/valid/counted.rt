@@ -3,8 +3,7 @@ ghost use Rattle.std.specs.Prelude.{◌≡◌, ◌↔◌, ◌+◌, ◌≤◌, �
 ghost use Rattle.std.specs.Option.{option_map_or};
 ghost use Rattle.graph_core.specs.Krate.{record_of};
 ghost use Rattle.policy_core.specs.valid.Indexes as indexes;
-ghost use Rattle.policy_core.specs.valid.Indexes.{exception_numbers, families_in};
-ghost use Rattle.policy_core.specs.valid.Policy as spec;
+ghost use Rattle.policy_core.specs.valid.Indexes.{families_in};
 ghost use Rattle.policy_core.specs.valid.Policy.{IsPrivate, granted_licensees};
 ghost use Rattle.policy_core.specs.valid.Satisfied.{satisfies};
 ghost use Rattle.policy_core.specs.valid.View.{req_of, grant_of, policy_of};
@@ -15,7 +14,6 @@ use diag_core::FileId;
 use graph_core::Krate;
 use policy_parts::LintLevel;
 use policy_parts::entries::Licensee;
-use policy_parts::spec::SpecIndex;
 use spdx_core::LicenseReq;
 use spdx_terms::families::{FamilyIndex, FamilyIndexes};
 use std::alloc::{AllocError, Global};
@@ -212,23 +210,6 @@ impl<'p, L: Ledger> CountedPolicy<'p, L> {
         ensures { IfOk result (λ found. found ≡ indexes.granted_families (map grant_of self.now.exceptions)) }
     {
         indexes_of(alloc, self.config.exceptions.items())
-    }
-
-    // ---- exceptions
-
-    /// The index of the exceptions by the crates that they are for.
-    pub fn exception_index(&self, alloc: Global) -> Result<SpecIndex, AllocError>
-        ensures { IfOk result (λ index. index ≡ exception_numbers (policy_of self.now)) }
-    {
-        SpecIndex::of(alloc, self.config.exceptions.items())
-    }
-
-    /// The place of the first exception that matches a crate, by the index of the exceptions.
-    pub fn first_exception(&self, index: &SpecIndex, krate: &Krate) -> Option<usize>
-        requires { exception_numbers (policy_of self.now) ≡ index.now }
-        ensures { result ≡ spec.first_exception (policy_of self.now) (record_of krate.now) }
-    {
-        index.first(self.config.exceptions.items(), krate)
     }
 
     // ---- crates that are passed over

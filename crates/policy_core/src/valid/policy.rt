@@ -39,6 +39,9 @@ pub struct ValidException {
     pub spec: PackageSpec,
     /// What they may have, as it is in the file.
     pub allowed: Licensees,
+    /// The files that a crate must have for it to count, by their paths; those of equal paths as they are in
+    /// the file. None without the key.
+    pub license_files: FileSources,
     /// The file that it is in: the policy's, or that of its exceptions.
     pub file_id: FileId,
 }
@@ -54,6 +57,8 @@ pub type ValidExceptions = ListOf<ValidException>;
 pub struct ValidConfig {
     /// The policy's file.
     pub file_id: FileId,
+    /// With 3 each exception that holds for a crate counts, and else the first that matches it.
+    pub version: i32,
     pub private: Private,
     /// What is asked for where an allowed licensee allows no term.
     pub unused_allowed_license: LintLevel,

@@ -6,10 +6,10 @@ ghost use Rattle.policy_core.specs.validate.Order.{PutsPolicyInOrder};
 ghost use Rattle.policy_core.specs.validate.Valid.{valid_part, validation_findings};
 
 use crate::config::Config;
-use crate::valid::{ValidConfig, ValidExceptions};
+use crate::valid::ValidConfig;
 use crate::validate::addresses::judge_addresses;
 use crate::validate::clarifications::judge_clarifications;
-use crate::validate::entries::add_exceptions;
+use crate::validate::entries::{tell_versions, valid_exceptions};
 use crate::validate::findings::tell_removed;
 use crate::validate::order::sort_licensees;
 use diag_core::FileId;
@@ -60,10 +60,17 @@ fn validate_config<C: Catalog>(
     let ignore_sources = judge_addresses(alloc, file, sources, found)?;
     let clarifications = judge_clarifications(alloc, file, config.clarify, catalog, found)?;
     tell_removed(alloc, file, config.deprecated_spans.items(), found)?;
-    let mut exceptions = ValidExceptions::new(alloc);
-    add_exceptions(file, config.exceptions, &mut exceptions)?;
+    tell_versions(
+        alloc,
+        config.version,
+        file,
+        config.exceptions.items(),
+        found,
+    )?;
+    let exceptions = valid_exceptions(alloc, file, config.exceptions)?;
     Ok(ValidConfig {
         file_id: file,
+        version: config.version,
         private: config.private,
         unused_allowed_license: config.unused_allowed_license,
         unused_license_exception: config.unused_license_exception,
@@ -78,8 +85,9 @@ fn validate_config<C: Catalog>(
 }
 
 /// Addresses that can be read are kept in normal form, and clarifications whose expressions are read in
-/// strict mode; the others are reported, and then each key that was removed. What is allowed is sorted by
-/// printed bytes, and no entry is lost.
+/// strict mode; the others are reported, then each key that was removed, and then each exception that names
+/// files under another version than 3. What is allowed is sorted by printed bytes, the files of clarifications
+/// and exceptions by their paths, and no entry is lost.
 impl<C: Catalog> UnvalidatedConfig<C> for Config {
     type ValidCfg = ValidConfig;
 

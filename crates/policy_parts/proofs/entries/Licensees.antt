@@ -1,5 +1,5 @@
 -- The licensee of a string is what the reader of licensees answers.
-use Rattle.std.proofs.Common.{◌≡◌, ◌∙◌, refl, ap, List, Option, Some, None, Ok, Err}
+use Rattle.std.proofs.Common.{◌≡◌, ◌∙◌, refl, ap, List, Some, None, Ok, Err}
 use Rattle.spdx_terms.specs.catalog.Catalog.{CatalogLists}
 use Rattle.deny_text.specs.declared.span.Span.{Span}
 use Rattle.spdx_core.proofs.OnePart.{licensee_or_fault}

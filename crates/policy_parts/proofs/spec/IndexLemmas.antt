@@ -1,5 +1,5 @@
 -- Places of numbers, and the walk over those that a crate is found by.
-use Rattle.std.proofs.Common.{◌≡◌, ℕ, zero, suc, ◌+◌, ◌<◌, ◌≤◌, ◌==◌, eqb, nat_lt, Bool, true, false, ◌&&◌, ◌||◌, cond, List, [], ◌∷◌, ◌++◌, append-nil, length, drop, get_or, slice_get, map, Option, Some, None, unwrap_or, is_some, refl, sym, ap, subst, ◌∙◌, arith}
+use Rattle.std.proofs.Common.{◌≡◌, ℕ, suc, ◌+◌, ◌<◌, ◌≤◌, ◌==◌, eqb, nat_lt, Bool, true, false, ◌&&◌, ◌||◌, cond, List, [], ◌∷◌, ◌++◌, append-nil, length, slice_get, map, Option, Some, None, unwrap_or, is_some, refl, sym, ap, subst, ◌∙◌, arith}
 use Rattle.std.specs.BTreeMap as tree
 use Rattle.std.specs.BTreeMap.{BTreeMap, get}
 use Rattle.std.specs.List.{filter}
@@ -10,11 +10,11 @@ use Rattle.std.specs.Str.{bytes_eq}
 use Rattle.std.proofs.lemmas.Bool.Decides.{nat_tests}
 use Rattle.std.proofs.lemmas.Slice.Eq.{bytes_eq-Decides}
 use Rattle.graph_core.specs.Krate.{CrateRecord}
-use Rattle.semver.specs.EvalViews.{matches_views, view_op}
+use Rattle.semver.specs.EvalViews.{view_op}
 use Rattle.semver.specs.Parse.{Held, Parts}
 use Rattle.semver.specs.declared.Op.{Op}
 use Rattle.semver.specs.declared.Op.TheVariants as op
-use Rattle.policy_parts.specs.spec.Index.{HasFurther, HasNumberPlaces, Numbers, candidates, exact_by, exact_in, exact_of, first_of, matches_at, matching_places, name_number, number_by, places_from, places_of, put_before, spec_number, spec_numbers, union, version_number}
+use Rattle.policy_parts.specs.spec.Index.{HasFurther, HasNumberPlaces, Numbers, candidates, exact_by, exact_of, matches_at, matching_places, name_number, number_by, places_from, places_of, put_before, spec_number, spec_numbers, union, version_number}
 use Rattle.policy_parts.specs.spec.Matching.{spec_matches, version_matches}
 use Rattle.policy_parts.specs.spec.Spec.{Spec}
 

@@ -4,6 +4,7 @@ ghost use Rattle.policy_parts.specs.entries.Exceptions.{allowed_at, exception_of
 ghost use Rattle.policy_parts.specs.entries.Exceptions.{exceptions_file_at, exceptions_file_of};
 ghost use Rattle.policy_parts.specs.entries.WithSpec.{left_of_entry};
 
+use crate::FileSources;
 use crate::entries::licensee::Licensees;
 use crate::entries::with_spec::read_with_spec;
 use crate::spec::PackageSpec;
@@ -18,6 +19,8 @@ use std::alloc::Global;
 pub struct Exception {
     pub spec: PackageSpec,
     pub allow: Licensees,
+    /// The files of a crate that the exception holds with, where the key is written. It may be empty.
+    pub license_files: Option<FileSources>,
 }
 
 /// Exceptions in order.
@@ -33,6 +36,7 @@ pub struct ExceptionsFile {
 #[derive(Drop)]
 struct ExceptionLicenses {
     allow: Licensees,
+    license_files: Option<FileSources>,
 }
 
 impl<C: Catalog> FromKeys<C> for ExceptionLicenses {
@@ -43,10 +47,13 @@ impl<C: Catalog> FromKeys<C> for ExceptionLicenses {
         mut table: TableHelper<'_>,
         catalog: &C,
     ) -> Result<ExceptionLicenses, DeserError> {
-        match table.required(alloc, "allow", catalog) {
-            Ok(allow) => finish(alloc, table, ExceptionLicenses { allow }),
-            Err(error) => Err(error),
-        }
+        let allow = table.required(alloc, "allow", catalog)?;
+        let license_files = table.optional(alloc, "license-files", &())?;
+        let keys = ExceptionLicenses {
+            allow,
+            license_files,
+        };
+        finish(alloc, table, keys)
     }
 }
 
@@ -65,6 +72,7 @@ impl<C: Catalog> Deserialize<C> for Exception {
             Ok((spec, keys)) => Ok(Exception {
                 spec,
                 allow: keys.allow,
+                license_files: keys.license_files,
             }),
             Err(error) => Err(error),
         }

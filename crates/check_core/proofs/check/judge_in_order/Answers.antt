@@ -29,7 +29,6 @@ licenses-preserved g c =
     record {
       whole = append_assoc front (license ∷ []) rest ∙ whole;
       nodes = told.nodes ∙ before.nodes;
-      numbers = told.numbers ∙ before.numbers;
       families = told.families ∙ before.families;
       private = told.private ∙ before.private;
       so_far = subst (λ (reports : List CrateReport). SoFar policy (front ++ license ∷ []) reports flags c.args.sink.now sink) (sym c.in_ok-push.ensures.ok) more;

@@ -10,7 +10,6 @@ abbrev pub invariant-licenses : goal.invariant-licenses
 invariant-licenses g l = record {
   whole : l.yielded ++ into_iter_items l.license-iterator ≡ l.fn.licenses;
   nodes : l.checker.nodes ≡ l.fn.checker.nodes;
-  numbers : l.checker.numbers ≡ l.fn.checker.numbers;
   families : l.checker.families ≡ l.fn.checker.families;
   private : l.checker.private ≡ l.fn.checker.private;
   so_far : SoFar l.policy l.yielded l.reports l.checker.flags l.fn.sink l.sink;

@@ -1,8 +1,7 @@
-use Rattle.std.specs.Option.{option_to_list}
 use Rattle.policy_core.specs.valid.View.{policy_of}
 use Rattle.check_verify.proofs.Walk.{allowed_apart}
 use Rattle.check_verify.proofs.entries.are_allowed.Goals as goal
 
 pub returns-then-places-hits-clause-answer : goal.returns-then-places-hits-clause-answer
 returns-then-places-hits-clause-answer g c =
-    allowed_apart (policy_of c.args.policy.now) (option_to_list c.args.counted) c.args.terms.now c.args.places.now c.args.hits.now c.if-places-hits.true
+    allowed_apart (policy_of c.args.policy.now) c.args.counted.now c.args.terms.now c.args.places.now c.args.hits.now c.if-places-hits.true

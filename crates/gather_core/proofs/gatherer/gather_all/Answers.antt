@@ -24,7 +24,7 @@ krates-preserved g c =
     let license = c.in_ok-license.license in
     let pushed = c.in_ok-push.ensures.ok in
     let scanner = scanner_of_scan g.C.Catalog.lists g.I.Identifier.match_of c.args.scan.now in
-    let all = c.args.clarifications.now in
+    let all = c.args.rules.now in
     let policy = c.args.policy in
     let new_files = c.license_of.new.files in
     let grows : Grows c.krates.files new_files = c.license_of.ensures.grows in
@@ -41,7 +41,7 @@ krates-preserved g c =
       placed = λ stand.
           subst (All (IsPlacedAt new_files)) (sym pushed)
           (All-push (IsPlacedAt new_files) c.krates.licenses license (licenses_grown c.krates.files new_files c.krates.licenses grows (so_far.placed stand))
-          (c.in_ok-license.ensures.placed (entries_grown c.args.files.now c.krates.files policy all so_far.grows stand)));
+          (c.in_ok-license.ensures.placed (entries_grown c.args.files.now c.krates.files policy all.clarifications so_far.grows stand)));
       grows = grows_then c.args.files.now c.krates.files new_files so_far.grows grows;
     }
 
@@ -50,7 +50,7 @@ pub krates-init : goal.krates-init
 krates-init g c =
     let none = sym c.new-licenses.ensures in
     let scanner = scanner_of_scan g.C.Catalog.lists g.I.Identifier.match_of c.args.scan.now in
-    let all = c.args.clarifications.now in
+    let all = c.args.rules.now in
     let policy = c.args.policy in
     let files = c.args.files.now in
     let count = g.T.Tree.fault_count c.args.tree.now in
@@ -71,7 +71,7 @@ returns-in_err-license-clause-no_memory g c =
     let krates = c.args.krates.now in
     let item = c.krate-item.result in
     on_err c.from_residual.result _
-    (starves_next (scanner_of_scan g.C.Catalog.lists g.I.Identifier.match_of c.args.scan.now) c.args.policy c.args.clarifications.now c.args.files.now
+    (starves_next (scanner_of_scan g.C.Catalog.lists g.I.Identifier.match_of c.args.scan.now) c.args.policy c.args.rules.now c.args.files.now
     c.krates.licenses c.krates.files (record_behind item) (map record_behind krates) c.krates.invariant.answered c.in_err-license.ensures.no_memory
     (front_next record_behind krates place item (map krate_of c.krates.licenses) c.krates.invariant.krates
     (take_more krates place item c.krates-test.true ∙ ap (λ one. take place krates ++ one ∷ []) (sym c.krate-item.is))))
@@ -79,7 +79,7 @@ returns-in_err-license-clause-no_memory g c =
 pub returns-in_err-push-clause-no_memory : goal.returns-in_err-push-clause-no_memory
 returns-in_err-push-clause-no_memory g c =
     let scanner = scanner_of_scan g.C.Catalog.lists g.I.Identifier.match_of c.args.scan.now in
-    let all = c.args.clarifications.now in
+    let all = c.args.rules.now in
     let policy = c.args.policy in
     let place = c.krates.krate-index in
     let krates = c.args.krates.now in

@@ -14,7 +14,7 @@ invariant-krates g l =
     record {
       krates : map krate_of l.licenses ≡ map record_behind (take l.krate-index l.krates);
       answered : AreTurnsByReads (g.T.Tree.content l.fn.tree) (g.T.Tree.content l.tree) (g.T.Tree.fault_count l.fn.tree) (g.T.Tree.fault_count l.tree) (g.T.Tree.trace l.fn.tree) (g.T.Tree.trace l.tree)
-          scanner l.policy l.clarifications l.fn.files l.licenses l.files;
-      placed : ArePlacedIn l.fn.files l.policy l.clarifications → All (IsPlacedAt l.files) l.licenses;
+          scanner l.policy l.rules l.fn.files l.licenses l.files;
+      placed : ArePlacedIn l.fn.files l.policy l.rules.clarifications → All (IsPlacedAt l.files) l.licenses;
       grows : Grows l.fn.files l.files;
     }

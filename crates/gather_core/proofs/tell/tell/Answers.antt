@@ -22,7 +22,7 @@ returns-clause-turn c = λ turn krate_is policy_is faults_are is.
     let faults = c.args.faults.now in
     let old = c.args.files.now in
     let points = c.in_ok-points.points in
-    let license : KrateLicense = record { krate = c.args.krate; lic_info = c.told_by-told.result.info; notes = c.told_by-told.result.notes; diags = c.in_ok-diags.diags; reads = taken.reads } in
+    let license : KrateLicense = record { krate = c.args.krate; lic_info = c.told_by-told.result.info; notes = c.told_by-told.result.notes; diags = c.in_ok-diags.diags; reads = taken.reads; exceptions = taken.exceptions } in
     told_turn turn license faults taken points old c.find_points.new.files faults_are is
     (c.in_ok-points.ensures.points ∙ ap (λ (krate : CrateRecord). points_for krate faults taken.location old taken.by) (sym krate_is))
     (c.in_ok-points.ensures.files ∙ ap (λ (krate : CrateRecord). files_left krate faults taken.location old taken.by) (sym krate_is))
@@ -32,7 +32,7 @@ returns-clause-turn c = λ turn krate_is policy_is faults_are is.
     ∙ ap (λ (front : List Diag). front ++ points.findings) c.in_ok-missing.ensures
     ∙ ap (λ (missing : List Span). missing_findings c.args.policy missing ++ points.findings) c.items.ensures
     ∙ ap (λ (policy : ℕ). missing_findings policy taken.missing ++ points.findings) (sym policy_is))
-    refl
+    refl refl
 
 pub returns-clause-found : goal.returns-clause-found
 returns-clause-found c = λ turn krate_is faults_are is.

@@ -1,6 +1,5 @@
-use Rattle.std.proofs.Common.{refl, sym, map, ◌∙◌}
+use Rattle.std.proofs.Common.{refl, sym, map}
 use Rattle.graph_core.specs.Krate.{record_of}
-use Rattle.gather_license.specs.files.KnownReads.{known_reads_by}
 use Rattle.gather_license.proofs.files.CallLemmas.{on_err}
 use Rattle.gather_license.specs.declared.settle.SettledLicense.{SettledLicense}
 use Rattle.gather_license.specs.Clarification.{lent_clarification}
@@ -15,15 +14,19 @@ returns-clause-answered g c =
     let pack = c.in_ok-clarified.clarified.pack in
     let looked = c.in_ok-clarified.ensures.looked in
     let made = c.in_ok-clarified.ensures.made in
-    let reads = c.into_reads-reads.result in
-    let settled : SettledLicense = record { by = c.in_ok-by.by; missing = c.in_ok-clarified.clarified.missing; reads = reads } in
+    let settled : SettledLicense = record { by = c.in_ok-by.by; missing = c.in_ok-clarified.clarified.missing; pack = pack; reads_made = c.reads_made-reads_made.result } in
     record {
       reads = made.reads;
-      records = sym made.is.records ∙ sym c.into_reads-reads.ensures.reads;
+      records = sym made.is.records;
       made = made.made;
-      is_so = ordered (scanner_of_scan g.C.Catalog.lists g.I.Identifier.match_of c.args.scan.now) krate (map lent_clarification c.args.clarifications.now) pack
-          c.in_ok-clarified.clarified.held c.in_ok-clarified.clarified.missing c.args.field settled (known_reads_by made.reads) looked
-          c.into_reads-reads.ensures.sorted c.requires c.in_ok-by.ensures refl c.into_reads-reads.ensures.reads made.is.agrees;
+      is_so = record {
+        folder = looked.folder;
+        made = c.reads_made-reads_made.ensures.number;
+        agrees = made.is.agrees;
+        by_any = ordered (scanner_of_scan g.C.Catalog.lists g.I.Identifier.match_of c.args.scan.now) krate (map lent_clarification c.args.clarifications.now)
+            c.in_ok-clarified.clarified.held c.in_ok-clarified.clarified.missing c.args.field settled looked
+            c.reads_made-reads_made.ensures.sorted c.requires c.in_ok-by.ensures refl;
+      };
     }
 
 pub returns-in_err-clarified-clause-no_memory : goal.returns-in_err-clarified-clause-no_memory

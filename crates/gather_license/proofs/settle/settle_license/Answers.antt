@@ -7,8 +7,9 @@ use Rattle.gather_license.specs.declared.settle.SettledLicense.{SettledLicense}
 use Rattle.gather_license.specs.Clarification.{lent_clarification}
 use Rattle.gather_license.specs.Priority.{folder_of}
 use Rattle.gather_license.specs.Settled.{scanner_of_scan}
+use Rattle.gather_license.proofs.files.CallLemmas.{on_err, starves_unasked}
 use Rattle.gather_license.proofs.CallLemmas.{starves_at_files}
-use Rattle.gather_license.proofs.LookedLemmas.{looks_for_none, looks_for_some, settled_by_field, settled_by_files}
+use Rattle.gather_license.proofs.LookedLemmas.{looks_for_none, looks_for_some, settled_by_files, settled_unread}
 use Rattle.gather_license.proofs.settle.settle_license.Goals as goal
 
 pub returns-then-not-is_nothing-clause-answered : goal.returns-then-not-is_nothing-clause-answered
@@ -60,11 +61,15 @@ pub returns-in-Some-clause-answered : goal.returns-in-Some-clause-answered
 returns-in-Some-clause-answered g c =
     let krate = record_of c.args.krate.now in
     let on : c.is_nothing.result ≡ true = search rules in
-    record {
+    IfOk-weaker c.settle_by_field.result _ _
+    (λ settled is. record {
       reads = [];
-      records = sym (ap (λ (s : SettledLicense). s.reads) c.settle_by_field.ensures);
+      records = sym (ap (λ (s : SettledLicense). s.pack.reads) is);
       made = no_reads _ _ _ (folder_of krate);
-      is_so = settled_by_field (scanner_of_scan g.C.Catalog.lists g.I.Identifier.match_of c.args.scan.now) (map lent_clarification c.args.clarifications.now) krate
-          (known_reads_by []) c.settle_by_field.result c.in-Some.expression (sym c.is_nothing.ensures ∙ on) (sym c.in-Some.is ∙ c.requires)
-          c.settle_by_field.ensures;
-    }
+      is_so = settled_unread (scanner_of_scan g.C.Catalog.lists g.I.Identifier.match_of c.args.scan.now) (map lent_clarification c.args.clarifications.now) krate
+          settled c.in-Some.expression (sym c.is_nothing.ensures ∙ on) (sym c.in-Some.is ∙ c.requires) is;
+    })
+    c.settle_by_field.ensures
+
+pub returns-in-Some-clause-no_memory : goal.returns-in-Some-clause-no_memory
+returns-in-Some-clause-no_memory g c = on_err c.settle_by_field.result _ (starves_unasked _ _ _ (folder_of (record_of c.args.krate.now)) _)

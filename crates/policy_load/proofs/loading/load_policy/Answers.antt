@@ -3,7 +3,7 @@ use Rattle.std.specs.Option.{option_copied}
 use Rattle.std.specs.Prelude.{unwrap_or}
 use Rattle.policy_core.specs.config.Config.{no_config}
 use Rattle.policy_core.proofs.ExceptionLemmas.{grows_from, grows_itself}
-use Rattle.policy_core.specs.Heard.{LoadState, after_exceptions}
+use Rattle.policy_core.specs.Heard.{LoadState, TakesExceptions}
 use Rattle.policy_load.specs.Heard.{IsReadOf, MayReadOf}
 use Rattle.policy_load.proofs.HeardLemmas.{may_of, on_err, unread_of}
 use Rattle.policy_load.proofs.LoadLemmas.{loads_policy}
@@ -26,7 +26,7 @@ returns-clause-read g c =
     (unwrap_or c.take-said.result no_config) heard valid behind.policy c.args.files.now behind.files c.args.found.now checked behind.found c.tell_settings.new.found
     c.requires.placed (ap (λ said. unwrap_or said no_config) c.take-said.ensures.value) c.in_ok-licenses.ensures.valid c.in_ok-licenses.ensures.told
     (subst (λ known. IsReadOf before after calls more known path heard) c.validate_policy.ensures.files c.in_ok-heard.ensures.read) c.take_exceptions.ensures.text
-    (subst (λ known. behind ≡ after_exceptions lists heard (record { policy = valid; files = known; found = checked })) c.validate_policy.ensures.files c.in_ok-take_exceptions.ensures.taken)
+    (subst (λ known. TakesExceptions lists heard (record { policy = valid; files = known; found = checked }) behind) c.validate_policy.ensures.files c.in_ok-take_exceptions.ensures.taken)
     c.in_ok-tell_settings.ensures.ok
 
 pub returns-clause-labels : goal.returns-clause-labels

@@ -8,7 +8,7 @@ use Rattle.tree_core.specs.Hearing.{Made}
 use Rattle.tree_core.proofs.MadeLemmas.{made-later}
 use Rattle.gather_license.specs.expression.Scanned.{Scanner}
 use Rattle.gather_core.specs.Calls.{AreTurnsByReads, StarvesGathering}
-use Rattle.gather_core.specs.Entries.{entries_of}
+use Rattle.gather_core.specs.Rules.{rules_of}
 use Rattle.gather_core.specs.Gathered.{include_of, scanner_of_gatherer, threshold_of}
 use Rattle.run_found.proofs.places.PlaceLemmas.{are_placed, entries_lie}
 use Rattle.run_found.specs.Hearing.{tree_seen}
@@ -34,7 +34,7 @@ returns-clause-gathered g c graph choice chosen =
     let after = g.T.Tree.fault_count c.gather.new.tree in
     let old = g.T.Tree.trace c.args.tree.now in
     let new = g.T.Tree.trace c.gather.new.tree in
-    let reads = subst (λ scanner. AreTurnsByReads told tells before after old new scanner policy.file_id (entries_of policy) c.args.files.now nfos last) same c.in_ok-summary.ensures.answered in
+    let reads = subst (λ scanner. AreTurnsByReads told tells before after old new scanner policy.file_id (rules_of policy) c.args.files.now nfos last) same c.in_ok-summary.ensures.answered in
     gathered_on own policy (tree_seen told tells before after old new) c.args.files.now graph choice last nfos (c.in_ok-summary.ensures.listed graph choice chosen) reads
 
 pub returns-in_err-summary-clause-cut : goal.returns-in_err-summary-clause-cut
@@ -53,7 +53,7 @@ returns-in_err-summary-clause-cut g c =
     let after = g.T.Tree.fault_count c.gather.new.tree in
     let old = g.T.Tree.trace c.args.tree.now in
     let new = g.T.Tree.trace c.gather.new.tree in
-    let starves = subst (λ scanner. Made told tells before after old new [] ⊎ StarvesGathering told tells before after old new scanner policy.file_id (entries_of policy) c.args.files.now (selected_in (include_of policy) c.args.krates.now))
+    let starves = subst (λ scanner. Made told tells before after old new [] ⊎ StarvesGathering told tells before after old new scanner policy.file_id (rules_of policy) c.args.files.now (selected_in (include_of policy) c.args.krates.now))
     same c.in_err-summary.ensures.no_memory in
     let p = err_from_is_err_and c.from_residual.result c.from_residual.ensures.1 in
     rw p.1 (λ graph choice chosen. gather_cut own policy (tree_seen told tells before after old new) c.args.files.now graph choice c.args.krates.now chosen starves)

@@ -12,11 +12,11 @@ returns-in-SpdxExpression-clause-told g c =
     let license = c.args.license.now in
     let krate = krate_of license in
     let policy = policy_of c.args.policy.now in
-    subst (λ (info : LicenseInfo). IfOk c.certify.result (λ (answer : ToldVerdict). answer.told ≡ verdict_finding policy krate info license.notes))
+    subst (λ (info : LicenseInfo). IfOk c.certify.result (λ (answer : ToldVerdict). answer.told ≡ verdict_finding policy krate license.exceptions info license.notes))
     (sym c.in-SpdxExpression.is) c.certify.ensures.told
 
 pub returns-in-SpdxExpression-clause-bound : goal.returns-in-SpdxExpression-clause-bound
 returns-in-SpdxExpression-clause-bound g c =
-    let krate = krate_of c.args.license.now in
+    let counted = c.args.license.now.exceptions in
     let policy = policy_of c.args.policy.now in
-    subst (λ (info : LicenseInfo). c.certify.new.steps ≤ c.args.steps.now + entries_of_info policy krate info) (sym c.in-SpdxExpression.is) c.certify.ensures.bound
+    subst (λ (info : LicenseInfo). c.certify.new.steps ≤ c.args.steps.now + entries_of_info policy counted info) (sym c.in-SpdxExpression.is) c.certify.ensures.bound

@@ -1,5 +1,4 @@
 use Rattle.std.proofs.Common.{◌∙◌, ap, ap₂, ◌≡◌, ℕ, Bool, List, Option}
-use Rattle.graph_core.specs.Krate.{record_of}
 use Rattle.spdx_core.specs.declared.certificates.verdict.Hit.{Hit}
 use Rattle.policy_core.specs.valid.View.{policy_of}
 use Rattle.check_core.specs.evaluate.Evaluation.{Evaluation, term_hits}
@@ -10,10 +9,9 @@ use Rattle.check_core.proofs.crate_check.Checker.certify.Goals as goal
 pub returns-clause-told : goal.returns-clause-told
 returns-clause-told g c =
     let license = c.args.license.now in
-    let krate = record_of license.krate.now in
     let expression = c.args.expr.now in
     let nfo = c.args.nfo.now in
-    let hits : c.hits-hits.result.now ≡ term_hits (policy_of c.args.policy.now) krate expression.terms =
+    let hits : c.hits-hits.result.now ≡ term_hits (policy_of c.args.policy.now) license.exceptions expression.terms =
     c.hits-hits.ensures ∙ ap (λ (e : Evaluation). e.hits) c.evaluate-accepted.ensures.evaluator in
     c.in_ok-told.ensures
     ∙ ap (λ (notes : List (List ℕ)). findings.expression_finding c.evaluate-accepted.result (verdict_labels expression nfo c.hits-hits.result.now) notes) c.items.ensures

@@ -9,7 +9,7 @@ use Rattle.check_core.proofs.crate_check.Checker.judge.Goals as goal
 pub returns-clause-verdict : goal.returns-clause-verdict
 returns-clause-verdict g c =
     let license = c.args.license in
-    answered_check (policy_of c.args.policy.now) (krate_of license) (expression_of license.lic_info) c.is_private.result
+    answered_check (policy_of c.args.policy.now) (krate_of license) license.exceptions (expression_of license.lic_info) c.is_private.result
     c.is_private.ensures c.if-is_private.false c.ask.result c.ask.ensures.verdict
 
 pub returns-clause-bound : goal.returns-clause-bound

@@ -1,5 +1,5 @@
 -- The keys that were moved are read behind the table.
-use Rattle.std.proofs.Common.{◌≡◌, List, ◌++◌, ap, ◌∙◌}
+use Rattle.std.proofs.Common.{List, ◌++◌, ap, ◌∙◌}
 use Rattle.std.specs.Prelude.{codes, unwrap_or}
 use Rattle.deny_text.specs.declared.span.Span.{Span}
 use Rattle.toml_subset.specs.Data.{Entries}

@@ -1,5 +1,4 @@
-use Rattle.std.proofs.Common.{◌∙◌, ◌≤◌, sym, ap, [], length, arith, List, Option, false, vec_capacity}
-use Rattle.graph_core.specs.Krate.{record_of}
+use Rattle.std.proofs.Common.{◌∙◌, ◌≤◌, ap, [], length, arith, List, Option, false, vec_capacity}
 use Rattle.spdx_core.specs.Reading.{postfix}
 use Rattle.spdx_core.specs.declared.certificates.verdict.Hit.{Hit}
 use Rattle.spdx_core.specs.certificates.Certificates.{has_hit}
@@ -7,14 +6,12 @@ use Rattle.spdx_core.specs.certificates.Choices.{is_accepted}
 use Rattle.spdx_core.specs.certificates.Stack.{first_of}
 use Rattle.policy_core.specs.valid.View.{policy_of}
 use Rattle.check_core.specs.evaluate.Answers.{answers_over}
+use Rattle.check_core.specs.evaluate.Entries.{entries_of_terms}
 use Rattle.check_core.specs.evaluate.Evaluation.{Evaluation, term_hits}
 use Rattle.check_core.proofs.evaluate.AnswerLemmas.{answered_whole}
-use Rattle.check_core.proofs.evaluate.EvaluationLemmas.{entries_are, kept_is, seen_as, with_hits}
+use Rattle.check_core.proofs.evaluate.EvaluationLemmas.{kept_is, seen_as, with_hits}
 use Rattle.check_core.proofs.evaluate.RoomLemmas.{few_terms}
 use Rattle.check_core.proofs.evaluate.evaluator.Evaluator.evaluate.Goals as goal
-
-pub first_exception-exception-requires : goal.first_exception-exception-requires
-first_exception-exception-requires g c = c.requires.exceptions ∙ sym (ap (λ (e : Evaluation). e.numbers) c.self.view_is)
 
 pub keep_hits-requires-clause-room : goal.keep_hits-requires-clause-room
 keep_hits-requires-clause-room g c =
@@ -29,8 +26,8 @@ pub returns-clause-answer : goal.returns-clause-answer
 returns-clause-answer g c =
     let expression = c.args.expression.now in
     let kept = c.as_slice.result.now in
-    let is = kept_is (policy_of c.args.policy.now) (record_of c.args.krate.now) expression.terms c.requirements.result.now c.first_exception-exception.result kept
-    c.requirements.ensures.terms c.first_exception-exception.ensures (c.as_slice.ensures.value ∙ c.keep_hits.ensures.kept) in
+    let is = kept_is (policy_of c.args.policy.now) c.args.exceptions.now expression.terms c.requirements.result.now kept
+    c.requirements.ensures.terms (c.as_slice.ensures.value ∙ c.keep_hits.ensures.kept) in
     c.is_accepted.ensures.answer
     ∙ ap (λ nodes. first_of false (answers_over (has_hit kept) [] nodes)) c.nodes.ensures.nodes
     ∙ answered_whole (has_hit kept) expression.tree
@@ -39,16 +36,15 @@ returns-clause-answer g c =
 pub returns-clause-evaluator : goal.returns-clause-evaluator
 returns-clause-evaluator g c =
     let expression = c.args.expression.now in
-    let own = term_hits (policy_of c.args.policy.now) (record_of c.args.krate.now) expression.terms in
-    let is = kept_is (policy_of c.args.policy.now) (record_of c.args.krate.now) expression.terms c.requirements.result.now c.first_exception-exception.result
-    c.keep_hits.new.kept.items c.requirements.ensures.terms c.first_exception-exception.ensures c.keep_hits.ensures.kept in
-    with_hits (seen_as c.self.inside.nodes c.self.inside.exceptions c.self.inside.index c.self.inside.kept.items (vec_capacity c.self.inside.kept) (vec_capacity c.self.inside.answers))
+    let own = term_hits (policy_of c.args.policy.now) c.args.exceptions.now expression.terms in
+    let is = kept_is (policy_of c.args.policy.now) c.args.exceptions.now expression.terms c.requirements.result.now
+    c.keep_hits.new.kept.items c.requirements.ensures.terms c.keep_hits.ensures.kept in
+    with_hits (seen_as c.self.inside.nodes c.self.inside.index c.self.inside.kept.items (vec_capacity c.self.inside.kept) (vec_capacity c.self.inside.answers))
     c.keep_hits.new.kept.items own (vec_capacity c.keep_hits.new.kept) (vec_capacity c.is_accepted.new.answers) is c.keep_hits.ensures.room c.is_accepted.ensures.room
     ∙ ap (λ (e : Evaluation). record e { hits = own }) c.self.view_is
 
 pub returns-clause-bound : goal.returns-clause-bound
 returns-clause-bound g c =
-    let are = entries_are (policy_of c.args.policy.now) (record_of c.args.krate.now) c.args.expression.now.terms c.requirements.result.now c.first_exception-exception.result
-    c.requirements.ensures.terms c.first_exception-exception.ensures in
+    let are = ap (entries_of_terms (policy_of c.args.policy.now) c.args.exceptions.now) c.requirements.ensures.terms in
     let bound = c.keep_hits.ensures.bound in
     omega arith

@@ -1,6 +1,9 @@
 -- Each key is read as if it were the first, and so are the faults at the end.
-use Rattle.std.proofs.Common.{◌≡◌, Bool, true, false, List, [], ◌∷◌, Option, refl, ap, subst, ◌∙◌}
-use Rattle.std.specs.Prelude.{codes, unwrap_or}
+use Rattle.std.proofs.Common.{◌≡◌, Bool, true, false, List, [], ◌∷◌, Option, refl, ap, subst, ◌∙◌, rules}
+use Rattle.std.proofs.lemmas.Int.{to_z-of_z}
+use mir.Syntax.{w32}
+use mir.Val.{SFits}
+use Rattle.std.specs.Prelude.{ℤ, pos, codes, unwrap_or}
 use Rattle.deny_text.specs.declared.span.Span.{Span}
 use Rattle.toml_subset.specs.Data.{Entries}
 use Rattle.toml_subset.specs.shapes.Shaped.{AnswersShape, shaped_of}
@@ -26,8 +29,9 @@ use Rattle.policy_core.specs.config.Places.{places_there}
 use Rattle.policy_core.specs.declared.config.config.Config.{Config}
 use Rattle.policy_core.proofs.config.config.ConfigFromKeys.read_keys.Goals as goal
 
-abbrev made : Private → Hundredths → List Licensee → LintLevel → List Clarification → List Exception → LintLevel → Bool → Bool → List Span → Config
-made p t l u c e v d b s = record {
+abbrev made : ℤ → Private → Hundredths → List Licensee → LintLevel → List Clarification → List Exception → LintLevel → Bool → Bool → List Span → Config
+made n p t l u c e v d b s = record {
+  version = n;
   private = p;
   confidence_threshold = t;
   allow = l;
@@ -40,20 +44,21 @@ made p t l u c e v d b s = record {
   deprecated_spans = s;
 }
 
-same : {p p' : Private} {t t' : Hundredths} {l l' : List Licensee} {u u' : LintLevel} {c c' : List Clarification} {e e' : List Exception} {v v' : LintLevel} {d d' : Bool} {b b' : Bool} {s s' : List Span}
-    → p ≡ p' → t ≡ t' → l ≡ l' → u ≡ u' → c ≡ c' → e ≡ e' → v ≡ v' → d ≡ d' → b ≡ b' → s ≡ s'
-    → made p t l u c e v d b s ≡ made p' t' l' u' c' e' v' d' b' s'
-same {p} {p'} {t} {t'} {l} {l'} {u} {u'} {c} {c'} {e} {e'} {v} {v'} {d} {d'} {b} {b'} {s} {s'} e0 e1 e2 e3 e4 e5 e6 e7 e8 e9 =
-    ap (λ x. made x t l u c e v d b s) e0
-    ∙ ap (λ x. made p' x l u c e v d b s) e1
-    ∙ ap (λ x. made p' t' x u c e v d b s) e2
-    ∙ ap (λ x. made p' t' l' x c e v d b s) e3
-    ∙ ap (λ x. made p' t' l' u' x e v d b s) e4
-    ∙ ap (λ x. made p' t' l' u' c' x v d b s) e5
-    ∙ ap (λ x. made p' t' l' u' c' e' x d b s) e6
-    ∙ ap (λ x. made p' t' l' u' c' e' v' x b s) e7
-    ∙ ap (λ x. made p' t' l' u' c' e' v' d' x s) e8
-    ∙ ap (λ x. made p' t' l' u' c' e' v' d' b' x) e9
+same : {n n' : ℤ} {p p' : Private} {t t' : Hundredths} {l l' : List Licensee} {u u' : LintLevel} {c c' : List Clarification} {e e' : List Exception} {v v' : LintLevel} {d d' : Bool} {b b' : Bool} {s s' : List Span}
+    → n ≡ n' → p ≡ p' → t ≡ t' → l ≡ l' → u ≡ u' → c ≡ c' → e ≡ e' → v ≡ v' → d ≡ d' → b ≡ b' → s ≡ s'
+    → made n p t l u c e v d b s ≡ made n' p' t' l' u' c' e' v' d' b' s'
+same {n} {n'} {p} {p'} {t} {t'} {l} {l'} {u} {u'} {c} {c'} {e} {e'} {v} {v'} {d} {d'} {b} {b'} {s} {s'} e0 e1 e2 e3 e4 e5 e6 e7 e8 e9 e10 =
+    ap (λ x. made x p t l u c e v d b s) e0
+    ∙ ap (λ x. made n' x t l u c e v d b s) e1
+    ∙ ap (λ x. made n' p' x l u c e v d b s) e2
+    ∙ ap (λ x. made n' p' t' x u c e v d b s) e3
+    ∙ ap (λ x. made n' p' t' l' x c e v d b s) e4
+    ∙ ap (λ x. made n' p' t' l' u' x e v d b s) e5
+    ∙ ap (λ x. made n' p' t' l' u' c' x v d b s) e6
+    ∙ ap (λ x. made n' p' t' l' u' c' e' x d b s) e7
+    ∙ ap (λ x. made n' p' t' l' u' c' e' v' x b s) e8
+    ∙ ap (λ x. made n' p' t' l' u' c' e' v' d' x s) e9
+    ∙ ap (λ x. made n' p' t' l' u' c' e' v' d' b' x) e10
 
 -- a value that may be left out
 value_is : {A : Type 0} {x : A} (d : A) {o p : Option A} → x ≡ unwrap_or o d → o ≡ p → x ≡ unwrap_or p d
@@ -67,7 +72,8 @@ returns g c =
     let lists = g.C.Catalog.lists c.args.catalog.now in
     let state = state_of c.args.table in
     let k0 : state ≡ begun [] state.left state.span = ap (λ (faults : List ShapeFault). record { left = state.left; span = state.span; faults = faults }) c.requires in
-    let k1 = c.in_ok-_version.ensures.after ∙ ap (after_row (key (codes "version") i32_of)) k0 in
+    let f1 = field (codes "version") i32_of [] state.left state c.in_ok-version.version refl (ap left k0) c.in_ok-version.ensures.read in
+    let k1 = c.in_ok-version.ensures.after ∙ ap (after_row (key (codes "version") i32_of)) k0 in
     let f2 = field (codes "private") private_of (codes "version" ∷ []) state.left (state_of c.optional.new.self) c.in_ok-private.private refl (ap left k1) c.in_ok-private.ensures.read in
     let k2 = c.in_ok-private.ensures.after ∙ ap (after_row (key (codes "private") private_of)) k1 in
     let f3 = c.take_removed-unlicensed.ensures.place ∙ passed_span (codes "unlicensed") (codes "version" ∷ codes "private" ∷ []) state.left (state_of c.optional-2.new.self) refl (ap left k2) in
@@ -103,8 +109,9 @@ returns g c =
     ∙ ap (λ x. places_there (key_span (codes "unlicensed") state.left ∷ key_span (codes "allow-osi-fsf-free") state.left ∷ key_span (codes "copyleft") state.left ∷ x ∷ c.take_removed-deny.result ∷ [])) f6
     ∙ ap (λ x. places_there (key_span (codes "unlicensed") state.left ∷ key_span (codes "allow-osi-fsf-free") state.left ∷ key_span (codes "copyleft") state.left ∷ key_span (codes "default") state.left ∷ x ∷ [])) f8
     in
-    let value = same (value_is no_private c.or_no_private.ensures f2) (value_is usual_threshold c.unwrap_or.ensures f7) (value_is [] c.or_empty.ensures f9) (value_is Warn c.unwrap_or-2.ensures f10)
-    (value_is [] c.or_empty-2.ensures f11) (value_is [] c.or_empty-3.ensures f12) (value_is Warn c.unwrap_or-3.ensures f13) (value_is false c.unwrap_or-4.ensures f14)
-    (value_is true c.unwrap_or-5.ensures f15) spans in
+    let fits : SFits w32 c.unwrap_or.result = search rules in
+    let value = same (to_z-of_z w32 c.unwrap_or.result fits ∙ value_is (pos 1) c.unwrap_or.ensures f1) (value_is no_private c.or_no_private.ensures f2) (value_is usual_threshold c.unwrap_or-2.ensures f7)
+    (value_is [] c.or_empty.ensures f9) (value_is Warn c.unwrap_or-3.ensures f10) (value_is [] c.or_empty-2.ensures f11) (value_is [] c.or_empty-3.ensures f12)
+    (value_is Warn c.unwrap_or-4.ensures f13) (value_is false c.unwrap_or-5.ensures f14) (value_is true c.unwrap_or-6.ensures f15) spans in
     subst (λ r. AnswersShape r c.finish.result) (finished [] (config_rows lists) state.left state.span (state_of c.optional-10.new.self) _ refl k15
     ∙ ap (shaped_of (table_faults [] (config_rows lists) state.left state.span)) value) c.finish.ensures

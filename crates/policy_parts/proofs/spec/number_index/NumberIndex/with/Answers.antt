@@ -1,4 +1,4 @@
-use Rattle.std.proofs.Common.{sym, ap, length, ◌∙◌, [], ◌∷◌, ◌++◌, List, ℕ, subst}
+use Rattle.std.proofs.Common.{sym, ap, length, subst}
 use Rattle.policy_parts.specs.spec.Index.{HasFurther, HasNumberPlaces}
 use Rattle.policy_parts.proofs.spec.IndexLemmas.{has_further}
 use Rattle.policy_parts.proofs.spec.number_index.NumberIndex.with.Goals as goal
