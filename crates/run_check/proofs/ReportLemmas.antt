@@ -4,10 +4,16 @@ use Rattle.std.specs.Prelude.{All}
 use Rattle.tree_core.specs.Call.{Call}
 use Rattle.tree_core.specs.Content.{Content}
 use Rattle.diag_core.specs.File.{File}
+use Rattle.graph_core.specs.selection.Listed.{IsChosen, IsListOf, ReachedCrates, selected_in}
+use Rattle.graph_core.specs.selection.Walks.{Selected}
+use Rattle.graph_core.proofs.selection.SelectedLemmas.{selected-lists}
+use Rattle.graph_metadata.proofs.RisingLemmas.{graph-rising}
+use Rattle.graph_workspace.specs.Krates.{sparse_dir}
 use Rattle.policy_core.specs.Policy.{PolicyFound}
 use Rattle.policy_core.specs.valid.View.{policy_of}
 use Rattle.policy_core.specs.declared.valid.policy.ValidConfig.{ValidConfig}
 use Rattle.gather_core.specs.Calls.{CrateTurn}
+use Rattle.gather_core.specs.Gathered.{include_of}
 use Rattle.gather_core.specs.declared.summary.KrateLicense.{KrateLicense}
 use Rattle.gather_core.proofs.CrateTurns.{own_turns}
 use Rattle.spdx_core.specs.declared.certificates.verdict.Verdict.{Verdict}
@@ -16,7 +22,8 @@ use Rattle.check_core.specs.Labels.{VerdictPoints}
 use Rattle.check_core.specs.Summary.{gathered_of_licenses}
 use Rattle.run_overrides.specs.Levels.{packs_at}
 use Rattle.run_found.specs.Found.{files_loaded}
-use Rattle.run_found.specs.Hearing.{RequestHearing, tree_seen}
+use Rattle.run_found.specs.Hearing.{RequestHearing, TreeSeen, crates_heard, tree_seen}
+use Rattle.run_found.specs.Selection.{included_in}
 use Rattle.run_found.specs.Written.{SinkSeen}
 use Rattle.run_command.specs.declared.crates.CratesFound.{CratesFound}
 use Rattle.run_command.specs.Crates.{HasCrates}
@@ -26,16 +33,23 @@ use Rattle.run_command.specs.Settled.{IsSettled}
 use Rattle.run_command.proofs.SettledLemmas.{hears, hears_so, is_settled}
 use Rattle.run_command.proofs.TurnLemmas.{own_files}
 use Rattle.run_check.specs.declared.check.CheckedCrates.{CheckedCrates}
+use Rattle.run_check.specs.declared.judged.JudgedCrates.{JudgedCrates}
 use Rattle.run_check.specs.declared.report.Report.{Report}
 use Rattle.run_check.specs.Found.{all_gathered}
+use Rattle.run_check.specs.Judged.{IsJudged, Judges}
 use Rattle.run_check.specs.Report.{IsReport, Reports, TellsFindings, verdicts_in}
 use Rattle.run_check.specs.Steps.{IsCheckOf, IsCheckedOn, checked_by, report_with}
+use Rattle.run_check.proofs.OrderAlike.{lists_alike}
 use Rattle.run_check.proofs.GatheredLemmas.{all_looked, labels_cut, reported_by, sources_told, verdicts_reported}
 
--- the least score of a text leaves the policy's file
+-- the least score of a text leaves the policy's file, and which crates are looked at
 file_at : (threshold : Option ℤ) (policy : ValidConfig) → (at_threshold threshold policy).file_id ≡ policy.file_id
 file_at None policy = refl
 file_at (Some threshold) policy = refl
+
+include_at : (threshold : Option ℤ) (policy : ValidConfig) → include_of (at_threshold threshold policy) ≡ include_of policy
+include_at None policy = refl
+include_at (Some threshold) policy = refl
 
 -- ---- by what was read
 
@@ -97,12 +111,42 @@ module _ (given : CommandArguments) (hearing : RequestHearing) (policy : ValidCo
 
 -- ---- over a tree
 
+-- the crates that are selected of those that are reached are those that are asked for
+module _ (given : CommandArguments) (hearing : RequestHearing) (policy : ValidConfig) (licenses : List KrateLicense) (last : List File) (settled : IsSettled given hearing policy licenses last) (chosen : ReachedCrates)
+    (is : IsChosen settled.asked.graph (choice_in given settled.asked.policy) chosen) where
+  same_include : include_of policy ≡ included_in settled.asked.policy
+  same_include = ap include_of settled.ordered.rest ∙ include_at given.options.threshold settled.asked.policy.licenses
+
+  pub crates_are : selected_in (include_of policy) chosen ≡ crates_heard hearing
+  crates_are =
+      lists_alike settled.asked.graph (graph-rising settled.asks.metadata.text sparse_dir settled.asked.graph settled.asks.metadata.tells) (Selected settled.asked.graph (choice_in given settled.asked.policy) (included_in settled.asked.policy))
+      (selected_in (include_of policy) chosen) settled.asked.crates
+      (subst (λ include. IsListOf settled.asked.graph (Selected settled.asked.graph (choice_in given settled.asked.policy) include) (selected_in (include_of policy) chosen)) same_include
+      (selected-lists settled.asked.graph (choice_in given settled.asked.policy) chosen is (include_of policy)))
+      settled.asks.selected
+      ∙ sym settled.crates
+
 module _ (given : CommandArguments) (carried : given.options.unsupported ≡ None) (told middle tells : Option Content) (begun mid after : ℕ) (old between more : List Call) (err : SinkSeen) (files : List File)
     (found : CratesFound) (has : HasCrates given (tree_seen told middle begun mid old between) err files found) where
-  pub report_ends : (last : List File) (checked : CheckedCrates)
+  pub judged_ends : (last : List File) (checked : CheckedCrates)
       → IsCheckedOn (scanner_of_given given found.policy) given.options.levels found.policy (tree_seen middle tells mid after between more) files last has.graph (choice_in given has.policy) checked
-      → Reports given (tree_seen told tells begun after old more) err (Ok (report_with checked last))
-  report_ends last checked done =
+      → Judges given (tree_seen told tells begun after old more) err (Ok (record { report = report_with checked last; krates = found.krates }))
+  judged_ends last checked done =
+      let hearing = hears given told middle tells begun mid after old between more err files found has done.gathered.crates in
       let settled = is_settled given told middle tells begun mid after old between more err files found has carried last done.licenses done.gathered in
-      hears_so given told middle tells begun mid after old between more err files found has carried last done.licenses done.gathered (λ hearing. IsReport given hearing (report_with checked last))
-      (is_reported given (hears given told middle tells begun mid after old between more err files found has done.gathered.crates) found.policy done.licenses last settled checked done.check done.points)
+      hears_so given told middle tells begun mid after old between more err files found has carried last done.licenses done.gathered (λ hearing. IsJudged given hearing (record { report = report_with checked last; krates = found.krates }))
+      (record {
+        report = is_reported given hearing found.policy done.licenses last settled checked done.check done.points;
+        crates =
+            ap (λ (policy : ValidConfig). selected_in (include_of policy) found.krates) (ap (λ (one : CheckedCrates). one.policy) done.check.is)
+            ∙ crates_are given hearing found.policy done.licenses last settled found.krates has.chosen;
+      })
+
+-- the report is the one that is asked for, whatever crates are beside it
+pub reports_of_judges : (given : CommandArguments) (tree : TreeSeen) (err : SinkSeen) (judged : JudgedCrates) → Judges given tree err (Ok judged) → Reports given tree err (Ok judged.report)
+reports_of_judges given tree err judged judges = record {
+  hearing = judges.hearing;
+  heard = judges.heard;
+  written = judges.written;
+  is_so = judges.is_so.report;
+}

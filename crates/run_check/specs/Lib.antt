@@ -3,6 +3,7 @@ pub mod Command
 pub mod Found
 pub mod Given
 pub mod Headline
+pub mod Judged
 pub mod Named
 pub mod Report
 pub mod Script

@@ -1,5 +1,5 @@
 //! The licences of all crates, and the check of them.
-//! Called by `report_since` of `command`; the level in `CheckCtx` may be any, no clause names it.
+//! Called by `judged_since` of `command`; the level in `CheckCtx` may be any, no clause names it.
 ghost use Rattle.std.specs.Prelude.{◌≡◌, All, IfOk, OnErr};
 ghost use Rattle.graph_core.specs.Metadata.{Graph};
 ghost use Rattle.graph_core.specs.selection.Choice.{Choice};
@@ -73,7 +73,7 @@ pub(crate) fn settle_and_judge<T: Tree, C: Catalog, I: Identifier>(
     alloc: Global,
     policy: ValidConfig,
     overrides: DiagnosticOverrides,
-    krates: Krates,
+    krates: &Krates,
     files: &mut Files,
     tree: &mut T,
     catalog: &C,
@@ -82,16 +82,16 @@ pub(crate) fn settle_and_judge<T: Tree, C: Catalog, I: Identifier>(
     requires { PolicyStands files.old policy }
     // of each graph and choice that the crates are of, and of any levels that the overrides put findings at
     ensures checked { IfOk result (λ checked. (graph : Graph) (choice : Choice) (levels : LintLevels)
-        → IsChosen graph choice krates → PutAtLevels levels overrides
+        → IsChosen graph choice krates.now → PutAtLevels levels overrides
         → IsCheckedOn (scanner_of_policy (C.lists catalog.now) (I.match_of identifier.now) policy) levels policy
         (seen_between T.content T.fault_count T.trace tree.old tree.new)
         files.old files.new graph choice checked) }
-    ensures cut { OnErr result ((graph : Graph) (choice : Choice) → IsChosen graph choice krates
+    ensures cut { OnErr result ((graph : Graph) (choice : Choice) → IsChosen graph choice krates.now
         → IsGatherCut (scanner_of_policy (C.lists catalog.now) (I.match_of identifier.now) policy) policy
         (seen_between T.content T.fault_count T.trace tree.old tree.new)
         files.old graph choice) }
     ensures labels { IfOk result (λ checked. All (PackLies files.new) checked.findings) }
 {
-    let summary = licenses_found(alloc, &policy, &krates, files, tree, catalog, identifier)?;
-    judge_and_report(alloc, policy, overrides, &krates, files, summary)
+    let summary = licenses_found(alloc, &policy, krates, files, tree, catalog, identifier)?;
+    judge_and_report(alloc, policy, overrides, krates, files, summary)
 }

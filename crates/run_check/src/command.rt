@@ -10,12 +10,14 @@ ghost use Rattle.run_command.specs.Given.{command_arguments_of};
 ghost use Rattle.run_check.specs.Carried.{unsupported_of};
 ghost use Rattle.run_check.specs.Command.{IsCheckRun};
 ghost use Rattle.run_check.specs.Given.{check_arguments_of, report_options};
+ghost use Rattle.run_check.specs.Judged.{JudgedLabelsLie, Judges};
 ghost use Rattle.run_check.specs.Report.{LabelsLie, Reports};
 ghost use Rattle.run_check.specs.Script.{WritesCheck};
 ghost use Rattle.run_check.specs.Steps.{report_with};
 
 use crate::carried::unsupported_in;
 use crate::check::{CheckedCrates, settle_and_judge};
+use crate::judged::JudgedCrates;
 use crate::report::Report;
 use diag_core::Files;
 use diag_print::{LogContext, index_packs, print_packs};
@@ -49,6 +51,53 @@ fn report_of(log_ctx: LogContext, checked: CheckedCrates, files: Files) -> Repor
     }
 }
 
+/// The report that a request asks for, all of which is carried, its findings at these levels, and the crates that
+/// it is about. What is reported of the policy's load is written to the sink; what was found is not.
+pub fn judged_since<T: Tree, S: Sink, C: Catalog, I: Identifier>(
+    alloc: Global,
+    tree: &mut T,
+    err: &mut S,
+    catalog: &C,
+    identifier: &I,
+    log_ctx: LogContext,
+    levels: &LintLevels,
+    context: &KrateContext,
+) -> Result<JudgedCrates, Error>
+    requires { unsupported_part context.now [] ≡ None }
+    ensures judges { Judges (command_arguments_of (C.lists catalog.now) (I.match_of identifier.now)
+        log_ctx context.now (report_options levels.now None))
+        (seen_between T.content T.fault_count T.trace tree.old tree.new)
+        (sink_between S.written S.fault_count err.old err.new) result }
+    ensures labels { JudgedLabelsLie result }
+    ensures counts { IfErr result (λ error. ReadCounts
+        (T.fault_count tree.old) (T.fault_count tree.old) (T.fault_count tree.new) (cause_of error)) }
+    ensures later { S.fault_count err.old ≤ S.fault_count err.new }
+{
+    let use_of = PolicyUse {
+        levels,
+        with_flags: true,
+        threshold: None,
+    };
+    let mut files = Files::new(alloc);
+    let found = crates_found(
+        alloc, context, log_ctx, &use_of, &mut files, tree, err, catalog,
+    )?;
+    let checked = settle_and_judge(
+        alloc,
+        found.policy,
+        found.overrides,
+        &found.krates,
+        &mut files,
+        tree,
+        catalog,
+        identifier,
+    )?;
+    Ok(JudgedCrates {
+        report: report_of(log_ctx, checked, files),
+        krates: found.krates,
+    })
+}
+
 /// The report that a request asks for, all of which is carried, its findings at these levels. What is
 /// reported of the policy's load is written to the sink; what was found is not.
 pub fn report_since<T: Tree, S: Sink, C: Catalog, I: Identifier>(
@@ -71,26 +120,11 @@ pub fn report_since<T: Tree, S: Sink, C: Catalog, I: Identifier>(
         (T.fault_count tree.old) (T.fault_count tree.old) (T.fault_count tree.new) (cause_of error)) }
     ensures later { S.fault_count err.old ≤ S.fault_count err.new }
 {
-    let use_of = PolicyUse {
-        levels,
-        with_flags: true,
-        threshold: None,
-    };
-    let mut files = Files::new(alloc);
-    let found = crates_found(
-        alloc, context, log_ctx, &use_of, &mut files, tree, err, catalog,
+    let judged = judged_since(
+        alloc, tree, err, catalog, identifier, log_ctx, levels, context,
     )?;
-    let checked = settle_and_judge(
-        alloc,
-        found.policy,
-        found.overrides,
-        found.krates,
-        &mut files,
-        tree,
-        catalog,
-        identifier,
-    )?;
-    Ok(report_of(log_ctx, checked, files))
+    let JudgedCrates { report, .. } = judged;
+    Ok(report)
 }
 
 /// The report that a request asks for, all of which is carried, with what is printed of the policy's load,

@@ -5,8 +5,10 @@
 mod carried;
 mod check;
 pub mod command;
+pub mod judged;
 pub mod report;
 
 pub use carried::unsupported_in;
-pub use command::{check_since, cmd, report_since};
+pub use command::{check_since, cmd, judged_since, report_since};
+pub use judged::JudgedCrates;
 pub use report::{CrateReport, Report};

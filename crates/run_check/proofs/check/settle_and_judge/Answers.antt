@@ -26,7 +26,7 @@ returns-clause-checked g c =
     (g.T.Tree.trace c.args.tree.now) (g.T.Tree.trace c.licenses_found.new.tree) in
     IfOk-weaker c.judge_and_report.result
     (λ checked. ((levels : LintLevels) → PutAtLevels levels c.args.overrides → IsCheckOf levels policy nfos checked) × All (VerdictPoints last (policy_of policy)) (gathered_of_licenses nfos))
-    (λ checked. (graph : Graph) (choice : Choice) (levels : LintLevels) → IsChosen graph choice c.args.krates → PutAtLevels levels c.args.overrides
+    (λ checked. (graph : Graph) (choice : Choice) (levels : LintLevels) → IsChosen graph choice c.args.krates.now → PutAtLevels levels c.args.overrides
     → IsCheckedOn own levels policy tree c.args.files.now last graph choice checked)
     (λ checked both graph choice levels chosen put.
     record { licenses = nfos; gathered = c.in_ok-summary.ensures.gathered graph choice chosen; check = both.0 levels put; points = both.1 })
