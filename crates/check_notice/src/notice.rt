@@ -199,7 +199,7 @@ fn progress_of<I: Identifier + TextLookup>(
 /// The notice of crates, in order: each that is accepted is told with the terms of its choice, each term with the
 /// number of its text. The text is the first of those that the crate comes with that is told to be this licence; else
 /// the one that is kept under the term's key. It is refused where a term has none.
-#[tactic(auto, using(crate::proofs::NoticeLemmas::notice_told))]
+#[tactic(auto, using(crate::proofs::NoticeLemmas::notice_told, crate::proofs::NoticeLemmas::notice_missing))]
 pub fn notice_of<I: Identifier + TextLookup>(
     alloc: Global,
     sources: &[NoticeSource<'_>],

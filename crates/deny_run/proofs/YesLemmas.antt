@@ -95,7 +95,7 @@ module _ (asked : CommandRequest) (path : List ℕ) (tree : TreeSeen) (out err :
         comes = record { named = by.named; heard = by.heard };
         bytes = right.text;
         made = made_as
-            (ap (λ (rest : List Call). there_call asked ∷ rest) (sym (append_assoc (lists_calls (handed_in asked.command) asked.own by.hearing) (calls_of own right.hearing) read)))
+            (ap (λ (rest : List Call). there_call asked ∷ rest) (sym (append_assoc (lists_calls (handed_in asked) asked.own by.hearing) (calls_of own right.hearing) read)))
             (made_joined by.made right.made);
         tells = right.tells;
       }
