@@ -62,6 +62,13 @@ compare rejected-json "$top/examples/rejected" "'$program' deny --metadata-path 
 metadata "$top/examples/policy"
 compare policy-old "$top/examples/policy" "'$program' deny --metadata-path '$room/metadata.json' --config old.toml check licenses"
 
+# A bill, and whether it has changed under another policy.
+metadata "$top/examples/workspace"
+asks="'$program' --metadata-path '$room/metadata.json'"
+words="bill --name workspace-1.0 --namespace https://example.org/spdx/workspace-1.0 --created 2024-05-01T12:00:00Z"
+compare bill "$top/examples/workspace" "$asks $words"
+compare bill-changed "$top/examples/workspace" "$asks $words >'$room/old' && sed 's/\"ISC\", //' deny.toml >'$room/p.toml' && $asks --config '$room/p.toml' $words --against '$room/old'"
+
 # An exception that is tied to a file: a record that was right before a word of the file changed, and a check behind that.
 folder="$room/reviewed"
 cp -R "$top/examples/reviewed" "$folder"

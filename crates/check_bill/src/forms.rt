@@ -6,7 +6,7 @@ ghost use Rattle.check_bill.specs.Bills.{is_in_line, is_visible};
 
 /// What a text of a bill has to be.
 #[derive(Clone, Copy, Debug, PartialEq, Eq)]
-pub(crate) enum TextForm {
+pub enum TextForm {
     /// One or more characters from `!` to `~`.
     Word,
     /// A moment such as `2024-05-01T12:00:00Z`.
@@ -130,7 +130,7 @@ fn is_moment(text: &[u8]) -> bool
 
 impl TextForm {
     /// Whether a text has this form.
-    pub(crate) fn is_of(self, text: &str) -> bool
+    pub fn is_of(self, text: &str) -> bool
         ensures { result ≡ spec.is_of self text.now }
     {
         let text = text.as_bytes();

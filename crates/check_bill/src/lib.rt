@@ -3,7 +3,7 @@
 
 pub mod bill;
 pub mod error;
-mod forms;
+pub mod forms;
 pub mod laws;
 mod parts;
 pub mod reading;
@@ -12,5 +12,6 @@ pub mod writing;
 
 pub use bill::{Bill, BillPackage, BillPackages, is_same};
 pub use error::BillError;
+pub use forms::TextForm;
 pub use reading::read_bill;
 pub use writing::{bill_bytes, write_bill};

@@ -9,7 +9,7 @@ use Rattle.spdx_terms.specs.declared.catalog.identifier.Match.{Match}
 use Rattle.run_request.specs.declared.list.ListArgs.{ListArgs}
 use Rattle.run_request.specs.declared.request.Request.{Request}
 use Rattle.run_request.specs.declared.request.Subcommand.{Subcommand}
-use Rattle.run_request.specs.declared.request.Subcommand.TheVariants.{Check, List as Listing, Sample, Record, Verify}
+use Rattle.run_request.specs.declared.request.Subcommand.TheVariants.{Check, List as Listing, Sample, Record, Verify, Bill}
 use Rattle.run_found.specs.declared.error.Error.{Error}
 use Rattle.run_found.specs.declared.error.Error.TheVariants.{Memory}
 use Rattle.run_found.specs.declared.reads.CrateRead.{CrateRead}
@@ -29,13 +29,14 @@ use Rattle.run_list.specs.Listing.{IsListing}
 use Rattle.run_record.specs.Recorded.{IsRecorded, file_in, reads_in}
 use Rattle.deny_run.specs.declared.outcome.Outcome.{Outcome}
 use Rattle.deny_run.specs.declared.outcome.RunEnd.{RunEnd}
-use Rattle.deny_run.specs.declared.outcome.RunEnd.TheVariants.{Checked, Listed, Recorded, Verified}
+use Rattle.deny_run.specs.declared.outcome.RunEnd.TheVariants.{Checked, Listed, Recorded, Verified, Billed}
 use Rattle.deny_run.specs.Check.{Checks}
-use Rattle.deny_run.specs.Complete.{AsksCommand, EndsAs, EndsLawful, IsComplete, IsWanting, MayEndVerify}
-use Rattle.deny_run.specs.Ends.{Answers, AnswersOf, Ends, IsOutcome, ListsAs, RecordsAs, RunsAs, VerifiesAs, end_of}
+use Rattle.deny_run.specs.Complete.{AsksCommand, EndsAs, EndsLawful, IsComplete, IsWanting, MayEndBill, MayEndVerify}
+use Rattle.deny_run.specs.Ends.{Answers, AnswersOf, BillsAs, Ends, IsOutcome, ListsAs, RecordsAs, RunsAs, VerifiesAs, end_of}
 use Rattle.deny_run.specs.Given.{RunArguments, asked_of, options_of}
 use Rattle.deny_run.specs.Seen.{IsWithoutFault, RunSeen, sink_to}
 use Rattle.deny_run.specs.Words.{HasRequest}
+use Rattle.deny_run.proofs.BillLemmas.{bill_wanting, bills_lawful, bills_made}
 use Rattle.deny_run.proofs.CheckLemmas.{checks_lawful, checks_made, rose_less}
 use Rattle.deny_run.proofs.EndLemmas.{EndsBy, ends_as}
 use Rattle.deny_run.proofs.RunLemmas.{lists_made, records_made}
@@ -95,6 +96,9 @@ module _ (lists : CatalogLists) (match_of : List ℕ → Match) (request : Reque
   request_lawful (Verify path) runs options is lawful =
       run_lawful Verified _ (VerifiesAs path) seen answer runs MayEndVerify verify_wanting (λ own rest is_done. verifies_made own path rest seen.err seen.out runs.value is_done)
       (λ own rest apart is_done. verifies_lawful own path rest seen.err seen.out apart out_quiet err_quiet runs.value is_done) (at_options _ options is lawful)
+  request_lawful (Bill args) runs options is lawful =
+      run_lawful Billed _ (BillsAs args) seen answer runs MayEndBill bill_wanting (λ own rest is_done. bills_made own args rest seen.err seen.out runs.value is_done)
+      (λ own rest apart is_done. bills_lawful own args rest seen.err seen.out apart out_quiet err_quiet runs.value is_done) (at_options _ options is lawful)
 
 -- ---- a run
 
@@ -108,6 +112,7 @@ lost_lawful (Listing args) answer is = lost_as Listed IsWanting tt answer is
 lost_lawful (Sample size) answer is = tt
 lost_lawful Record answer is = lost_as Recorded IsWanting tt answer is
 lost_lawful (Verify path) answer is = lost_as Verified MayEndVerify tt answer is
+lost_lawful (Bill args) answer is = lost_as Billed MayEndBill tt answer is
 
 module _ (given : RunArguments) (seen : RunSeen) (outcome : Outcome) (is : IsOutcome given seen outcome.request outcome.ended) where
   abbrev first : RunSeen

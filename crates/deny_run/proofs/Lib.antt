@@ -1,3 +1,4 @@
+pub mod BillLemmas
 pub mod CheckLemmas
 pub mod EndLemmas
 pub mod HeadlineLemmas

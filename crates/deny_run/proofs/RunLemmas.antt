@@ -10,7 +10,7 @@ use Rattle.spdx_terms.specs.declared.catalog.identifier.Match.{Match}
 use Rattle.run_request.specs.declared.list.ListArgs.{ListArgs}
 use Rattle.run_request.specs.declared.request.Request.{Request}
 use Rattle.run_request.specs.declared.request.Subcommand.{Subcommand}
-use Rattle.run_request.specs.declared.request.Subcommand.TheVariants.{Check, List as Listing, Sample, Record, Verify}
+use Rattle.run_request.specs.declared.request.Subcommand.TheVariants.{Check, List as Listing, Sample, Record, Verify, Bill}
 use Rattle.run_found.specs.declared.error.Error.{Error}
 use Rattle.run_found.specs.declared.error.Error.TheVariants.{ConfigRead, Memory, NotCarried}
 use Rattle.run_found.specs.declared.reads.CrateRead.{CrateRead}
@@ -28,16 +28,17 @@ use Rattle.run_list.specs.Listing.{IsListing}
 use Rattle.run_record.specs.Recorded.{IsRecorded, file_in, reads_in}
 use Rattle.run_record.specs.declared.verdicts.VerifiedCrates.{VerifiedCrates}
 use Rattle.deny_run.specs.declared.outcome.RunEnd.{RunEnd}
-use Rattle.deny_run.specs.declared.outcome.RunEnd.TheVariants.{Checked, Listed, Sampled, Recorded, Verified, Shown, Usage, Refused}
+use Rattle.deny_run.specs.declared.outcome.RunEnd.TheVariants.{Checked, Listed, Sampled, Recorded, Verified, Billed, Shown, Usage, Refused}
 use Rattle.deny_run.specs.Check.{Checks}
 use Rattle.deny_run.specs.Complete.{AsksCommand}
-use Rattle.deny_run.specs.Ends.{Answers, AnswersOf, IsEndBy, ListsAs, RecordsAs, RunsAs, VerifiesAs, as_end, end_of}
+use Rattle.deny_run.specs.Ends.{Answers, AnswersOf, BillsAs, IsEndBy, ListsAs, RecordsAs, RunsAs, VerifiesAs, as_end, end_of}
 use Rattle.deny_run.specs.Given.{RunArguments, options_of}
 use Rattle.deny_run.specs.Sample.{Samples}
 use Rattle.deny_run.specs.Seen.{RunSeen}
 use Rattle.deny_run.specs.Words.{AnswersNone, IsUnshown, lost, mistaken, shown, unshown}
+use Rattle.deny_run.proofs.BillLemmas.{bills_made, bills_never}
 use Rattle.deny_run.proofs.CheckLemmas.{checks_made, checks_never}
-use Rattle.deny_run.proofs.EndLemmas.{IsNoRefusal, checked_apart, listed_apart, recorded_apart, refused_as, refused_end, sampled_apart, verified_apart}
+use Rattle.deny_run.proofs.EndLemmas.{IsNoRefusal, billed_apart, checked_apart, listed_apart, recorded_apart, refused_as, refused_end, sampled_apart, verified_apart}
 use Rattle.deny_run.proofs.VerifyLemmas.{verifies_made, verifies_never}
 
 -- ---- of each command
@@ -88,6 +89,7 @@ module _ (lists : CatalogLists) (match_of : List ℕ → Match) (request : Reque
   request_made (Sample size) ends = some_made ends.is_so.0
   request_made Record runs = run_made Recorded _ RecordsAs seen answer runs (λ own rest value done. records_made seen.out seen.err own rest value done)
   request_made (Verify path) runs = run_made Verified _ (VerifiesAs path) seen answer runs (λ own rest value done. verifies_made own path rest seen.err seen.out value done)
+  request_made (Bill args) runs = run_made Billed _ (BillsAs args) seen answer runs (λ own rest value done. bills_made own args rest seen.err seen.out value done)
 
   sample_never : (size : ℕ) (value : Result Report Error) → Samples size lists match_of seen.out seen.err value → value ≡ Err (ConfigRead Absent) → ⊥
   sample_never size (Ok report) samples e = absurd (cc)
@@ -105,6 +107,7 @@ module _ (lists : CatalogLists) (match_of : List ℕ → Match) (request : Reque
   request_never (Sample size) ends = λ e. sample_never size ends.value ends.is_so.1 (refused_as Sampled sampled_apart ends.value (ConfigRead Absent) (sym (ap end_of ends.is) ∙ e))
   request_never Record runs = run_never Recorded _ RecordsAs seen answer runs recorded_apart (λ own rest done. writes_never own rest seen.err seen.out (IsRecorded own) file_in reads_in done.0)
   request_never (Verify path) runs = run_never Verified _ (VerifiesAs path) seen answer runs verified_apart (λ own rest done. verifies_never own path rest seen.err seen.out done)
+  request_never (Bill args) runs = run_never Billed _ (BillsAs args) seen answer runs billed_apart (λ own rest done. bills_never own args rest seen.err seen.out done)
 
   pub request_ends : (command : Subcommand) → Answers lists match_of request command seen answer → (own : RunEnd) (error : Error) → answer ≡ Ok own → own ≡ Refused error → ⊥
   request_ends (Check args) runs = run_ends Checked _ (Checks args.show_stats) seen answer runs checked_apart
@@ -116,6 +119,7 @@ module _ (lists : CatalogLists) (match_of : List ℕ → Match) (request : Reque
       value_ends (Err refusal) found own error is own_is = absurd (cc)
   request_ends Record runs = run_ends Recorded _ RecordsAs seen answer runs recorded_apart
   request_ends (Verify path) runs = run_ends Verified _ (VerifiesAs path) seen answer runs verified_apart
+  request_ends (Bill args) runs = run_ends Billed _ (BillsAs args) seen answer runs billed_apart
 
   same_options : {one other : CommandOptions} → Some one ≡ Some other → one ≡ other
   same_options e = cc
@@ -127,6 +131,7 @@ module _ (lists : CatalogLists) (match_of : List ℕ → Match) (request : Reque
   request_unsupported (Sample size) ends options what is none = absurd (cc)
   request_unsupported Record runs options what is none = run_unsupported Recorded _ RecordsAs seen answer runs what (ap (λ (own : CommandOptions). own.unsupported) (same_options is) ∙ none)
   request_unsupported (Verify path) runs options what is none = run_unsupported Verified _ (VerifiesAs path) seen answer runs what (ap (λ (own : CommandOptions). own.unsupported) (same_options is) ∙ none)
+  request_unsupported (Bill args) runs options what is none = run_unsupported Billed _ (BillsAs args) seen answer runs what (ap (λ (own : CommandOptions). own.unsupported) (same_options is) ∙ none)
 
 -- ---- of words
 

@@ -8,7 +8,7 @@ use Rattle.tree_core.specs.declared.texts.fault.ReadFault.TheVariants.{Absent}
 use Rattle.policy_core.specs.declared.valid.policy.ValidConfig.{ValidConfig}
 use Rattle.gather_core.specs.declared.summary.KrateLicense.{KrateLicense}
 use Rattle.run_found.specs.declared.error.Error.{Error}
-use Rattle.run_found.specs.declared.error.Error.TheVariants.{Memory, NotCarried, ManifestPath, ManifestRead, CatalogRead, CatalogSyntax, StoreRead, ConfigRead, ConfigSyntax, ConfigShape, ConfigInvalid, OverrideTwice, MetadataRead, MetadataSyntax, MetadataShape, NoRoots, RecordRead, RecordSyntax, WriteFault}
+use Rattle.run_found.specs.declared.error.Error.TheVariants.{Memory, NotCarried, ManifestPath, ManifestRead, CatalogRead, CatalogSyntax, StoreRead, ConfigRead, ConfigSyntax, ConfigShape, ConfigInvalid, OverrideTwice, MetadataRead, MetadataSyntax, MetadataShape, NoRoots, RecordRead, RecordSyntax, BillText, BillRead, BillSyntax, WriteFault}
 use Rattle.run_found.specs.Error.{MayEndLawful, cause_of}
 use Rattle.run_found.specs.Hearing.{HasMade, TreeSeen}
 use Rattle.run_found.specs.Written.{SinkSeen}
@@ -35,7 +35,7 @@ told_end policy licenses count answer (RecordRead fault reads) tells = tt
 told_end policy licenses count answer RecordSyntax tells = tt
 told_end policy licenses count answer _ tells = absurd tells
 
-no_fault : (before after : ℕ) (error : Error) → (Rose before after → ⊥) → IsWriteFault before after error → ⊥
+pub no_fault : (before after : ℕ) (error : Error) → (Rose before after → ⊥) → IsWriteFault before after error → ⊥
 no_fault before after (WriteFault first last) quiet refused = quiet refused.2
 no_fault before after _ quiet refused = refused
 

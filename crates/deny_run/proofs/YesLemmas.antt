@@ -8,7 +8,7 @@ use Rattle.tree_core.proofs.MadeLemmas.{made_as, made_joined}
 use Rattle.check_verify.specs.declared.answer.VerifyAnswer.TheVariants.{Yes}
 use Rattle.run_request.specs.declared.request.Request.{Request}
 use Rattle.run_request.specs.declared.request.Subcommand.{Subcommand}
-use Rattle.run_request.specs.declared.request.Subcommand.TheVariants.{Check, List as Listing, Sample, Record, Verify}
+use Rattle.run_request.specs.declared.request.Subcommand.TheVariants.{Check, List as Listing, Sample, Record, Verify, Bill}
 use Rattle.run_found.specs.declared.error.Error.{Error}
 use Rattle.run_found.specs.Hearing.{MadeOn, TreeSeen}
 use Rattle.run_found.specs.Written.{SinkSeen}
@@ -26,7 +26,7 @@ use Rattle.run_record.specs.Yes.{TellsRight}
 use Rattle.run_record.proofs.YesLemmas.{yes_reads}
 use Rattle.deny_run.specs.declared.outcome.Outcome.{Outcome}
 use Rattle.deny_run.specs.declared.outcome.RunEnd.{RunEnd}
-use Rattle.deny_run.specs.declared.outcome.RunEnd.TheVariants.{Checked, Listed, Sampled, Recorded, Verified, Shown, Usage}
+use Rattle.deny_run.specs.declared.outcome.RunEnd.TheVariants.{Checked, Listed, Sampled, Recorded, Verified, Billed, Shown, Usage}
 use Rattle.deny_run.specs.Ends.{Answers, AnswersOf, IsOutcome, VerifiesAs, as_end, end_of}
 use Rattle.deny_run.specs.Given.{RunArguments, asked_of}
 use Rattle.deny_run.specs.Seen.{RunSeen, sink_to}
@@ -50,6 +50,9 @@ sampled_other value crates e = absurd (cc)
 
 recorded_other : IsNoVerify Recorded
 recorded_other value crates e = absurd (cc)
+
+billed_other : IsNoVerify Billed
+billed_other value crates e = absurd (cc)
 
 unverified : {X : Type 0} (end_by : X → RunEnd) → IsNoVerify end_by → (value : Result X Error) (crates : VerifiedCrates) → end_of (as_end end_by value) ≡ Verified crates → ⊥
 unverified {X} end_by apart (Ok value) crates e = apart value crates e
@@ -142,6 +145,7 @@ module _ (given : RunArguments) (seen : RunSeen) (outcome : Outcome) (is : IsOut
         by_command (Listing args) command_is runs = absurd (unverified Listed listed_other runs.value crates (sym (ap end_of runs.is) ∙ e))
         by_command (Sample size) command_is ends = absurd (unverified Sampled sampled_other ends.value crates (sym (ap end_of ends.is) ∙ e))
         by_command Record command_is runs = absurd (unverified Recorded recorded_other runs.value crates (sym (ap end_of runs.is) ∙ e))
+        by_command (Bill args) command_is runs = absurd (unverified Billed billed_other runs.value crates (sym (ap end_of runs.is) ∙ e))
         by_command (Verify path) command_is runs =
             let asked = asked_of given request (plain_options request.log_ctx request.krate_ctx) in
             let value_is = verified_as runs.value crates (sym (ap end_of runs.is) ∙ e) in

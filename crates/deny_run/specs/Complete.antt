@@ -1,5 +1,6 @@
 -- Lawful input without a fault: where nothing refuses the words, the request and the files, and no count rises, a run
--- ends as its command does, or for want of memory. The file that is to be verified may be refused too.
+-- ends as its command does, or for want of memory. The file that is to be verified may be refused too, and so may what
+-- goes into a bill and the file that it is compared with.
 use Rattle.std.specs.Prelude.{◌≡◌, ◌⊎◌, List, Some, ⊤}
 use Rattle.std.specs.Option.{ForSome}
 use Rattle.tree_core.specs.Call.{Call}
@@ -7,8 +8,9 @@ use Rattle.tree_core.specs.Content.{Content}
 use Rattle.run_request.specs.declared.request.Request.{Request}
 use Rattle.run_request.specs.declared.request.Subcommand.{Subcommand}
 use Rattle.run_request.specs.declared.request.Subcommand.TheVariants.{Check, List as Listing, Sample, Record, Verify}
+use Rattle.run_request.specs.declared.request.Subcommand.TheVariants.{Bill}
 use Rattle.run_found.specs.declared.error.Error.{Error}
-use Rattle.run_found.specs.declared.error.Error.TheVariants.{RecordRead, RecordSyntax}
+use Rattle.run_found.specs.declared.error.Error.TheVariants.{RecordRead, RecordSyntax, BillText, BillRead, BillSyntax}
 use Rattle.run_found.specs.Error.{MayEndLawful, cause_of}
 use Rattle.run_found.specs.own_names.Given.{ListsGiven}
 use Rattle.run_command.specs.Given.{CommandOptions}
@@ -16,7 +18,7 @@ use Rattle.run_command.specs.Lawful.{CommandHearing, IsLawfulOver, IsLawfulRun}
 use Rattle.run_command.specs.Stops.{PolicyAndCrates}
 use Rattle.deny_run.specs.declared.outcome.Outcome.{Outcome}
 use Rattle.deny_run.specs.declared.outcome.RunEnd.{RunEnd}
-use Rattle.deny_run.specs.declared.outcome.RunEnd.TheVariants.{Checked, Listed, Recorded, Verified, Refused}
+use Rattle.deny_run.specs.declared.outcome.RunEnd.TheVariants.{Checked, Listed, Recorded, Verified, Billed, Refused}
 use Rattle.deny_run.specs.Given.{RunArguments, asked_of, options_of}
 use Rattle.deny_run.specs.Seen.{IsWithoutFault, RunSeen}
 use Rattle.deny_run.specs.Words.{HasRequest}
@@ -35,6 +37,13 @@ MayEndVerify (RecordRead fault reads) = ⊤
 MayEndVerify RecordSyntax = ⊤
 MayEndVerify error = IsWanting error
 
+-- a crate's name does not fit, the file was not read or is no bill, or memory was wanting
+abbrev pub MayEndBill : Error → Type 0
+MayEndBill (BillText id) = ⊤
+MayEndBill (BillRead fault reads) = ⊤
+MayEndBill BillSyntax = ⊤
+MayEndBill error = IsWanting error
+
 -- how a command ends; of a sample it is said where that is described
 abbrev pub EndsLawful : Subcommand → RunEnd → Type 0
 EndsLawful (Check args) ended = EndsAs Checked IsWanting ended
@@ -42,6 +51,7 @@ EndsLawful (Listing args) ended = EndsAs Listed IsWanting ended
 EndsLawful (Sample size) ended = ⊤
 EndsLawful Record ended = EndsAs Recorded IsWanting ended
 EndsLawful (Verify path) ended = EndsAs Verified MayEndVerify ended
+EndsLawful (Bill args) ended = EndsAs Billed MayEndBill ended
 
 -- the words ask for a command with these options
 pub record AsksCommand (given : RunArguments) (request : Request) (options : CommandOptions) : Type 0 where

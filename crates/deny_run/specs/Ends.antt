@@ -4,10 +4,12 @@ use Rattle.tree_core.specs.texts.Cause.{ReadCounts}
 use Rattle.spdx_terms.specs.catalog.Catalog.{CatalogLists}
 use Rattle.spdx_terms.specs.declared.catalog.identifier.Match.{Match}
 use Rattle.check_core.specs.Labels.{PackLies}
+use Rattle.run_request.specs.declared.bill.BillArgs.{BillArgs}
 use Rattle.run_request.specs.declared.list.ListArgs.{ListArgs}
 use Rattle.run_request.specs.declared.request.Request.{Request}
 use Rattle.run_request.specs.declared.request.Subcommand.{Subcommand}
 use Rattle.run_request.specs.declared.request.Subcommand.TheVariants.{Check, List as Listing, Sample, Record, Verify}
+use Rattle.run_request.specs.declared.request.Subcommand.TheVariants.{Bill}
 use Rattle.run_found.specs.declared.error.Error.{Error}
 use Rattle.run_found.specs.declared.error.Error.TheVariants.{Memory}
 use Rattle.run_found.specs.declared.reads.CrateRead.{CrateRead}
@@ -23,9 +25,12 @@ use Rattle.run_list.specs.Listing.{Lists}
 use Rattle.run_record.specs.declared.verdicts.VerifiedCrates.{VerifiedCrates}
 use Rattle.run_record.specs.Recorded.{Records}
 use Rattle.run_record.specs.Verified.{Verifies}
+use Rattle.run_bill.specs.declared.billed.BilledCrates.{BilledCrates}
+use Rattle.run_bill.specs.Billed.{Bills}
 use Rattle.deny_run.specs.declared.answer.Answered.{Answered}
 use Rattle.deny_run.specs.declared.outcome.RunEnd.{RunEnd}
-use Rattle.deny_run.specs.declared.outcome.RunEnd.TheVariants.{Checked, Listed, Sampled, Recorded, Verified, Refused}
+use Rattle.deny_run.specs.declared.outcome.RunEnd.TheVariants.{Checked, Listed, Sampled, Recorded, Verified, Billed}
+use Rattle.deny_run.specs.declared.outcome.RunEnd.TheVariants.{Refused}
 use Rattle.deny_run.specs.Check.{Checks}
 use Rattle.deny_run.specs.Given.{RunArguments}
 use Rattle.deny_run.specs.Sample.{Samples}
@@ -59,7 +64,7 @@ RunsAs {X} end_by asked IsDone seen answer =
     IsEndBy end_by
     (λ (value : Result X Error). Runs asked (IsDone seen.out seen.err) seen.tree seen.err seen.out value) answer
 
--- so a listing, a verdict file, of which nothing is written where memory was wanting, and whether one is right
+-- so a listing, a verdict file, of which nothing is written where memory was wanting, whether one is right, and a bill
 abbrev pub ListsAs : ListArgs → SinkSeen → SinkSeen → CommandArguments → TreeSeen → Result (List CrateRead) Error
     → Type 0
 ListsAs args out err own tree value = Lists (record { command = own; args = args }) tree err out value
@@ -70,6 +75,9 @@ RecordsAs out err own tree value = Records own tree err out value × (value ≡ 
 abbrev pub VerifiesAs : List ℕ → SinkSeen → SinkSeen → CommandArguments → TreeSeen → Result VerifiedCrates Error
     → Type 0
 VerifiesAs path out err own tree value = Verifies own path tree err out value
+
+abbrev pub BillsAs : BillArgs → SinkSeen → SinkSeen → CommandArguments → TreeSeen → Result BilledCrates Error → Type 0
+BillsAs args out err own tree value = Bills own args tree err out value
 
 -- what a run over a request answers, by its command; a sample makes no call on the tree
 abbrev pub Answers : CatalogLists → (List ℕ → Match) → Request → Subcommand → RunSeen → Result RunEnd Error → Type 0
@@ -87,6 +95,9 @@ Answers lists match_of request Record seen answer =
 Answers lists match_of request (Verify path) seen answer =
     RunsAs Verified (command_asked lists match_of request (plain_options request.log_ctx request.krate_ctx))
     (VerifiesAs path) seen answer
+Answers lists match_of request (Bill args) seen answer =
+    RunsAs Billed (command_asked lists match_of request (plain_options request.log_ctx request.krate_ctx))
+    (BillsAs args) seen answer
 
 -- ---- words
 

@@ -6,6 +6,7 @@ use Rattle.spdx_terms.specs.declared.catalog.identifier.Match.{Match}
 use Rattle.run_request.specs.declared.request.Request.{Request}
 use Rattle.run_request.specs.declared.request.Subcommand.{Subcommand}
 use Rattle.run_request.specs.declared.request.Subcommand.TheVariants.{Check, List as Listing, Sample, Record, Verify}
+use Rattle.run_request.specs.declared.request.Subcommand.TheVariants.{Bill}
 use Rattle.run_request.specs.Given.{texts}
 use Rattle.run_command.specs.Carried.{plain_options}
 use Rattle.run_command.specs.Given.{CommandRequest, CommandOptions, command_asked}
@@ -30,6 +31,7 @@ options_of request (Listing args) = Some (list_options request.log_ctx args requ
 options_of request (Sample size) = None
 options_of request Record = Some (plain_options request.log_ctx request.krate_ctx)
 options_of request (Verify path) = Some (plain_options request.log_ctx request.krate_ctx)
+options_of request (Bill args) = Some (plain_options request.log_ctx request.krate_ctx)
 
 -- what a request asks of a command with these options
 abbrev pub asked_of : RunArguments → Request → CommandOptions → CommandRequest

@@ -10,7 +10,7 @@ ghost use Rattle.deny_run.specs.Given.{run_arguments_of};
 ghost use Rattle.deny_run.specs.Seen.{run_seen};
 
 use crate::check::check_request;
-use crate::commands::{list_request, record_request, verify_request};
+use crate::commands::{bill_request, list_request, record_request, verify_request};
 use crate::outcome::RunEnd;
 use crate::words::{show, write_usage};
 use run_found::Error;
@@ -68,6 +68,12 @@ fn answer_request<T: Tree, O: Sink, E: Sink, C: Catalog, I: Identifier>(
             let path = path.as_path();
             match verify_request(alloc, request, path, tree, out, err, catalog, identifier) {
                 Ok(crates) => Ok(RunEnd::Verified(crates)),
+                Err(error) => Err(error),
+            }
+        }
+        Subcommand::Bill(args) => {
+            match bill_request(alloc, request, args, tree, out, err, catalog, identifier) {
+                Ok(crates) => Ok(RunEnd::Billed(crates)),
                 Err(error) => Err(error),
             }
         }

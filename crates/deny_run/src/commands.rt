@@ -1,5 +1,5 @@
-//! The commands `list`, `record` and `verify` of a request, behind what comes before each.
-//! Called by `answer_request` of `answer`; each of the three may change by itself, `Runs` ties none to another.
+//! The commands `list`, `record`, `verify` and `bill` of a request, behind what comes before each.
+//! Called by `answer_request` of `answer`; each of the four may change by itself, `Runs` ties none to another.
 ghost use Rattle.std.specs.Prelude.{◌≤◌, IfErr};
 ghost use Rattle.tree_core.specs.texts.Cause.{ReadCounts};
 ghost use Rattle.run_found.specs.Error.{cause_of};
@@ -9,13 +9,15 @@ ghost use Rattle.run_command.specs.Carried.{plain_options};
 ghost use Rattle.run_command.specs.Given.{command_asked};
 ghost use Rattle.run_command.specs.Prelude.{Runs};
 ghost use Rattle.run_list.specs.Given.{list_options};
-ghost use Rattle.deny_run.specs.Ends.{ListsAs, RecordsAs, VerifiesAs};
+ghost use Rattle.deny_run.specs.Ends.{BillsAs, ListsAs, RecordsAs, VerifiesAs};
 
+use run_bill::{BilledCrates, bill_since};
 use run_command::{lists_of_request, unsupported_in};
 use run_found::{CrateReads, Error};
 use run_list::list_since;
 use run_record::{VerifiedCrates, record_since, verify_since};
 use run_request::Request;
+use run_request::bill::BillArgs;
 use run_request::list::ListArgs;
 use spdx_core::{Catalog, Identifier};
 use std::alloc::Global;
@@ -143,6 +145,49 @@ pub(crate) fn verify_request<T: Tree, O: Sink, E: Sink, C: Catalog, I: Identifie
             request.log_ctx,
             &request.krate_ctx,
             path,
+        ),
+    }
+}
+
+/// A bill of the crates of a request is written to `out`, or it is told there whether one has changed; what is
+/// printed of the policy's load goes to `err`.
+pub(crate) fn bill_request<T: Tree, O: Sink, E: Sink, C: Catalog, I: Identifier>(
+    alloc: Global,
+    request: &Request,
+    args: &BillArgs,
+    tree: &mut T,
+    out: &mut O,
+    err: &mut E,
+    catalog: &C,
+    identifier: &I,
+) -> Result<BilledCrates, Error>
+    ensures runs { Runs
+        (command_asked (C.lists catalog.now) (I.match_of identifier.now) request.now
+        (plain_options request.now.log_ctx request.now.krate_ctx))
+        (BillsAs args.now
+        (sink_between O.written O.fault_count out.old out.new)
+        (sink_between E.written E.fault_count err.old err.new))
+        (seen_between T.content T.fault_count T.trace tree.old tree.new)
+        (sink_between E.written E.fault_count err.old err.new)
+        (sink_between O.written O.fault_count out.old out.new) result }
+    ensures counts { IfErr result (λ error. ReadCounts
+        (T.fault_count tree.old) (T.fault_count tree.old) (T.fault_count tree.new) (cause_of error)) }
+    ensures out_later { O.fault_count out.old ≤ O.fault_count out.new }
+    ensures err_later { E.fault_count err.old ≤ E.fault_count err.new }
+{
+    let unsupported = unsupported_in(request.log_ctx, &request.krate_ctx);
+    match lists_of_request(alloc, tree, request, unsupported, catalog, identifier) {
+        Err(error) => Err(error),
+        Ok(found) => bill_since(
+            alloc,
+            tree,
+            out,
+            err,
+            &found.catalog,
+            &found.identifier,
+            request.log_ctx,
+            &request.krate_ctx,
+            args,
         ),
     }
 }

@@ -18,6 +18,7 @@ pub use policy_load::{
     Diagnostics, ErrorKind, ReadFault, ShapeError, ShapeErrors, SyntaxError, SyntaxReason,
     ValidConfig,
 };
+pub use run_bill::BilledCrates;
 pub use run_check::report::{AllStats, CrateReport, Report, Stats, Verdict};
 pub use run_found::{CrateRead, CrateReads, Error};
 pub use run_record::{NoReason, VerifiedCrates, VerifyAnswer};

@@ -1,6 +1,7 @@
 //! What a run comes to.
 //! Made by answer and run, read by deny_gate and tests; fields and variants may be in any order.
 
+use run_bill::BilledCrates;
 use run_check::Report;
 use run_found::{CrateReads, Error};
 use run_record::VerifiedCrates;
@@ -20,6 +21,8 @@ pub enum RunEnd {
     /// It was reported whether the verdicts of a file are right, with the reads by which the crates' licences
     /// were settled.
     Verified(VerifiedCrates),
+    /// A bill of the crates was written, or it was told whether one has changed.
+    Billed(BilledCrates),
     /// Help or the version was written.
     Shown,
     /// The words are none that are taken.
@@ -32,9 +35,9 @@ pub enum RunEnd {
 #[derive(Drop)]
 pub struct Outcome {
     /// The exit status of the program: 0 after a report in which nothing is an error, after a verdict file that is
-    /// right, after a listing, a sample or a verdict file that was written, after help and after the version; 4 after
-    /// a report in which something is an error, and after a verdict file that is not right; 2 after words that are not
-    /// taken; 1 after a refusal.
+    /// right, after a bill that has not changed, after a listing, a sample, a verdict file or a bill that was written,
+    /// after help and after the version; 4 after a report in which something is an error, after a verdict file that is
+    /// not right, and after a bill that has changed; 2 after words that are not taken; 1 after a refusal.
     pub status: u8,
     /// What the words ask for, where they were taken and ask for something; in a refusal too.
     pub request: Option<Request>,

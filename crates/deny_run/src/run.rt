@@ -44,15 +44,16 @@ fn answer_status(answer: &VerifyAnswer) -> u8
     }
 }
 
-/// The status of an end: 0 where the check of licences has no errors, and where a verdict file is right, 4 where not;
-/// 0 after a listing, a sample, a verdict file, help and the version, 2 after a mistake in the words, 1 after a
-/// refusal.
+/// The status of an end: 0 where the check of licences has no errors, where a verdict file is right, and where a bill
+/// has not changed, 4 where not; 0 after a listing, a sample, a verdict file, a bill, help and the version, 2 after a
+/// mistake in the words, 1 after a refusal.
 fn exit_status(ended: &RunEnd) -> u8
     ensures { result ≡ run.exit_status ended.now }
 {
     match ended {
         RunEnd::Checked(report) => { if report.stats.has_errors() { 4 } else { 0 } }
         RunEnd::Verified(crates) => answer_status(&crates.answer),
+        RunEnd::Billed(crates) => { if crates.same { 0 } else { 4 } }
         RunEnd::Listed(_) | RunEnd::Sampled(_) | RunEnd::Recorded(_) | RunEnd::Shown => 0,
         RunEnd::Usage => 2,
         RunEnd::Refused(_) => 1,
@@ -76,7 +77,7 @@ fn outcome_of(request: Option<Request>, ended: RunEnd) -> Outcome
 ///
 /// The status is 0 where no finding is an error, 4 where one is, 2 where the words are not taken, and 1 after
 /// a refusal; it is 0 after help and the version. Where a verdict file is verified it is 0 where that is
-/// right, else 4.
+/// right, else 4; where a bill is compared with, 0 where nothing but the moment has changed, else 4.
 pub fn run<T: Tree, O: Sink, E: Sink, C: Catalog, I: Identifier>(
     alloc: Global,
     words: &[String],

@@ -16,10 +16,11 @@ use Rattle.run_found.specs.declared.error.Error.TheVariants.{Memory, NotCarried,
 use Rattle.run_found.specs.declared.error.Error.TheVariants.{CatalogRead, CatalogSyntax, StoreRead, ConfigRead}
 use Rattle.run_found.specs.declared.error.Error.TheVariants.{ConfigSyntax, ConfigShape, ConfigInvalid, OverrideTwice}
 use Rattle.run_found.specs.declared.error.Error.TheVariants.{MetadataRead, MetadataSyntax, MetadataShape, NoRoots}
-use Rattle.run_found.specs.declared.error.Error.TheVariants.{RecordRead, RecordSyntax, WriteFault}
+use Rattle.run_found.specs.declared.error.Error.TheVariants.{RecordRead, RecordSyntax, BillText}
+use Rattle.run_found.specs.declared.error.Error.TheVariants.{BillRead, BillSyntax, WriteFault}
 use Rattle.run_request.specs.declared.request.Request.{Request}
 use Rattle.run_request.specs.declared.request.Subcommand.{Subcommand}
-use Rattle.run_request.specs.declared.request.Subcommand.TheVariants.{Verify}
+use Rattle.run_request.specs.declared.request.Subcommand.TheVariants.{Verify, Bill}
 use Rattle.spdx_own_names.specs.declared.error.StoreFault.{StoreFault}
 use Rattle.spdx_own_names.specs.declared.error.StoreFault.TheVariants as store
 use Rattle.toml_subset.specs.declared.error.SyntaxError.{SyntaxError}
@@ -124,12 +125,17 @@ abbrev pub shape_help : Option (List ℕ) → MetaFault → List ℕ
 shape_help file fault =
     at_file_if file (place_text fault.place ++ fault_words fault.fault) ++ resolve_help (is_unresolved fault)
 
--- ---- a verdict file
+-- ---- a verdict file, and a bill
 
--- the file whose verdicts are verified
-abbrev pub record_of : Subcommand → Option (List ℕ)
-record_of (Verify file) = Some file
-record_of _ = None
+-- the file whose verdicts are verified, or the bill that is compared with
+abbrev pub file_of : Subcommand → Option (List ℕ)
+file_of (Verify file) = Some file
+file_of (Bill args) = args.against
+file_of _ = None
+
+-- a crate whose name no bill has
+abbrev pub name_help : List ℕ → List ℕ
+name_help id = advice (id ++ codes ": its name is empty or has the end of a line")
 
 -- ---- counts and levels
 
@@ -169,6 +175,9 @@ help_of request again (MetadataRead fault) = at_file_if request.krate_ctx.metada
 help_of request again MetadataSyntax = at_file_if request.krate_ctx.metadata_path (codes "is no JSON")
 help_of request again (MetadataShape fault) = shape_help request.krate_ctx.metadata_path fault
 help_of request again (NoRoots base excluded unpublished) = roots_help base excluded unpublished
-help_of request again (RecordRead fault reads) = at_file_if (record_of request.command) (read_words fault)
-help_of request again RecordSyntax = at_file_if (record_of request.command) (codes "is no verdict file")
+help_of request again (RecordRead fault reads) = at_file_if (file_of request.command) (read_words fault)
+help_of request again RecordSyntax = at_file_if (file_of request.command) (codes "is no verdict file")
+help_of request again (BillText id) = name_help id
+help_of request again (BillRead fault reads) = at_file_if (file_of request.command) (read_words fault)
+help_of request again BillSyntax = at_file_if (file_of request.command) (codes "is no bill of this program")
 help_of request again (WriteFault before after) = []

@@ -6,7 +6,7 @@ ghost use Rattle.std.specs.String.{string_bytes};
 ghost use Rattle.refusal_help.specs.Help.{advice, at_file, at_file_if, fault_at, help_of, is_unresolved};
 ghost use Rattle.refusal_help.specs.Help.{line_and_column, place_text, resolve_help, roots_help, roots_words};
 ghost use Rattle.refusal_help.specs.Help.{catalog_words, line_help, store_help, store_place, syntax_help};
-ghost use Rattle.refusal_help.specs.Help.{policy_help, record_of, shape_help, twice_help, unknown_help};
+ghost use Rattle.refusal_help.specs.Help.{file_of, name_help, policy_help, shape_help, twice_help, unknown_help};
 ghost use Rattle.refusal_help.specs.Words.{read_words};
 
 use crate::again::Again;
@@ -159,28 +159,37 @@ fn push_policy(
     }
 }
 
-/// What is so of the file whose verdicts are verified.
-fn push_record(text: &mut String, command: &Subcommand, words: &str) -> Result<(), AllocError>
+/// What is so of the file whose verdicts are verified, or of the bill that is compared with.
+fn push_asked(text: &mut String, command: &Subcommand, words: &str) -> Result<(), AllocError>
     ensures { OnOk result (string_bytes text.new
-        ≡ string_bytes text.old ++ at_file_if (record_of command.now) words.now) }
+        ≡ string_bytes text.old ++ at_file_if (file_of command.now) words.now) }
 {
     match command {
         Subcommand::Verify(file) => push_file(text, file.as_path(), words),
+        Subcommand::Bill(args) => push_file_if(text, &args.against, words),
         _ => Ok(()),
     }
 }
 
-fn push_record_read(
+fn push_asked_read(
     alloc: Global,
     text: &mut String,
     command: &Subcommand,
     fault: ReadFault,
 ) -> Result<(), AllocError>
     ensures { OnOk result (string_bytes text.new
-        ≡ string_bytes text.old ++ at_file_if (record_of command.now) (read_words fault)) }
+        ≡ string_bytes text.old ++ at_file_if (file_of command.now) (read_words fault)) }
 {
     let words = read_words(alloc, fault)?;
-    push_record(text, command, words.as_str())
+    push_asked(text, command, words.as_str())
+}
+
+/// Which crate has a name that no bill has.
+fn push_name(alloc: Global, text: &mut String, id: &Text) -> Result<(), AllocError>
+    ensures { OnOk result (string_bytes text.new ≡ string_bytes text.old ++ name_help id.now) }
+{
+    let told = format!(in alloc; "{id}: its name is empty or has the end of a line")?;
+    push_advice(text, told.as_str())
 }
 
 /// A fault of the catalogue's file, at a line that counts from 1.
@@ -392,8 +401,11 @@ fn push_help(
             excluded,
             unpublished,
         } => push_roots(alloc, text, *base, *excluded, *unpublished),
-        Error::RecordRead { fault, .. } => push_record_read(alloc, text, &request.command, *fault),
-        Error::RecordSyntax => push_record(text, &request.command, "is no verdict file"),
+        Error::RecordRead { fault, .. } => push_asked_read(alloc, text, &request.command, *fault),
+        Error::RecordSyntax => push_asked(text, &request.command, "is no verdict file"),
+        Error::BillText(id) => push_name(alloc, text, id),
+        Error::BillRead { fault, .. } => push_asked_read(alloc, text, &request.command, *fault),
+        Error::BillSyntax => push_asked(text, &request.command, "is no bill of this program"),
         Error::Memory | Error::WriteFault { .. } => Ok(()),
     }
 }

@@ -22,6 +22,7 @@ use Rattle.check_core.specs.Labels.{VerdictPoints}
 use Rattle.check_core.specs.Summary.{gathered_of_licenses}
 use Rattle.run_overrides.specs.Levels.{packs_at}
 use Rattle.run_found.specs.Found.{files_loaded}
+use Rattle.run_found.specs.declared.error.Error.TheVariants.{Memory}
 use Rattle.run_found.specs.Hearing.{RequestHearing, TreeSeen, crates_heard, tree_seen}
 use Rattle.run_found.specs.Selection.{included_in}
 use Rattle.run_found.specs.Written.{SinkSeen}
@@ -29,8 +30,9 @@ use Rattle.run_command.specs.declared.crates.CratesFound.{CratesFound}
 use Rattle.run_command.specs.Crates.{HasCrates}
 use Rattle.run_command.specs.Found.{at_threshold, choice_in, scanner_of_given, turns_in}
 use Rattle.run_command.specs.Given.{CommandArguments}
-use Rattle.run_command.specs.Settled.{IsSettled}
-use Rattle.run_command.proofs.SettledLemmas.{hears, hears_so, is_settled}
+use Rattle.run_command.specs.Settled.{HearsSo, IsSettled}
+use Rattle.run_command.specs.Stops.{Stops}
+use Rattle.run_command.proofs.SettledLemmas.{hears, hears_so, is_settled, settled_stops}
 use Rattle.run_command.proofs.TurnLemmas.{own_files}
 use Rattle.run_check.specs.declared.check.CheckedCrates.{CheckedCrates}
 use Rattle.run_check.specs.declared.judged.JudgedCrates.{JudgedCrates}
@@ -150,3 +152,9 @@ reports_of_judges given tree err judged judges = record {
   written = judges.written;
   is_so = judges.is_so.report;
 }
+
+-- memory was wanting once there was a report
+pub reported_stops : (given : CommandArguments) (tree : TreeSeen) (err : SinkSeen) (report : Report) → HearsSo given tree err (λ hearing. IsReport given hearing report) → Stops given tree err Memory
+reported_stops given tree err report hears =
+    let verdicts = hears.is_so.verdicts in
+    settled_stops given tree err hears.hearing hears.heard hears.written report.policy verdicts.licenses report.files verdicts.settled

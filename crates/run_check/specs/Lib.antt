@@ -5,6 +5,7 @@ pub mod Given
 pub mod Headline
 pub mod Judged
 pub mod Named
+pub mod Reads
 pub mod Report
 pub mod Script
 pub mod Steps

@@ -1,14 +1,17 @@
 -- A request of which all is carried.
-use Rattle.std.proofs.Common.{◌≡◌, ◌∙◌, refl, ap, ℕ, Bool, true, false, cond, List, [], Some, None, ◌||◌}
+use Rattle.std.proofs.Common.{◌≡◌, ◌∙◌, refl, sym, ap, ℕ, Bool, true, false, cond, List, [], Option, Some, None, ◌||◌}
 use Rattle.std.specs.Prelude.{is_none}
 use Rattle.std.specs.List.{list_any}
 use Rattle.graph_core.specs.selection.Choice.{is_unsupported}
+use Rattle.graph_workspace.specs.declared.error.UnsupportedPart.{UnsupportedPart}
 use Rattle.graph_workspace.specs.declared.error.UnsupportedPart.TheVariants as what
 use Rattle.diag_print.specs.declared.context.LogContext.{LogContext}
 use Rattle.run_context.specs.Asked.{unsupported_part}
 use Rattle.run_request.specs.declared.context.KrateContext.{KrateContext}
+use Rattle.run_request.specs.declared.level.LintLevels.{LintLevels}
 use Rattle.run_found.proofs.CarriedLemmas.{all_none, path_there}
-use Rattle.run_command.specs.Carried.{parts_of, unsupported_of}
+use Rattle.run_command.specs.Carried.{no_levels, parts_of, plain_options, unsupported_of}
+use Rattle.run_command.specs.Given.{CommandOptions}
 
 -- metadata is named, and no spec has such a sign
 carried_by : (unnamed spec : Bool) → cond unnamed (Some what.MetadataPath) (cond (spec || false) (Some what.ExcludeSpec) None) ≡ None → (unnamed ≡ false) × (spec ≡ false)
@@ -42,3 +45,13 @@ carried_of_parts context named own = carried_with context [] named own refl
 pub plain_carried : (log : LogContext) (context : KrateContext) → unsupported_of log context ≡ None → unsupported_part context [] ≡ None
 plain_carried log context carried =
     let none = all_none (parts_of log context) carried in carried_of_parts context none.0 none.1.1.1.0
+
+-- ---- the options of a command that has none of its own
+
+-- but for what is not carried and the levels
+abbrev plain_with : Option UnsupportedPart → LintLevels → CommandOptions
+plain_with unsupported levels = record { unsupported = unsupported; levels = levels; with_flags = true; threshold = None }
+
+-- all of its request is carried
+pub plain_use : (log : LogContext) (context : KrateContext) (levels : LintLevels) → levels ≡ no_levels → unsupported_of log context ≡ None → plain_with None levels ≡ plain_options log context
+plain_use log context levels none carried = ap (plain_with None) none ∙ ap (λ own. plain_with own no_levels) (sym carried)

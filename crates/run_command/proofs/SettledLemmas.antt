@@ -1,6 +1,7 @@
 -- Behind the crates of a policy, their licences: what was read, and what is so by that.
-use Rattle.std.proofs.Common.{◌≡◌, ◌∙◌, refl, sym, ap, subst, ℕ, ℤ, List, [], ◌++◌, map, append-nil, append_assoc, Option, Some, None, Ok}
+use Rattle.std.proofs.Common.{◌≡◌, ◌∙◌, inl, refl, sym, ap, subst, ℕ, ℤ, List, [], ◌++◌, map, append-nil, append_assoc, Option, Some, None, Ok}
 use Rattle.tree_core.specs.Call.{Call}
+use Rattle.tree_core.specs.Faults.{Gained}
 use Rattle.tree_core.specs.Content.{Content}
 use Rattle.tree_core.specs.Trace.{faults_after}
 use Rattle.tree_core.proofs.MadeLemmas.{made_as, made_joined}
@@ -15,23 +16,23 @@ use Rattle.gather_core.specs.Calls.{AreTurnsBy, ReadsOfCrate, calls_of_all, read
 use Rattle.gather_core.specs.Rules.{rules_of}
 use Rattle.gather_core.specs.Gathered.{include_of, krate_of}
 use Rattle.gather_core.specs.declared.summary.KrateLicense.{KrateLicense}
-use Rattle.gather_core.proofs.CrateTurns.{krates_told}
+use Rattle.gather_core.proofs.CrateTurns.{krates_told, own_turns}
 use Rattle.run_found.specs.declared.error.Error.TheVariants.{Memory}
 use Rattle.run_found.specs.Finds.{hearing_of}
 use Rattle.run_found.specs.Found.{count_metadata, files_loaded, policy_calls}
-use Rattle.run_found.specs.Hearing.{RequestHearing, TreeSeen, read_calls, tree_seen}
+use Rattle.run_found.specs.Hearing.{RequestHearing, TreeSeen, crates_heard, read_calls, tree_seen}
 use Rattle.run_found.specs.Licenses.{HaveTurns, IsGatherCut, IsGatheredOn, turns_heard}
 use Rattle.run_found.specs.Selection.{included_in}
 use Rattle.run_found.specs.Written.{SinkSeen}
 use Rattle.run_found.proofs.ByteLemmas.{bytes_of_found, bytes_of_graph}
 use Rattle.run_command.specs.declared.crates.CratesFound.{CratesFound}
 use Rattle.run_command.specs.Crates.{HasCrates}
-use Rattle.run_command.specs.Found.{AreSelected, HearsAllDue, at_threshold, calls_of, choice_in, input_of, load_heard, metadata_due, scanner_of_given, turns_in}
+use Rattle.run_command.specs.Found.{AreSelected, HearsAllDue, IsHeard, at_threshold, calls_of, choice_in, input_of, load_heard, metadata_due, scanner_of_given, turns_in}
 use Rattle.run_command.specs.Given.{CommandArguments}
 use Rattle.run_command.specs.Settled.{HearsSo, IsSettled}
 use Rattle.run_command.specs.Stops.{Stops, at_crates}
-use Rattle.run_command.proofs.FoundLemmas.{asked-once, count_is, input-graph}
-use Rattle.run_command.proofs.StopLemmas.{all_of}
+use Rattle.run_command.proofs.FoundLemmas.{asked-once, count_is, input-graph, input_by_Asks}
+use Rattle.run_command.proofs.StopLemmas.{all_of, up_without}
 
 -- the least score of a text leaves the crates that are looked at
 include_at : (threshold : Option ℤ) (policy : ValidConfig) → include_of (at_threshold threshold policy) ≡ include_of policy
@@ -139,4 +140,29 @@ module _ (given : CommandArguments) (told middle tells : Option Content) (begun 
       });
     };
     written = all_of err.old err.new (load_heard given (hears part.crates)) has.written;
+  }
+
+-- ---- where memory was wanting behind them
+
+module _ (given : CommandArguments) (tree : TreeSeen) (err : SinkSeen) where
+  -- memory was wanting once the licences were settled
+  pub settled_stops : (hearing : RequestHearing) → IsHeard given tree hearing → Gained err.old err.new (load_heard given hearing) → (policy : ValidConfig) (licenses : List KrateLicense) (last : List File)
+      → IsSettled given hearing policy licenses last → Stops given tree err Memory
+  settled_stops hearing heard written policy licenses last settled = record {
+    hearing = hearing;
+    refused = up_without given tree hearing heard.begun heard.made (at_crates settled.due (record {
+      found = record { policy = settled.asked.policy; graph = settled.asked.graph };
+      is = input_by_Asks given hearing settled.asked settled.asks;
+      policy = policy;
+      ordered = settled.ordered;
+      chosen = settled.asked.crates;
+      selected = settled.asks.selected;
+      turns = record {
+        earlier = hearing.crates;
+        own = own_turns (files_loaded given.request hearing) (turns_in given hearing policy) licenses last settled.turns;
+        ends = inl (refl, refl);
+        among = ([], sym settled.crates ∙ sym (append-nil (crates_heard hearing)));
+      };
+    }));
+    written = all_of err.old err.new (load_heard given hearing) written;
   }

@@ -2,16 +2,17 @@
 use Rattle.std.proofs.Common.{inl, inr, ℕ, List, Result, Ok, Err}
 use Rattle.tree_core.specs.Faults.{Rose}
 use Rattle.tree_core.proofs.MadeLemmas.{some_made}
-use Rattle.tree_core.specs.texts.Cause.{Cause, no_memory, failed_read, refused_write}
+use Rattle.tree_core.specs.texts.Cause.{Cause, ReadCounts, no_memory, failed_read, refused_write}
 use Rattle.tree_core.specs.texts.Cause as causes
 use Rattle.tree_core.specs.declared.texts.fault.ReadFault.TheVariants.{Absent}
 use Rattle.run_found.specs.declared.error.Error.{Error}
-use Rattle.run_found.specs.declared.error.Error.TheVariants.{ConfigRead}
+use Rattle.run_found.specs.declared.error.Error.TheVariants.{ConfigRead, WriteFault}
 use Rattle.run_found.specs.Error.{EndsLawful, MayEndLawful, cause_of}
 use Rattle.run_found.specs.Hearing.{HasMade, RequestHearing, TreeSeen}
 use Rattle.run_found.specs.Written.{SinkSeen}
 use Rattle.run_command.specs.Given.{CommandArguments}
 use Rattle.run_command.specs.Settled.{CutsOut, WritesOut}
+use Rattle.run_command.specs.Written.{IsWriteFault}
 use Rattle.run_command.proofs.AbsentLemmas.{stops_never}
 use Rattle.run_command.proofs.LawfulLemmas.{NoRefusal, stops_lawful}
 use Rattle.run_command.proofs.StopLemmas.{stops_made}
@@ -40,3 +41,8 @@ module _ {X A : Type 0} (given : CommandArguments) (tree : TreeSeen) (err out : 
   pub writes_never : WritesOut given tree err out IsSo text answer (Err (ConfigRead Absent)) → ⊥
   writes_never (inl refused) = stops_never given tree err refused.0
   writes_never (inr cut) = cut.cut
+
+-- no refused write has the counts of a read
+pub write_counts : (first last : ℕ) (error : Error) → IsWriteFault first last error → (begun before after : ℕ) → ReadCounts begun before after (cause_of error)
+write_counts first last (WriteFault one other) fault begun before after = tt
+write_counts first last _ fault begun before after = absurd fault

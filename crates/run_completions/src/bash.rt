@@ -69,7 +69,7 @@ fn push_valued(text: &mut String, command: &SubcommandRow) -> Result<(), AllocEr
 /// The words that a value may be.
 fn push_values(text: &mut String, values: OptionValues) -> Result<(), AllocError> {
     match values {
-        OptionValues::Any => text.push_str(""),
+        OptionValues::Any | OptionValues::Form(_) => text.push_str(""),
         OptionValues::File => text.push_str("_cargo_deny_paths -f \"$current\""),
         OptionValues::Folder => text.push_str("_cargo_deny_paths -d \"$current\""),
         OptionValues::Names(names) => {

@@ -16,7 +16,7 @@ pub fn top() -> SubcommandRow {
 }
 
 pub fn has_value(row: &OptionRow) -> bool {
-    matches!(row.kind, OptionUse::One | OptionUse::Many)
+    matches!(row.kind, OptionUse::One | OptionUse::Once | OptionUse::Many)
 }
 
 /// Whether it is a word without a name.
@@ -52,6 +52,7 @@ pub fn has_file(rows: &[OptionRow]) -> bool {
 pub fn names_of(values: OptionValues) -> &'static [&'static str] {
     match values {
         OptionValues::Names(names) => names,
-        OptionValues::Any | OptionValues::File | OptionValues::Folder => &[],
+        OptionValues::Any | OptionValues::File | OptionValues::Folder | OptionValues::Form(_) =>
+            &[],
     }
 }

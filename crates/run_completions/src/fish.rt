@@ -40,7 +40,7 @@ fn push_condition(text: &mut String, command: &str) -> Result<(), AllocError> {
 /// What may stand for a value.
 fn push_values(text: &mut String, values: OptionValues) -> Result<(), AllocError> {
     match values {
-        OptionValues::Any => text.push_str(" -x"),
+        OptionValues::Any | OptionValues::Form(_) => text.push_str(" -x"),
         OptionValues::File => text.push_str(" -r -F"),
         OptionValues::Folder => text.push_str(" -x -a '(__fish_complete_directories)'"),
         OptionValues::Names(names) => {

@@ -17,6 +17,7 @@ cargo\\-deny \\- checks the licences of a project\\(aqs crates against a policy
 \\fBcargo deny\\fR [\\fIoptions\\fR] \\fBlist\\fR [\\fIoptions\\fR]
 \\fBcargo deny\\fR [\\fIoptions\\fR] \\fBrecord\\fR
 \\fBcargo deny\\fR [\\fIoptions\\fR] \\fBverify\\fR \\fIfile\\fR
+\\fBcargo deny\\fR [\\fIoptions\\fR] \\fBbill\\fR \\fIoptions\\fR
 \\fBcargo deny\\fR [\\fIoptions\\fR] \\fBsample\\fR \\fInumber\\fR
 .fi
 .SH DESCRIPTION
@@ -38,6 +39,8 @@ writes the licences to standard output.
 writes the verdicts, with what shows them, to standard output, and
 .B verify
 says whether the verdicts of such a file are right.
+.B bill
+writes an SPDX 2.3 document of the crates to standard output, or says whether one has changed.
 .B sample
 reads no file. No command uses the network, starts a program or writes a file.
 .PP
@@ -57,9 +60,9 @@ The run was refused. Standard error says why.
 The words could not be read.
 .TP
 .B 4
-A finding is an error, or a verdict that
+A finding is an error, a verdict that
 .B verify
-read is not right.
+read is not right, or something else than the moment of a bill has changed.
 .SH FILES
 .TP
 .I deny.toml

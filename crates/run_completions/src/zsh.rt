@@ -53,7 +53,7 @@ fn push_help(text: &mut String, help: &str) -> Result<(), AllocError> {
 /// What may stand for a value.
 fn push_values(text: &mut String, values: OptionValues) -> Result<(), AllocError> {
     match values {
-        OptionValues::Any => text.push_str(" "),
+        OptionValues::Any | OptionValues::Form(_) => text.push_str(" "),
         OptionValues::File => text.push_str("_files"),
         OptionValues::Folder => text.push_str("_directories"),
         OptionValues::Names(names) => {

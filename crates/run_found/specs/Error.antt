@@ -23,7 +23,8 @@ use Rattle.run_found.specs.declared.error.Error.TheVariants.{Memory, NotCarried,
 use Rattle.run_found.specs.declared.error.Error.TheVariants.{CatalogRead, CatalogSyntax, StoreRead, ConfigRead}
 use Rattle.run_found.specs.declared.error.Error.TheVariants.{ConfigSyntax, ConfigShape, ConfigInvalid, OverrideTwice}
 use Rattle.run_found.specs.declared.error.Error.TheVariants.{MetadataRead, MetadataSyntax, MetadataShape, NoRoots}
-use Rattle.run_found.specs.declared.error.Error.TheVariants.{RecordRead, RecordSyntax, WriteFault}
+use Rattle.run_found.specs.declared.error.Error.TheVariants.{RecordRead, RecordSyntax, BillText}
+use Rattle.run_found.specs.declared.error.Error.TheVariants.{BillRead, BillSyntax, WriteFault}
 use Rattle.run_found.specs.declared.policy.PolicyRefusal.{PolicyRefusal}
 use Rattle.run_found.specs.declared.policy.PolicyRefusal.TheVariants as refusal
 
@@ -46,14 +47,17 @@ error_text (MetadataShape fault) = codes "the metadata has not the stated shape"
 error_text (NoRoots base excluded unpublished) = codes "no root crate is left"
 error_text (RecordRead fault reads) = codes "the record could not be read"
 error_text RecordSyntax = codes "the record could not be parsed"
+error_text (BillText id) = codes "a crate name does not fit the bill"
+error_text (BillRead fault reads) = codes "the bill could not be read"
+error_text BillSyntax = codes "the bill could not be parsed"
 error_text (WriteFault before after) = codes "writing failed"
 
 -- what is written after a refusal
 abbrev pub fault_line : Error → List ℕ
 fault_line error = codes "error: " ++ error_text error ++ codes "\n"
 
--- A failed read of a verdict file is reported by what is read of the file: its counts are not those since the run
--- began.
+-- A failed read of a verdict file or of a bill is reported by what is read of the file: its counts are not those since
+-- the run began.
 abbrev pub cause_of : Error → Cause
 cause_of Memory = no_memory
 cause_of (ManifestRead before after) = failed_read before after

@@ -75,6 +75,17 @@ pub enum Error {
     },
     /// A verdict file is the spelling of no record.
     RecordSyntax,
+    /// The name of a crate is empty or has the end of a line, so no bill has it. The text is the id of the first
+    /// such crate.
+    BillText(Text),
+    /// A bill was not read, once the licences were settled by these reads. The numbers of a failed read are the
+    /// tree's counts of faults as that read began and behind it.
+    BillRead {
+        fault: ReadFault,
+        reads: CrateReads,
+    },
+    /// A file is the lines of no bill.
+    BillSyntax,
     /// A sink refused a write. The numbers are its counts of faults, at the start of the call and after that.
     WriteFault {
         before: u64,
@@ -106,6 +117,9 @@ impl Error {
             Error::NoRoots { .. } => "error: no root crate is left\n",
             Error::RecordRead { .. } => "error: the record could not be read\n",
             Error::RecordSyntax => "error: the record could not be parsed\n",
+            Error::BillText(_) => "error: a crate name does not fit the bill\n",
+            Error::BillRead { .. } => "error: the bill could not be read\n",
+            Error::BillSyntax => "error: the bill could not be parsed\n",
             Error::WriteFault { .. } => "error: writing failed\n",
         }
     }

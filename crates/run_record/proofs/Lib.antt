@@ -1,4 +1,3 @@
-pub mod EndLemmas
 pub mod RecordLemmas
 pub mod VerifyLemmas
 pub mod YesLemmas

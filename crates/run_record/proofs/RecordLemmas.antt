@@ -1,22 +1,18 @@
 -- The ends of recording.
-use Rattle.std.proofs.Common.{◌≡◌, ◌∙◌, inl, inr, refl, sym, ap, subst, ℕ, List, [], ◌∷◌, append-nil, map, Option, Some, None, Result, Ok, Err, IfErr}
+use Rattle.std.proofs.Common.{◌≡◌, ◌∙◌, inl, inr, refl, sym, ap, subst, ℕ, List, [], ◌∷◌, map, Option, Some, None, Result, Ok, Err, IfErr}
 use Rattle.std.specs.Prelude.{IfSome}
 use Rattle.std.specs.List.{AllByRecursion, AllZip}
-use Rattle.tree_core.specs.Faults.{Gained}
 use Rattle.tree_core.specs.texts.Cause.{ReadCounts}
 use Rattle.spdx_core.specs.Expressions.{IsExpression}
 use Rattle.spdx_core.specs.Reading.{ExpressionView}
 use Rattle.spdx_core.specs.declared.certificates.verdict.Verdict.{Verdict}
 use Rattle.spdx_core.specs.declared.certificates.verdict.Verdict.TheVariants.{Skipped, Unlicensed, Accepted, Rejected}
-use Rattle.diag_core.specs.File.{File}
 use Rattle.graph_core.specs.Krate.{ids_in}
 use Rattle.graph_core.specs.Metadata.{AreRising}
 use Rattle.policy_core.specs.valid.Policy.{Policy}
 use Rattle.policy_core.specs.valid.View.{policy_of}
 use Rattle.policy_core.specs.declared.valid.policy.ValidConfig.{ValidConfig}
 use Rattle.gather_core.specs.Calls.{ReadsOfCrate}
-use Rattle.gather_core.specs.declared.summary.KrateLicense.{KrateLicense}
-use Rattle.gather_core.proofs.CrateTurns.{own_turns}
 use Rattle.check_core.specs.Verdicts.{IsVerdictShown, is_skipped}
 use Rattle.check_core.specs.evaluate.Evaluation.{term_hits}
 use Rattle.check_record.specs.declared.items.RecordItem.{RecordItem}
@@ -28,23 +24,19 @@ use Rattle.run_found.specs.declared.error.Error.{Error}
 use Rattle.run_found.specs.declared.error.Error.TheVariants.{Memory, WriteFault}
 use Rattle.run_found.specs.declared.reads.CrateRead.{CrateRead}
 use Rattle.run_found.specs.Error.{cause_of}
-use Rattle.run_found.specs.Found.{files_loaded}
-use Rattle.run_found.specs.Hearing.{RequestHearing, TreeSeen, crates_heard}
+use Rattle.run_found.specs.Hearing.{RequestHearing, TreeSeen}
 use Rattle.run_found.specs.Licenses.{counted_heard}
 use Rattle.run_found.specs.Written.{IsSilent, SinkSeen}
-use Rattle.run_command.specs.Found.{IsHeard, load_heard, turns_in}
 use Rattle.run_command.specs.Given.{CommandArguments}
-use Rattle.run_command.specs.Settled.{HearsSo, IsSettled}
-use Rattle.run_command.specs.Stops.{Stops, at_crates}
+use Rattle.run_command.specs.Settled.{HearsSo}
 use Rattle.run_command.specs.Written.{IsWriteFault}
-use Rattle.run_command.proofs.FoundLemmas.{input_by_Asks}
-use Rattle.run_command.proofs.StopLemmas.{all_of, up_without}
+use Rattle.run_command.proofs.WrittenLemmas.{write_counts}
 use Rattle.check_core.specs.declared.report.CrateReport.{CrateReport}
 use Rattle.run_check.specs.declared.report.Report.{Report}
 use Rattle.run_check.specs.Report.{IsReport, IsReportOf}
+use Rattle.run_check.proofs.ReportLemmas.{reported_stops}
 use Rattle.run_record.specs.Judged.{AreJudged, IsJudgedReport}
 use Rattle.run_record.specs.Recorded.{CutsRecord, IsRecorded, Records, RecordsOn, item_in, items_in}
-use Rattle.run_record.proofs.EndLemmas.{write_counts}
 
 -- ---- verdicts that can be recorded
 
@@ -105,37 +97,10 @@ is_record reports items judged same each = record {
 -- ---- the ends
 
 module _ (given : CommandArguments) (tree : TreeSeen) (err : SinkSeen) where
-  -- memory was wanting once the licences were settled
-  settled_stops : (hearing : RequestHearing) → IsHeard given tree hearing → Gained err.old err.new (load_heard given hearing) → (policy : ValidConfig) (licenses : List KrateLicense) (last : List File)
-      → IsSettled given hearing policy licenses last → Stops given tree err Memory
-  settled_stops hearing heard written policy licenses last settled = record {
-    hearing = hearing;
-    refused = up_without given tree hearing heard.begun heard.made (at_crates settled.due (record {
-      found = record { policy = settled.asked.policy; graph = settled.asked.graph };
-      is = input_by_Asks given hearing settled.asked settled.asks;
-      policy = policy;
-      ordered = settled.ordered;
-      chosen = settled.asked.crates;
-      selected = settled.asks.selected;
-      turns = record {
-        earlier = hearing.crates;
-        own = own_turns (files_loaded given.request hearing) (turns_in given hearing policy) licenses last settled.turns;
-        ends = inl (refl, refl);
-        among = ([], sym settled.crates ∙ sym (append-nil (crates_heard hearing)));
-      };
-    }));
-    written = all_of err.old err.new (load_heard given hearing) written;
-  }
-
   -- a report was found
   module _ (out : SinkSeen) (report : Report) (hears : HearsSo given tree err (λ hearing. IsReport given hearing report)) where
     recorded : IsRecord (items_in report) → HearsSo given tree err (λ hearing. IsRecorded given report hearing)
     recorded is = record { hearing = hears.hearing; heard = hears.heard; written = hears.written; is_so = (hears.is_so, is) }
-
-    memory_stops : Stops given tree err Memory
-    memory_stops =
-        let verdicts = hears.is_so.verdicts in
-        settled_stops hears.hearing hears.heard hears.written report.policy verdicts.licenses report.files verdicts.settled
 
     cut_out : (error : Error) → CutsRecord report out error → Records given tree err out (Err error)
     cut_out (WriteFault first last) cut =
@@ -144,7 +109,7 @@ module _ (given : CommandArguments) (tree : TreeSeen) (err : SinkSeen) where
 
     pub report_ends : (result : Result (List CrateRead) Error) → RecordsOn report out result → Records given tree err out result
     report_ends (Ok reads) ends = record { value = report; hears = recorded ends.is; written = ends.spelled; is_answer = ends.reads_are }
-    report_ends (Err error) (inl wants) = subst (λ own. Records given tree err out (Err own)) (sym wants.0) (inl (memory_stops, wants.1))
+    report_ends (Err error) (inl wants) = subst (λ own. Records given tree err out (Err own)) (sym wants.0) (inl (reported_stops given tree err report hears, wants.1))
     report_ends (Err error) (inr cut) = cut_out error cut
 
 -- for want of memory nothing was written

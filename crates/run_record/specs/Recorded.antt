@@ -15,6 +15,7 @@ use Rattle.run_command.specs.Settled.{WritesOut}
 use Rattle.run_command.specs.Written.{IsWriteFault}
 use Rattle.check_core.specs.declared.report.CrateReport.{CrateReport}
 use Rattle.run_check.specs.declared.report.Report.{Report}
+use Rattle.run_check.specs.Reads.{reads_told}
 use Rattle.run_check.specs.Report.{IsReport}
 
 -- ---- what is recorded
@@ -26,12 +27,8 @@ item_in report = record { id = report.id; verdict = recorded_of report.verdict }
 abbrev pub items_in : Report → List RecordItem
 items_in report = map item_in report.crates
 
--- a crate's id, and the reads of its files
-abbrev pub read_in : CrateReport → CrateRead
-read_in report = record { id = report.id; reads = report.reads }
-
 abbrev pub reads_in : Report → List CrateRead
-reads_in report = map read_in report.crates
+reads_in report = reads_told report.crates
 
 -- the file of a report's verdicts
 abbrev pub file_in : Report → List ℕ

@@ -3,7 +3,6 @@
 //! Used by deny_run; what is passed on may change, no clause is here.
 #![tactic(auto)]
 
-mod reads;
 pub mod recording;
 pub mod verdicts;
 pub mod verifying;

@@ -14,12 +14,11 @@ ghost use Rattle.run_command.specs.Given.{command_arguments_of};
 ghost use Rattle.run_record.specs.Judged.{AreJudged, IsJudgedReport};
 ghost use Rattle.run_record.specs.Recorded.{Records, RecordsOn, item_in};
 
-use crate::reads::reads_of_reports;
 use check_record::{Record, RecordItem, RecordItems, encode};
 use check_verify::recorded_verdict;
 use deny_text::{Bytes, Text};
 use diag_print::LogContext;
-use run_check::{CrateReport, Report, report_since};
+use run_check::{CrateReport, Report, reads_of_reports, report_since};
 use run_command::{no_levels, write_answer};
 use run_found::{CrateReads, Error};
 use run_request::KrateContext;

@@ -4,13 +4,16 @@ use Rattle.std.specs.Prelude.{codes}
 use Rattle.std.specs.Result.{result_ok}
 use Rattle.std.specs.Str.{bytes_eq}
 use Rattle.clap.specs.Words.{Text, Row, first_of, matches_of, subcommand_of}
+use Rattle.check_bill.specs.declared.forms.TextForm.TheVariants.{Word, Moment}
+use Rattle.run_request.specs.declared.bill.BillArgs.{BillArgs}
 use Rattle.run_request.specs.declared.error.ArgsError.{ArgsError}
 use Rattle.run_request.specs.declared.request.Request.{Request}
 use Rattle.run_request.specs.declared.request.Subcommand.{Subcommand}
-use Rattle.run_request.specs.declared.request.Subcommand.TheVariants.{Record}
+use Rattle.run_request.specs.declared.request.Subcommand.TheVariants.{Bill, Record}
 use Rattle.run_request.specs.declared.context.KrateContext.{KrateContext}
 use Rattle.diag_print.specs.declared.context.LogContext.{LogContext}
 use Rattle.deny_text.specs.Path.{join_of}
+use Rattle.run_request.specs.Bill.{bill_args_of, formed}
 use Rattle.run_request.specs.Cli.{cli}
 use Rattle.run_request.specs.Reading.{and_then}
 use Rattle.run_request.specs.Request.{request_of_rows, gate_words, krate_context_of, log_context_of, path_at, subcommand_asked, verify_of}
@@ -69,6 +72,25 @@ same_file : (file : Option Text) (one other : Text) → SameAsked (verify_of (op
 same_file None one other = tt
 same_file (Some file) one other = refl
 
+-- a bill that is compared with one is compared with some bill in each folder
+abbrev bill_with : Result Text ArgsError → Result Text ArgsError → Result Text ArgsError → Option Text → Result Subcommand ArgsError
+bill_with name namespace created against =
+    and_then (λ (args : BillArgs). Ok (Bill args))
+    (and_then (λ n. and_then (λ a. and_then (λ c. Ok (record { name = n; namespace = a; created = c; against = against })) created) namespace) name)
+
+same_bill_by : (name namespace created : Result Text ArgsError) (against : Option Text) (f g : Text → Text)
+    → SameAsked (bill_with name namespace created (option_map f against)) (bill_with name namespace created (option_map g against))
+same_bill_by (Err error) namespace created against f g = tt
+same_bill_by (Ok name) (Err error) created against f g = tt
+same_bill_by (Ok name) (Ok namespace) (Err error) against f g = tt
+same_bill_by (Ok name) (Ok namespace) (Ok created) against f g =
+    ap (λ hidden. Bill (record { name = name; namespace = namespace; created = created; against = hidden })) (gone against f g)
+
+same_bill : (rows : List Row) (against : Option Text) (one other : Text)
+    → SameAsked (and_then (λ args. Ok (Bill args)) (bill_args_of rows (option_map (join_of one) against))) (and_then (λ args. Ok (Bill args)) (bill_args_of rows (option_map (join_of other) against)))
+same_bill rows against one other =
+    same_bill_by (formed Word (codes "name") rows) (formed Word (codes "namespace") rows) (formed Moment (codes "created") rows) against (join_of one) (join_of other)
+
 same_if : (test : Bool) (a b c d : Result Subcommand ArgsError) → SameAsked a b → SameAsked c d → SameAsked (cond test a c) (cond test b d)
 same_if true a b c d here later = here
 same_if false a b c d here later = later
@@ -79,7 +101,8 @@ same_asked (Some below) one other =
     same_if (bytes_eq below.0 (codes "check")) _ _ _ _ (same_as _)
     (same_if (bytes_eq below.0 (codes "list")) _ _ _ _ (same_as _)
     (same_if (bytes_eq below.0 (codes "record")) _ _ _ _ (same_as (Ok Record))
-    (same_if (bytes_eq below.0 (codes "verify")) _ _ _ _ (same_file (first_of (codes "FILE") below.1) one other) (same_as _))))
+    (same_if (bytes_eq below.0 (codes "verify")) _ _ _ _ (same_file (first_of (codes "FILE") below.1) one other)
+    (same_if (bytes_eq below.0 (codes "bill")) _ _ _ _ (same_bill below.1 (first_of (codes "against") below.1) one other) (same_as _)))))
 
 by_command : (rows : List Row) (log_ctx : LogContext) (one other : Text) (command further : Result Subcommand ArgsError) → SameAsked command further
     → option_map without_folder (result_ok (and_then (λ command. Ok (read_of rows log_ctx command one)) command))

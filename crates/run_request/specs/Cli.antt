@@ -1,5 +1,6 @@
 -- The command line that is taken, as a value: each option with its spelling, its default and how often it may be used.
--- Each value is any text. What is required is a subcommand, the file of `verify`, and the number of `sample`.
+-- Each value is any text. What is required is a subcommand, the file of `verify`, the number of `sample`, and of `bill`
+-- what it is called and when it is made.
 use Rattle.std.specs.Prelude.{ℕ, true, false, List, [], ◌∷◌, Some, codes}
 use Rattle.clap.specs.Words.{Text, Rule, Shape, App, new_rule, new_app}
 use Rattle.clap.specs.declared.builder.action.ArgAction.TheVariants.{Set, Append, SetTrue}
@@ -8,7 +9,11 @@ use Rattle.clap.specs.declared.builder.action.ArgAction.TheVariants.{Set, Append
 abbrev pub option_rule : Text → Rule
 option_rule name = record (new_rule name) { long = Some name; action = Some Set; value_names = 1 }
 
--- the same with a value where it is not used
+-- the same, and it is required
+abbrev pub required_rule : Text → Rule
+required_rule name = record (option_rule name) { required = true }
+
+-- an option with a value where it is not used
 abbrev pub default_rule : Text → Text → Rule
 default_rule name value = record (option_rule name) { defaults = value ∷ [] }
 
@@ -82,6 +87,15 @@ list_rules =
 abbrev pub verify_rules : List Rule
 verify_rules = word_rule (codes "FILE") ∷ []
 
+-- what the document of `bill` is called, when it is made, and the bill that it is compared with
+abbrev pub bill_rules : List Rule
+bill_rules =
+    required_rule (codes "name")
+    ∷ required_rule (codes "namespace")
+    ∷ required_rule (codes "created")
+    ∷ option_rule (codes "against")
+    ∷ []
+
 -- how many crates `sample` is to have
 abbrev pub sample_rules : List Rule
 sample_rules = word_rule (codes "N") ∷ []
@@ -102,12 +116,15 @@ record_shape = subcommand_shape (codes "record") []
 abbrev pub verify_shape : Shape
 verify_shape = subcommand_shape (codes "verify") verify_rules
 
+abbrev pub bill_shape : Shape
+bill_shape = subcommand_shape (codes "bill") bill_rules
+
 abbrev pub sample_shape : Shape
 sample_shape = subcommand_shape (codes "sample") sample_rules
 
 -- the subcommands, in the order in which help lists them
 abbrev pub subcommand_shapes : List Shape
-subcommand_shapes = check_shape ∷ list_shape ∷ record_shape ∷ verify_shape ∷ sample_shape ∷ []
+subcommand_shapes = check_shape ∷ list_shape ∷ record_shape ∷ verify_shape ∷ bill_shape ∷ sample_shape ∷ []
 
 -- a command without subcommands
 abbrev pub app_of_shape : Shape → App

@@ -5,6 +5,7 @@ pub mod Cli
 pub mod OptionRow
 pub mod Reading
 pub mod Args
+pub mod Bill
 pub mod Request
 pub mod Given
 pub mod Laws

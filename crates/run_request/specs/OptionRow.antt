@@ -3,14 +3,16 @@ use Rattle.std.specs.Prelude.{List, [], ◌∷◌, Option, None, Some, map}
 use Rattle.std.specs.Borrow.{Bor}
 use Rattle.clap.specs.Words.{Text, Rule, Shape, App, with_rule, with_subcommand}
 use Rattle.run_request.specs.declared.options.OptionUse.{OptionUse}
-use Rattle.run_request.specs.declared.options.OptionUse.TheVariants.{One, Many, Flag, Words, Word}
+use Rattle.run_request.specs.declared.options.OptionUse.TheVariants.{One, Once, Many, Flag, Words, Word}
 use Rattle.run_request.specs.declared.options.OptionRow.{OptionRow}
 use Rattle.run_request.specs.declared.options.SubcommandRow.{SubcommandRow}
-use Rattle.run_request.specs.Cli.{option_rule, many_rule, flag_rule, words_rule, word_rule, subcommand_shape}
+use Rattle.run_request.specs.Cli.{option_rule, required_rule, many_rule, flag_rule, words_rule, word_rule}
+use Rattle.run_request.specs.Cli.{subcommand_shape}
 
 -- a use of that kind, under this name
 abbrev pub rule_of_kind : OptionUse → Text → Rule
 rule_of_kind One name = option_rule name
+rule_of_kind Once name = required_rule name
 rule_of_kind Many name = many_rule name
 rule_of_kind Flag name = flag_rule name
 rule_of_kind Words name = words_rule name

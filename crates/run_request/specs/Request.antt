@@ -17,12 +17,14 @@ use Rattle.run_request.specs.declared.context.KrateContext.{KrateContext}
 use Rattle.run_request.specs.declared.request.Request.{Request}
 use Rattle.run_request.specs.declared.request.Subcommand.{Subcommand}
 use Rattle.run_request.specs.declared.request.Subcommand.TheVariants.{Check, List as Listing, Sample, Record, Verify}
+use Rattle.run_request.specs.declared.request.Subcommand.TheVariants.{Bill}
 use Rattle.run_request.specs.declared.number.SampleSize.{SampleSize}
 use Rattle.run_request.specs.Named.{named_in}
 use Rattle.run_request.specs.Names.{filter_names, format_names, color_names}
 use Rattle.run_request.specs.Number.{sample_size_of}
 use Rattle.run_request.specs.Reading.{and_then, first_read, option_words, is_set, is_comma}
 use Rattle.run_request.specs.Args.{check_args_of, list_args_of}
+use Rattle.run_request.specs.Bill.{bill_args_of}
 use Rattle.run_request.specs.Cli.{cli}
 
 -- how findings are written, and which
@@ -78,6 +80,8 @@ subcommand_named name rows cwd =
     else if bytes_eq name (codes "list") then and_then (λ args. Ok (Listing args)) (list_args_of rows)
     else if bytes_eq name (codes "record") then Ok Record
     else if bytes_eq name (codes "verify") then verify_of (path_at cwd (codes "FILE") rows)
+    else if bytes_eq name (codes "bill") then
+    and_then (λ args. Ok (Bill args)) (bill_args_of rows (path_at cwd (codes "against") rows))
     else if bytes_eq name (codes "sample") then and_then sample_of (first_read sample_size_of (codes "N") rows)
     else Err (BadValue (codes "COMMAND") name)
 
@@ -92,6 +96,8 @@ IsCommandOf name rows cwd (Check args) = (name ≡ codes "check") × (check_args
 IsCommandOf name rows cwd (Listing args) = (name ≡ codes "list") × (list_args_of rows ≡ Ok args)
 IsCommandOf name rows cwd Record = name ≡ codes "record"
 IsCommandOf name rows cwd (Verify path) = (name ≡ codes "verify") × (path_at cwd (codes "FILE") rows ≡ Some path)
+IsCommandOf name rows cwd (Bill args) =
+    (name ≡ codes "bill") × (bill_args_of rows (path_at cwd (codes "against") rows) ≡ Ok args)
 IsCommandOf name rows cwd (Sample size) =
     (name ≡ codes "sample") × (first_read sample_size_of (codes "N") rows ≡ Ok (Some (record { 0 = size })))
 

@@ -21,7 +21,7 @@ The options above stand before the command: `check licenses --workspace` is refu
 
 Status:
   0  no finding is an error, or what was asked for was written
-  4  a finding is an error, or a verdict that `verify` read is not right
+  4  a finding is an error, a verdict that `verify` read is not right, or a bill changed
   1  the run was refused: a line on standard error says why
   2  the words were refused
 
@@ -143,6 +143,11 @@ fn arg_of<'a>(alloc: Global, row: &'static OptionRow) -> Arg<'a>
             .long(row.name)
             .value_name(row.value)
             .action(ArgAction::Set),
+        OptionUse::Once => arg
+            .long(row.name)
+            .value_name(row.value)
+            .action(ArgAction::Set)
+            .required(true),
         OptionUse::Many => arg
             .long(row.name)
             .value_name(row.value)

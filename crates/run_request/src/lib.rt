@@ -2,6 +2,7 @@
 //! Used by deny_run, the commands' crates and run_completions; no clause is here, names may be added.
 #![tactic(auto)]
 
+pub mod bill;
 pub mod check;
 pub mod command;
 pub mod context;

@@ -34,17 +34,23 @@ pub(crate) fn depth_with_hide(alloc: Global) -> Result<String, AllocError> {
 fn push_label(text: &mut String, row: &OptionRow) -> Result<(), AllocError> {
     let (name, value) = (row.name, row.value);
     match row.kind {
-        OptionUse::One | OptionUse::Many => write!(text, "--{name} <{value}>'"),
+        OptionUse::One | OptionUse::Once | OptionUse::Many => write!(text, "--{name} <{value}>'"),
         OptionUse::Flag => write!(text, "--{name}'"),
         OptionUse::Words => write!(text, "[{value}]...'"),
         OptionUse::Word => write!(text, "<{value}>'"),
     }
 }
 
+/// The names that are possible, or the form.
 fn push_possible(text: &mut String, values: OptionValues) -> Result<(), AllocError> {
-    let OptionValues::Names(names) = values else {
-        return Ok(());
-    };
+    match values {
+        OptionValues::Names(names) => push_names(text, names),
+        OptionValues::Form(form) => write!(text, "\n  [form: {form}]"),
+        OptionValues::Any | OptionValues::File | OptionValues::Folder => Ok(()),
+    }
+}
+
+fn push_names(text: &mut String, names: &[&str]) -> Result<(), AllocError> {
     let mut before = "\n  [possible values: ";
     for name in names {
         write!(text, "{before}{name}")?;

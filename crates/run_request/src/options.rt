@@ -10,6 +10,8 @@ ghost use Rattle.run_request.specs.OptionRow.{rule_of_row, shape_of_row};
 pub enum OptionUse {
     /// With one value, once at most.
     One,
+    /// With one value, once; it is required.
+    Once,
     /// With one value a use.
     Many,
     /// Without a value, once at most.
@@ -31,6 +33,8 @@ pub enum OptionValues {
     Folder,
     /// One of these names.
     Names(&'static [&'static str]),
+    /// A text of a form, as this says it.
+    Form(&'static str),
 }
 
 /// An option of the command line.
@@ -92,6 +96,21 @@ macro_rules! valued {
             value: $value,
             values: $values,
             help: $help,
+        }
+    };
+}
+
+/// An option that is required, with a value of a form.
+macro_rules! formed {
+    ($name:literal, $value:literal, $form:literal, $help:literal) => {
+        OptionRow {
+            kind: OptionUse::Once,
+            name: $name,
+            letter: None,
+            default: None,
+            value: $value,
+            values: OptionValues::Form($form),
+            help: concat!($help, " [form: ", $form, "]"),
         }
     };
 }
@@ -262,7 +281,7 @@ static MAIN: [OptionRow; 19] = [
     ),
 ];
 
-static SUBCOMMANDS: [SubcommandRow; 5] = [
+static SUBCOMMANDS: [SubcommandRow; 6] = [
     SubcommandRow {
         name: "check",
         about: "Checks a project's crates",
@@ -377,6 +396,39 @@ static SUBCOMMANDS: [SubcommandRow; 5] = [
             OptionValues::File,
             "The file that `record` wrote"
         )],
+    },
+    SubcommandRow {
+        name: "bill",
+        about: "Writes an SPDX 2.3 document of what is in a release to standard output, and judges nothing",
+        rows: &[
+            formed!(
+                "name",
+                "NAME",
+                "characters from ! to ~",
+                "The document's name"
+            ),
+            formed!(
+                "namespace",
+                "ADDRESS",
+                "characters from ! to ~",
+                "An absolute address that no other bill has, without #"
+            ),
+            formed!(
+                "created",
+                "MOMENT",
+                "2024-05-01T12:00:00Z",
+                "When the document is made"
+            ),
+            valued!(
+                One,
+                "against",
+                None,
+                None,
+                "FILE",
+                OptionValues::File,
+                "A bill: writes whether anything but the moment has changed, and no bill"
+            ),
+        ],
     },
     SubcommandRow {
         name: "sample",

@@ -5,6 +5,7 @@ ghost use Rattle.clap.specs.Words.{found_of, rows_of, subcommand_rows_of};
 ghost use Rattle.run_request.specs.Reading.{AnswersArgs};
 ghost use Rattle.run_request.specs.Request.{log_context_of, sample_of, subcommand_named, subcommand_asked, verify_of};
 
+use crate::bill::BillArgs;
 use crate::context::{KrateContext, path_at};
 use crate::error::ArgsError;
 use crate::number::SampleSize;
@@ -28,6 +29,8 @@ pub enum Subcommand {
     Record,
     /// The verdicts in the file at this path, joined to the working folder, are to be verified.
     Verify(PathBuf),
+    /// A bill of the crates is to be written, or compared with one.
+    Bill(BillArgs),
 }
 
 /// What the words of a command line ask for.
@@ -95,6 +98,10 @@ fn subcommand_named(
     } else if name == "verify" {
         let path = path_at(alloc, below, "FILE", cwd)?;
         verify_of(alloc, path)
+    } else if name == "bill" {
+        let against = path_at(alloc, below, "against", cwd)?;
+        let args = BillArgs::parse(alloc, below, against)?;
+        Ok(Subcommand::Bill(args))
     } else if name == "sample" {
         let size: Option<SampleSize> = read_first(alloc, below, "N")?;
         sample_of(alloc, size)

@@ -13,7 +13,7 @@ use Rattle.spdx_terms.specs.declared.catalog.identifier.Match.{Match}
 use Rattle.tree_core.specs.texts.Cause.{Cause, no_memory, failed_read, refused_write}
 use Rattle.tree_core.specs.texts.Cause as causes
 use Rattle.run_found.specs.declared.error.Error.{Error}
-use Rattle.run_found.specs.declared.error.Error.TheVariants.{Memory, NotCarried, ManifestPath, ManifestRead, CatalogRead, CatalogSyntax, StoreRead, ConfigRead, ConfigSyntax, ConfigShape, ConfigInvalid, OverrideTwice, MetadataRead, MetadataSyntax, MetadataShape, NoRoots, RecordRead, RecordSyntax, WriteFault}
+use Rattle.run_found.specs.declared.error.Error.TheVariants.{Memory, NotCarried, ManifestPath, ManifestRead, CatalogRead, CatalogSyntax, StoreRead, ConfigRead, ConfigSyntax, ConfigShape, ConfigInvalid, OverrideTwice, MetadataRead, MetadataSyntax, MetadataShape, NoRoots, RecordRead, RecordSyntax, BillText, BillRead, BillSyntax, WriteFault}
 use Rattle.run_found.specs.Error.{cause_of}
 use Rattle.run_found.specs.Hearing.{RequestHearing, TellsContent, TreeSeen}
 use Rattle.run_check.specs.declared.report.Report.{Report}
@@ -88,6 +88,9 @@ selection_apart given found root (MetadataShape fault) refuses = refuses
 selection_apart given found root (NoRoots base excluded unpublished) refuses = refuses.none root
 selection_apart given found root (RecordRead path fault) refuses = refuses
 selection_apart given found root RecordSyntax refuses = refuses
+selection_apart given found root (BillText id) refuses = refuses
+selection_apart given found root (BillRead fault reads) refuses = refuses
+selection_apart given found root BillSyntax refuses = refuses
 selection_apart given found root (WriteFault before after) refuses = refuses
 
 module _ (match_of : List ℕ → Match) (n : ℕ) (small : n ≤ 2 ^ 32) (some : 1 ≤ n) (tree : TreeSeen) (sample : IsSampleTree n tree) where

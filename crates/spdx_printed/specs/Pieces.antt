@@ -42,7 +42,8 @@ groups_or Expression = false
 groups_or Conjunction = true
 groups_or Part = true
 
--- what is wanted where the next node stands, the pieces in front of its tree, the nearest one first, and those behind it
+-- what is wanted where the next node stands, the pieces in front of its tree, the nearest one first, and those behind
+-- it
 pub record ProgressView : Type 0 where
   pub wanted : Wanted
   pub waiting : List Piece

@@ -5,4 +5,4 @@ pub mod laws;
 mod pieces;
 pub mod printing;
 
-pub use printing::printed;
+pub use printing::{printed, push_term};

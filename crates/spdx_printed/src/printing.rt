@@ -11,7 +11,7 @@ use std::alloc::{AllocError, Global};
 use std::fmt::Write;
 
 /// Appends the term at a place; nothing where there is none.
-fn push_term(text: &mut String, terms: &[ExpressionReq], place: usize) -> Result<(), AllocError>
+pub fn push_term(text: &mut String, terms: &[ExpressionReq], place: usize) -> Result<(), AllocError>
     ensures { OnOk result (string_bytes text.new ≡ string_bytes text.old ++ term_text terms.now place) }
 {
     match terms.get(place) {

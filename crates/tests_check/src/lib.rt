@@ -1,6 +1,7 @@
-//! Rows and cases of verdicts, of verdict files, and of what the check tells of crates and of policies.
+//! Rows and cases of verdicts, of verdict files, of bills, and of what the check tells of crates and of policies.
 #![tactic(auto)]
 
+mod bills;
 mod judged;
 mod recorded;
 
@@ -17,6 +18,7 @@ impl Rows for TextRows {
         let tried = match group {
             "verdict" => judged::put_verdict(alloc, text, out),
             "passed over" => judged::put_passed_over(alloc, text, out),
+            "bill" => bills::put_read(alloc, text, out),
             "verdict file" => recorded::put_read(alloc, text, out),
             "verified" => recorded::put_verified(alloc, text, out),
             _ => return false,
@@ -59,6 +61,7 @@ const FILES: [&str; 3] = [
 pub fn compare(rt: &HostRuntime) -> bool {
     let mut is_as_wanted = compare_rows(rt, "check/verdicts.txt", &TextRows);
     is_as_wanted = compare_rows(rt, "check/recorded.txt", &TextRows) & is_as_wanted;
+    is_as_wanted = compare_rows(rt, "check/bills.txt", &TextRows) & is_as_wanted;
     for file in FILES {
         is_as_wanted = compare_cases(rt, file, &ToldCases) & is_as_wanted;
     }

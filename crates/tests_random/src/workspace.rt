@@ -22,13 +22,14 @@ pub(crate) struct Workspace {
     pub(crate) fails: u64,
 }
 
-const COMMANDS: [&str; 6] = [
+const COMMANDS: [&str; 7] = [
     "check licenses",
     "check licenses",
     "-f json check licenses",
     "check -D warnings licenses",
     "list",
     "record",
+    "bill --name n --namespace x --created 2024-05-01T12:00:00Z",
 ];
 
 const TEXTS: [&str; 3] = [

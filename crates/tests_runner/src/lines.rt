@@ -31,6 +31,7 @@ fn put_ended(out: &mut AnswerText, ended: &RunEnd) {
         RunEnd::Listed(_) => out.put("listed"),
         RunEnd::Recorded(_) => out.put("recorded"),
         RunEnd::Verified(_) => out.put("verified"),
+        RunEnd::Billed(_) => out.put("billed"),
         RunEnd::Shown => out.put("shown"),
         RunEnd::Usage => out.put("usage"),
         RunEnd::Refused(error) => write!(out, "refused ({})", error.line().trim_end()),

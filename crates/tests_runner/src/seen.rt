@@ -127,6 +127,9 @@ fn put_error(out: &mut AnswerText, error: &Error) {
         } => write!(out, "no roots: {base} {excluded} {unpublished}"),
         Error::RecordRead { fault, .. } => write!(out, "record: {fault:?}"),
         Error::RecordSyntax => out.put("record syntax"),
+        Error::BillText(id) => write!(out, "bill text: {id}"),
+        Error::BillRead { fault, .. } => write!(out, "bill: {fault:?}"),
+        Error::BillSyntax => out.put("bill syntax"),
         Error::WriteFault { before, after } => write!(out, "write: {before} {after}"),
     }
 }
@@ -368,6 +371,7 @@ fn put_unreported(out: &mut AnswerText, ended: &RunEnd, key: &str, err: &str) {
         RunEnd::Sampled(_) => out.put("sampled"),
         RunEnd::Recorded(_) => out.put("recorded"),
         RunEnd::Verified(crates) => put_answer(out, &crates.answer),
+        RunEnd::Billed(crates) => out.put(if crates.same { "billed" } else { "bill changed" }),
     }
 }
 

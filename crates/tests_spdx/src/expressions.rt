@@ -1,7 +1,8 @@
-//! Texts as expressions, and the certificates of their verdicts.
+//! Texts as expressions, how these are printed, and the certificates of their verdicts.
 use crate::terms::{pair_of, put_fault, put_span};
 use spdx_core::certificates::{Hit, Hits, TermPlaces, Verdict, certificate};
 use spdx_core::{ExprError, ExprNode, Expression, ParseMode, Table};
+use spdx_printed::printed;
 use std::alloc::{AllocError, Global};
 use tests_files::AnswerText;
 
@@ -22,7 +23,7 @@ fn read(alloc: Global, group: &str, text: &str) -> Result<Expression, ExprError>
     let mode = match group {
         "size" => return Expression::parse(alloc, text, &Table),
         "strict" => ParseMode::STRICT,
-        "lax" => ParseMode::LAX,
+        "lax" | "printed expression" => ParseMode::LAX,
         _ => ParseMode {
             allow_deprecated: false,
             allow_imprecise_license_names: group == "imprecise",
@@ -42,6 +43,7 @@ fn put_read(
 ) -> Result<(), AllocError> {
     match group {
         "size" => put_size(out, read),
+        "printed expression" => out.put(printed(alloc, read)?.as_str()),
         "certificate" => {
             let hits = hits_of(alloc, hits)?;
             let verdict = certificate(alloc, read, &hits)?;

@@ -25,7 +25,8 @@ impl Rows for RowTexts {
                     out.want_memory();
                 }
             }
-            "strict" | "with the slash" | "lax" | "imprecise" | "size" | "certificate" => {
+            "strict" | "with the slash" | "lax" | "imprecise" | "size" | "certificate"
+            | "printed expression" => {
                 expressions::put(alloc, out, group, text)
             }
             "places of a family" => families::put(alloc, out, text),

@@ -45,6 +45,7 @@ fn put_ended(out: &mut AnswerText, ended_at: &Result<Outcome, StartError>) {
             RunEnd::Sampled(_) => out.put("sampled"),
             RunEnd::Recorded(_) => out.put("recorded"),
             RunEnd::Verified(_) => out.put("verified"),
+            RunEnd::Billed(_) => out.put("billed"),
             RunEnd::Shown => out.put("shown"),
             RunEnd::Usage => out.put("usage"),
             RunEnd::Refused(_) => out.put("refused"),

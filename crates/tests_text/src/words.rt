@@ -122,6 +122,10 @@ fn put_request(out: &mut AnswerText, request: &Request) {
         Subcommand::Sample(size) => write!(out, " sample {size}"),
         Subcommand::Record => out.put(" record"),
         Subcommand::Verify(path) => write!(out, " verify {path}"),
+        Subcommand::Bill(args) => {
+            write!(out, " bill {} {} {}", args.name, args.namespace, args.created);
+            put_path(out, "against", &args.against);
+        }
     }
 }
 

@@ -6,7 +6,7 @@ use Rattle.run_found.specs.Written.{sink_seen}
 use Rattle.run_command.specs.Carried.{plain_options}
 use Rattle.run_command.specs.Given.{command_asked}
 use Rattle.run_command.specs.Prelude.{Runs}
-use Rattle.deny_run.specs.declared.outcome.RunEnd.TheVariants.{Checked, Listed, Recorded, Sampled, Verified}
+use Rattle.deny_run.specs.declared.outcome.RunEnd.TheVariants.{Billed, Checked, Listed, Recorded, Sampled, Verified}
 use Rattle.deny_run.specs.Ends.{Answers, VerifiesAs}
 use Rattle.deny_run.specs.Seen.{IsStill, run_seen}
 use Rattle.deny_run.proofs.answer.answer_request.Goals as goal
@@ -90,6 +90,26 @@ returns-in-Err-verify_request-clause-answers g c =
     let err = sink_seen (g.E.Sink.written c.args.err.now) (g.E.Sink.written c.verify_request.new.err) (g.E.Sink.fault_count c.args.err.now) (g.E.Sink.fault_count c.verify_request.new.err) in
     subst (λ command. Answers lists match_of c.args.request.now command (run_seen tree out err) (Err c.in-Err-verify_request.error)) (sym c.in-Verify.is)
     (record { value = Err c.in-Err-verify_request.error; is = refl; is_so = (subst (λ (at : List ℕ). Runs (command_asked lists match_of c.args.request.now (plain_options c.args.request.now.log_ctx c.args.request.now.krate_ctx)) (VerifiesAs at out err) tree err out (Err c.in-Err-verify_request.error)) c.as_path-path.ensures c.in-Err-verify_request.ensures.runs) })
+
+pub returns-in-Ok-bill_request-clause-answers : goal.returns-in-Ok-bill_request-clause-answers
+returns-in-Ok-bill_request-clause-answers g c =
+    let lists = g.C.Catalog.lists c.args.catalog.now in
+    let match_of = g.I.Identifier.match_of c.args.identifier.now in
+    let tree = tree_seen (g.T.Tree.content c.args.tree.now) (g.T.Tree.content c.bill_request.new.tree) (g.T.Tree.fault_count c.args.tree.now) (g.T.Tree.fault_count c.bill_request.new.tree) (g.T.Tree.trace c.args.tree.now) (g.T.Tree.trace c.bill_request.new.tree) in
+    let out = sink_seen (g.O.Sink.written c.args.out.now) (g.O.Sink.written c.bill_request.new.out) (g.O.Sink.fault_count c.args.out.now) (g.O.Sink.fault_count c.bill_request.new.out) in
+    let err = sink_seen (g.E.Sink.written c.args.err.now) (g.E.Sink.written c.bill_request.new.err) (g.E.Sink.fault_count c.args.err.now) (g.E.Sink.fault_count c.bill_request.new.err) in
+    subst (λ command. Answers lists match_of c.args.request.now command (run_seen tree out err) (Ok (Billed c.in-Ok-bill_request.crates))) (sym c.in-Bill.is)
+    (record { value = Ok c.in-Ok-bill_request.crates; is = refl; is_so = c.in-Ok-bill_request.ensures.runs })
+
+pub returns-in-Err-bill_request-clause-answers : goal.returns-in-Err-bill_request-clause-answers
+returns-in-Err-bill_request-clause-answers g c =
+    let lists = g.C.Catalog.lists c.args.catalog.now in
+    let match_of = g.I.Identifier.match_of c.args.identifier.now in
+    let tree = tree_seen (g.T.Tree.content c.args.tree.now) (g.T.Tree.content c.bill_request.new.tree) (g.T.Tree.fault_count c.args.tree.now) (g.T.Tree.fault_count c.bill_request.new.tree) (g.T.Tree.trace c.args.tree.now) (g.T.Tree.trace c.bill_request.new.tree) in
+    let out = sink_seen (g.O.Sink.written c.args.out.now) (g.O.Sink.written c.bill_request.new.out) (g.O.Sink.fault_count c.args.out.now) (g.O.Sink.fault_count c.bill_request.new.out) in
+    let err = sink_seen (g.E.Sink.written c.args.err.now) (g.E.Sink.written c.bill_request.new.err) (g.E.Sink.fault_count c.args.err.now) (g.E.Sink.fault_count c.bill_request.new.err) in
+    subst (λ command. Answers lists match_of c.args.request.now command (run_seen tree out err) (Err c.in-Err-bill_request.error)) (sym c.in-Bill.is)
+    (record { value = Err c.in-Err-bill_request.error; is = refl; is_so = c.in-Err-bill_request.ensures.runs })
 
 pub returns-in-Ok-sample-clause-answers : goal.returns-in-Ok-sample-clause-answers
 returns-in-Ok-sample-clause-answers g c =

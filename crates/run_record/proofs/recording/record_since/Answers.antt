@@ -4,9 +4,8 @@ use Rattle.run_found.specs.Hearing.{tree_seen}
 use Rattle.run_found.specs.Written.{sink_seen}
 use Rattle.run_command.specs.Carried.{plain_options}
 use Rattle.run_command.specs.Given.{command_arguments_of}
-use Rattle.run_command.proofs.CarriedLemmas.{plain_carried}
+use Rattle.run_command.proofs.CarriedLemmas.{plain_carried, plain_use}
 use Rattle.run_check.specs.Report.{Reports}
-use Rattle.run_record.proofs.EndLemmas.{plain_use}
 use Rattle.run_record.proofs.RecordLemmas.{are_judged, memory_silent, report_counts, report_ends}
 use Rattle.run_record.proofs.recording.record_since.Goals as goal
 

@@ -6,9 +6,8 @@ use Rattle.run_command.specs.Carried.{plain_options}
 use Rattle.run_command.specs.Crates.{FindsCrates, HasCrates}
 use Rattle.run_command.specs.Found.{choice_in}
 use Rattle.run_command.specs.Given.{command_arguments_of}
-use Rattle.run_command.proofs.CarriedLemmas.{plain_carried}
+use Rattle.run_command.proofs.CarriedLemmas.{plain_carried, plain_use}
 use Rattle.run_command.proofs.SettledLemmas.{cut_stops}
-use Rattle.run_record.proofs.EndLemmas.{plain_use}
 use Rattle.run_record.proofs.VerifyLemmas.{file_counts, verified_by}
 use Rattle.run_record.proofs.verifying.verified_crates.Goals as goal
 

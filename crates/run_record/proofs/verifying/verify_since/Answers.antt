@@ -1,7 +1,7 @@
 use Rattle.std.proofs.Common.{◌∙◌, inl, inr, refl, subst}
 use Rattle.std.proofs.lemmas.Result.{err_from_is_err_and}
 use Rattle.tree_core.specs.Faults.{GainedPrefix}
-use Rattle.run_record.proofs.EndLemmas.{write_counts}
+use Rattle.run_command.proofs.WrittenLemmas.{write_counts}
 use Rattle.run_record.proofs.verifying.verify_since.Goals as goal
 
 pub returns-in_err-crates-clause-verifies : goal.returns-in_err-crates-clause-verifies

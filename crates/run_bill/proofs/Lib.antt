@@ -1,0 +1,2 @@
+pub mod BillLemmas
+pub mod PackageLemmas

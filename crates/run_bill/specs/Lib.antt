@@ -1,0 +1,4 @@
+pub mod Billed
+pub mod Bills
+pub mod Licences
+pub mod Steps
