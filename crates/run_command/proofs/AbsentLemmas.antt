@@ -46,7 +46,7 @@ use Rattle.run_found.specs.own_names.Given.{ListsAsked, ListsGiven, TextsGiven}
 use Rattle.run_found.specs.own_names.Heard.{ListsHearing, catalog_by, catalog_told, count_catalog, given_by, given_heard, lists_calls, lists_heard, texts_by, texts_heard, texts_told}
 use Rattle.run_command.specs.Found.{input_of, policy_asked, unless_twice}
 use Rattle.run_command.specs.Given.{CommandArguments, CommandRequest, command_by, handed_in}
-use Rattle.run_command.specs.Prelude.{ComesTo, Runs, came, from_there, lists_had, no_lists, no_manifest, stopped, unsupported}
+use Rattle.run_command.specs.Prelude.{ComesTo, RunsBy, came, from_there, lists_had, no_lists, no_manifest, stopped, unsupported}
 use Rattle.run_command.specs.Stops.{Refuses, Stops}
 use Rattle.run_command.proofs.ManifestLemmas.{look_apart}
 
@@ -230,7 +230,7 @@ comes_never given tree (lists_had carried told count calls looked own finds same
 
 -- ---- a run
 
-pub runs_never : {X : Type 0} (given : CommandRequest) (IsDone : CommandArguments → TreeSeen → Result X Error → Type 0) (tree : TreeSeen) (err out : SinkSeen)
-    → ((own : CommandArguments) (rest : TreeSeen) → IsDone own rest (Err (ConfigRead Absent)) → ⊥) → Runs given IsDone tree err out (Err (ConfigRead Absent)) → ⊥
+pub runs_never : {X : Type 0} (given : CommandRequest) (IsDone : ListsGiven → CommandArguments → TreeSeen → Result X Error → Type 0) (tree : TreeSeen) (err out : SinkSeen)
+    → ((lists : ListsGiven) (own : CommandArguments) (rest : TreeSeen) → IsDone lists own rest (Err (ConfigRead Absent)) → ⊥) → RunsBy given IsDone tree err out (Err (ConfigRead Absent)) → ⊥
 runs_never {X} given IsDone tree err out never (stopped error comes same silent silent_out) = comes_never given tree (subst (λ own. ComesTo given tree (Err own)) (same_error same) comes)
-runs_never {X} given IsDone tree err out never (came told count calls lists comes is_done) = never (command_by given.command lists) (from_there tree told count calls) is_done
+runs_never {X} given IsDone tree err out never (came told count calls lists comes is_done) = never lists (command_by given.command lists) (from_there tree told count calls) is_done

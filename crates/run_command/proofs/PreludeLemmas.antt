@@ -24,7 +24,7 @@ use Rattle.run_command.specs.Found.{IsHeard, calls_of}
 use Rattle.run_command.specs.Given.{CommandArguments, CommandRequest, command_by, handed_in}
 use Rattle.run_command.specs.Lawful.{CommandHearing, IsLawful, IsLawfulOver, IsLawfulRun, IsRunHeard, run_calls, there_call}
 use Rattle.run_command.specs.Manifest.{AnswersLook, IsLookedWhereDue, LooksAtManifest, is_manifest, look_by, look_in, manifest_call, manifest_calls, manifest_due, manifest_found, unlooked}
-use Rattle.run_command.specs.Prelude.{ComesTo, IsUntouched, Runs, came, from_there, lists_had, no_lists, no_manifest, stopped, unsupported, up_to}
+use Rattle.run_command.specs.Prelude.{ComesTo, IsUntouched, RunsBy, came, from_there, lists_had, no_lists, no_manifest, stopped, unsupported, up_to}
 use Rattle.run_command.specs.Stops.{IsRefusal, PolicyAndCrates}
 use Rattle.run_command.proofs.AlikeLemmas.{IsAlike, IsSameContent, IsSameTrace, content_alike, trace_alike}
 use Rattle.run_command.proofs.LawfulLemmas.{NoRefusal, free_read, free_told}
@@ -92,8 +92,8 @@ pub comes_still : (given : CommandRequest) (tree : TreeSeen) (lists : ListsGiven
 comes_still given tree lists comes = (comes_by given tree lists comes).still
 
 -- a part that is not carried is the refusal, and no call is made
-pub runs_unsupported : {X : Type 0} (given : CommandRequest) (IsDone : CommandArguments → TreeSeen → Result X Error → Type 0) (tree : TreeSeen) (err out : SinkSeen) (answer : Result X Error) (what : UnsupportedPart)
-    → given.command.options.unsupported ≡ Some what → Runs given IsDone tree err out answer → (answer ≡ Err (NotCarried what)) × IsUntouched tree
+pub runs_unsupported : {X : Type 0} (given : CommandRequest) (IsDone : ListsGiven → CommandArguments → TreeSeen → Result X Error → Type 0) (tree : TreeSeen) (err out : SinkSeen) (answer : Result X Error) (what : UnsupportedPart)
+    → given.command.options.unsupported ≡ Some what → RunsBy given IsDone tree err out answer → (answer ≡ Err (NotCarried what)) × IsUntouched tree
 runs_unsupported {X} given IsDone tree err out answer what is (stopped error comes same silent silent_out) = by_comes comes
   where
     refused_with : {own : UnsupportedPart} {refusal : Error} → own ≡ what → ◌≡◌ {A = Result ListsGiven Error} (Err refusal) (Err (NotCarried own)) → ◌≡◌ {A = Result X Error} (Err refusal) (Err (NotCarried what))
@@ -227,16 +227,16 @@ module _ (Same : List Call → List Call → Type 0) (alike : IsAlike Same) (giv
 
 -- What is so of a refusal for want of memory, and of what the command answers by the lawful names and texts where nothing that it hears is
 -- refused, is so of the answer.
-module _ {X : Type 0} (given : CommandRequest) (IsDone : CommandArguments → TreeSeen → Result X Error → Type 0) (tree : TreeSeen) (err out : SinkSeen) (answer : Result X Error)
-    (makes : (own : CommandArguments) (rest : TreeSeen) → IsDone own rest answer → HasMade rest) where
+module _ {X : Type 0} (given : CommandRequest) (IsDone : ListsGiven → CommandArguments → TreeSeen → Result X Error → Type 0) (tree : TreeSeen) (err out : SinkSeen) (answer : Result X Error)
+    (makes : (lists : ListsGiven) (own : CommandArguments) (rest : TreeSeen) → IsDone lists own rest answer → HasMade rest) where
   -- calls were made, and nothing else came of the run
-  pub runs_made : Runs given IsDone tree err out answer → HasMade tree
+  pub runs_made : RunsBy given IsDone tree err out answer → HasMade tree
   runs_made (stopped error comes is silent silent_out) = comes_made given tree (Err error) comes
   runs_made (came told count calls lists comes is_done) =
-      some_joined (comes_made given (up_to tree told count calls) (Ok lists) comes) (makes (command_by given.command lists) (from_there tree told count calls) is_done)
+      some_joined (comes_made given (up_to tree told count calls) (Ok lists) comes) (makes lists (command_by given.command lists) (from_there tree told count calls) is_done)
 
   module _ (EndsSo : Result X Error → Type 0) (wanting : (error : Error) → MayEndLawful (cause_of error) → EndsSo (Err error)) (had : ListsGiven)
-      (done : (rest : TreeSeen) → NoRefusal (command_by given.command had) rest → IsDone (command_by given.command had) rest answer → EndsSo answer) where
+      (done : (rest : TreeSeen) → NoRefusal (command_by given.command had) rest → IsDone had (command_by given.command had) rest answer → EndsSo answer) where
     abbrev own : CommandArguments
     own = command_by given.command had
 
@@ -255,19 +255,19 @@ module _ {X : Type 0} (given : CommandRequest) (IsDone : CommandArguments → Tr
       free_behind told count calls lists by one error ran refusal =
           free one error (ran.begun ∙ by.still) (alike_behind told count calls lists by (calls_of own one) ran.made).1 refusal
 
-      lawful_by : Runs given IsDone tree err out answer → EndsSo answer
+      lawful_by : RunsBy given IsDone tree err out answer → EndsSo answer
       lawful_by (stopped error comes is silent silent_out) =
           subst EndsSo (sym is)
           (wanting error (refused_before Same alike given lawful.asks.carried lawful.comes.named hearing.lists had lawful.comes.heard more tree error comes alikes))
       lawful_by (came told count calls lists comes is_done) =
           let rest = from_there tree told count calls in
           let by = comes_by given (up_to tree told count calls) lists comes in
-          let made = makes (command_by given.command lists) rest is_done in
+          let made = makes lists (command_by given.command lists) rest is_done in
           done rest (free_behind told count calls lists by)
-          (subst (λ one. IsDone (command_by given.command one) rest answer) (alike_behind told count calls lists by made.calls made.made).0 is_done)
+          (subst (λ one. IsDone one (command_by given.command one) rest answer) (alike_behind told count calls lists by made.calls made.made).0 is_done)
 
     -- by what was read
-    pub lawful_run : (hearing : CommandHearing) (behind : List Call) (asked : PolicyAndCrates) → IsLawfulRun given tree hearing had behind asked → Runs given IsDone tree err out answer → EndsSo answer
+    pub lawful_run : (hearing : CommandHearing) (behind : List Call) (asked : PolicyAndCrates) → IsLawfulRun given tree hearing had behind asked → RunsBy given IsDone tree err out answer → EndsSo answer
     lawful_run hearing behind asked is =
         lawful_by IsSameTrace trace_alike hearing asked is.lawful (calls_of own hearing.found ++ behind) alikes
         (λ one error begun same refusal. free_read own hearing.found one asked (begun ∙ sym is.begun.found) is.lawful.due is.lawful.asks error refusal behind (sym same))
@@ -279,7 +279,7 @@ module _ {X : Type 0} (given : CommandRequest) (IsDone : CommandArguments → Tr
 
     -- and by a content, where the tree tells it
     pub lawful_over : (content : Content) → tree.told ≡ Some content → ¬ (Rose tree.count_before tree.count_after) → (hearing : CommandHearing) (asked : PolicyAndCrates)
-        → IsLawfulOver given content tree.count_before hearing had asked → Runs given IsDone tree err out answer → EndsSo answer
+        → IsLawfulOver given content tree.count_before hearing had asked → RunsBy given IsDone tree err out answer → EndsSo answer
     lawful_over content told still hearing asked is =
         lawful_by (IsSameContent content tree.count_before tree.count_after) (content_alike content tree.count_before tree.count_after still) hearing asked is.lawful (calls_of own hearing.found)
         (λ calls made. record {

@@ -14,8 +14,8 @@ pub use lines::put_run;
 
 /// Files of cases: of the first path and failures, of what words ask for and how they are refused, of metadata, of
 /// policies, of what is found, of what is read of each crate, of the calls of the tree, of licence families, of
-/// listings, of the sample, of own catalogues and texts, of verdict files, of policies by their version, and of bills.
-const FILES: [&str; 15] = [
+/// listings, of the sample, of own catalogues and texts, of verdict files, of policies by their version, of bills, and of notices.
+const FILES: [&str; 16] = [
     "run/gate.txt",
     "run/command.txt",
     "run/refused.txt",
@@ -31,6 +31,7 @@ const FILES: [&str; 15] = [
     "run/records.txt",
     "run/versions.txt",
     "run/bills.txt",
+    "run/notices.txt",
 ];
 
 /// Files of cases of input that is bad, long or deep, and of runs in which calls fail.

@@ -126,6 +126,7 @@ fn put_request(out: &mut AnswerText, request: &Request) {
             write!(out, " bill {} {} {}", args.name, args.namespace, args.created);
             put_path(out, "against", &args.against);
         }
+        Subcommand::Notice => out.put(" notice"),
     }
 }
 
