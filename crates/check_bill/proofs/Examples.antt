@@ -1,5 +1,5 @@
 -- A bill, worked out by hand from the format.
-use Rattle.std.proofs.Common.{◌≡◌, refl, ℕ, true, false, List, [], ◌∷◌, ◌++◌, Option, Some, None, codes}
+use Rattle.std.proofs.Common.{◌≡◌, refl, ℕ, true, false, List, [], ◌∷◌, ◌++◌, codes}
 use Rattle.std.specs.Fmt.{digits}
 use Rattle.check_bill.specs.declared.bill.Bill.{Bill}
 use Rattle.check_bill.specs.declared.bill.BillPackage.{BillPackage}

@@ -1,13 +1,13 @@
 -- The text of a line, where it has a form.
-use Rattle.std.proofs.Common.{◌≡◌, ◌∙◌, refl, sym, ap, subst, ℕ, zero, suc, ◌+◌, ◌<◌, Bool, true, false, true≢false, not, ◌&&◌, cond, eqb, eqb-true, List, [], ◌∷◌, ◌++◌, length, get_or, take, drop, take_at, drop_at, take-append-drop, Option, Some, None, IsUtf8, codes, arith}
+use Rattle.std.proofs.Common.{◌≡◌, ◌∙◌, refl, sym, ap, subst, ℕ, zero, suc, ◌+◌, ◌<◌, Bool, true, false, true≢false, not, ◌&&◌, cond, eqb, eqb-true, List, [], ◌∷◌, ◌++◌, length, get_or, take, drop, take_at, drop_at, take-append-drop, Some, None, IsUtf8, codes, arith}
 use Rattle.std.specs.Char.{is_ascii_digit}
 use Rattle.std.specs.List.{list_all, prefix_len}
-use Rattle.std.specs.Str.{is_utf8, IsAscii}
+use Rattle.std.specs.Str.{is_utf8}
 use Rattle.std.proofs.lemmas.Bool.Decides.{nat_tests}
 use Rattle.std.proofs.lemmas.Str.{IsUtf8-from_is_utf8, is_utf8-from_IsUtf8, IsUtf8-from_ascii}
 use Rattle.check_bill.specs.declared.forms.TextForm.{TextForm}
 use Rattle.check_bill.specs.declared.forms.TextForm.TheVariants.{Word, Moment, Line}
-use Rattle.check_bill.specs.Bills.{has_some, is_visible, is_word, is_in_line, is_line, stands_for, has_form, has_day, has_time, is_moment, is_of}
+use Rattle.check_bill.specs.Bills.{has_some, is_visible, is_word, is_in_line, stands_for, has_form, has_day, has_time, is_moment, is_of}
 use Rattle.check_bill.specs.Reading.{◌>>=◌, behind_text, stays, text_at, field_at}
 use Rattle.check_bill.proofs.StepLemmas.{some_is, bind_some, passes, both, and_true, behind_text_is, behind_text_again}
 

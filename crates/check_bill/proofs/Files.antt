@@ -1,5 +1,5 @@
 -- A whole bill.
-use Rattle.std.proofs.Common.{◌≡◌, ◌⊎◌, ◌∙◌, refl, sym, ap, subst, inl, inr, ℕ, zero, suc, ◌+◌, ◌≤◌, Bool, true, false, cond, List, [], ◌∷◌, ◌++◌, append_assoc, append-nil, length, length-append, Option, Some, None, Result, Ok, Err, arith}
+use Rattle.std.proofs.Common.{◌≡◌, ◌∙◌, refl, sym, ap, subst, inl, inr, ℕ, zero, suc, ◌+◌, ◌≤◌, List, [], ◌∷◌, ◌++◌, append_assoc, append-nil, length, length-append, Option, Some, None, Ok, Err, arith}
 use Rattle.std.specs.List.{AllByRecursion}
 use Rattle.check_bill.specs.declared.bill.Bill.{Bill}
 use Rattle.check_bill.specs.declared.bill.BillPackage.{BillPackage}
@@ -9,7 +9,7 @@ use Rattle.check_bill.specs.Answers.{AnswersRead, Spells}
 use Rattle.check_bill.specs.Bills.{IsBill, IsBillPackage}
 use Rattle.check_bill.specs.Laws.{BillsReadBack, ReadIsWritten}
 use Rattle.check_bill.specs.Lines.{head_before, lines_of, package_before, packages_from}
-use Rattle.check_bill.specs.Reading.{◌>>=◌, HeadTexts, Misses, Read, bill_with, has_more, head_at, package_at, packages_on, whole_at}
+use Rattle.check_bill.specs.Reading.{◌>>=◌, HeadTexts, Misses, Read, bill_with, head_at, package_at, packages_on, whole_at}
 use Rattle.check_bill.proofs.Packages.{head_again, head_takes, package_again, package_longer, package_takes}
 use Rattle.check_bill.proofs.StepLemmas.{bind_some, some_is}
 

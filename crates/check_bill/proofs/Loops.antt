@@ -3,7 +3,7 @@ use Rattle.std.proofs.Common.{◌≡◌, ◌∙◌, refl, sym, ℕ, zero, suc, �
 use Rattle.check_bill.specs.declared.bill.BillPackage.{BillPackage}
 use Rattle.check_bill.specs.declared.error.BillError.{BillError}
 use Rattle.check_bill.specs.declared.error.BillError.TheVariants.{Syntax, Memory}
-use Rattle.check_bill.specs.Reading.{◌>>=◌, Misses, Read, has_more, package_at, packages_on}
+use Rattle.check_bill.specs.Reading.{Misses, Read, has_more, package_at, packages_on}
 use Rattle.check_bill.proofs.Packages.{package_shortens}
 
 packages_end : (most : ℕ) (packages : List BillPackage) (bytes : List ℕ) → has_more bytes ≡ false → packages_on most packages bytes ≡ Some packages

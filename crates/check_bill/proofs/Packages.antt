@@ -1,12 +1,12 @@
 -- A head and a package are read as they are written.
-use Rattle.std.proofs.Common.{◌≡◌, ◌∙◌, refl, sym, ap, subst, ℕ, ◌+◌, ◌<◌, ◌≤◌, true, List, [], ◌∷◌, ◌++◌, length, length-append, Option, Some, None, IsUtf8, codes, decimal, arith}
+use Rattle.std.proofs.Common.{◌≡◌, ◌∙◌, ap, subst, ℕ, ◌<◌, true, List, [], ◌∷◌, ◌++◌, length, length-append, Option, Some, codes, decimal, arith}
 use Rattle.check_bill.specs.declared.bill.Bill.{Bill}
 use Rattle.check_bill.specs.declared.bill.BillPackage.{BillPackage}
 use Rattle.check_bill.specs.declared.forms.TextForm.TheVariants.{Word, Moment, Line}
-use Rattle.check_bill.specs.Bills.{IsBill, IsBillPackage, IsLine, is_line, is_moment, is_word}
+use Rattle.check_bill.specs.Bills.{IsBill, IsBillPackage, IsLine, is_moment, is_word}
 use Rattle.check_bill.specs.Lines.{head_before, package_before}
 use Rattle.check_bill.specs.Reading.{◌>>=◌, Read, HeadTexts, behind_number, behind_text, bill_with, field_at, head_at, licensed_at, named_at, package_at}
-use Rattle.check_bill.proofs.Fields.{TakesField, field_again, field_takes, moment_visible, visible_utf8, word_visible}
+use Rattle.check_bill.proofs.Fields.{field_again, field_takes, moment_visible, visible_utf8, word_visible}
 use Rattle.check_bill.proofs.Lines.{package_rest, to_concluded, to_created, to_declared, to_last, to_name, to_namespace, to_number, to_package, to_version}
 use Rattle.check_bill.proofs.StepLemmas.{behind_text_again, behind_text_is, bind_some, some_is}
 

@@ -1,5 +1,5 @@
 -- Packages and lists of packages that are the same.
-use Rattle.std.proofs.Common.{◌≡◌, ◌∙◌, ◌↔◌, refl, sym, ap, List, [], ◌∷◌, length}
+use Rattle.std.proofs.Common.{◌≡◌, ◌∙◌, ◌↔◌, ap, List, ◌∷◌}
 use Rattle.check_bill.specs.declared.bill.BillPackage.{BillPackage}
 
 -- packages are the same where their parts are

@@ -1,5 +1,5 @@
 -- Steps of a reading, and what is behind a text.
-use Rattle.std.proofs.Common.{◌≡◌, ◌∙◌, refl, sym, ap, ◌&&◌, Bool, true, false, true≢false, cond, nat_eq, List, ◌∷◌, ◌++◌, length, drop, drop_at, Option, Some, None, ℕ}
+use Rattle.std.proofs.Common.{◌≡◌, ◌∙◌, refl, sym, ap, ◌&&◌, Bool, true, false, true≢false, cond, nat_eq, List, ◌++◌, length, drop, drop_at, Option, Some, None, ℕ}
 use Rattle.std.specs.List.{starts_with}
 use Rattle.std.proofs.lemmas.Bool.Decides.{Decides-eqb}
 use Rattle.std.proofs.lemmas.Slice.Eq.{starts_is}

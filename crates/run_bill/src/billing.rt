@@ -1,6 +1,6 @@
 //! The command `bill`.
 //! Called by `bill_request` of `deny_run`; a bill may be written in pieces, the write comes last.
-ghost use Rattle.std.specs.Prelude.{◌≡◌, ◌≤◌, IfErr, None, Some};
+ghost use Rattle.std.specs.Prelude.{◌≡◌, ◌≤◌, IfErr, None};
 ghost use Rattle.tree_core.specs.texts.Cause.{ReadCounts};
 ghost use Rattle.run_found.specs.Error.{cause_of};
 ghost use Rattle.run_found.specs.Hearing.{seen_between};

@@ -1,9 +1,11 @@
 -- The report of a check, from the licences that were settled and the verdicts on them.
-use Rattle.std.proofs.Common.{◌≡◌, ◌∙◌, refl, sym, ap, subst, ℕ, ℤ, List, Option, Some, None, Ok}
+use Rattle.std.proofs.Common.{◌≡◌, ◌∙◌, refl, sym, ap, subst, ℕ, ℤ, List, map, Option, Some, None, Ok}
 use Rattle.std.specs.Prelude.{All}
 use Rattle.tree_core.specs.Call.{Call}
 use Rattle.tree_core.specs.Content.{Content}
 use Rattle.diag_core.specs.File.{File}
+use Rattle.graph_core.specs.Metadata.{AreRising, Graph, ids_of}
+use Rattle.graph_core.specs.selection.Choice.{Choice}
 use Rattle.graph_core.specs.selection.Listed.{IsChosen, IsListOf, ReachedCrates, selected_in}
 use Rattle.graph_core.specs.selection.Walks.{Selected}
 use Rattle.graph_core.proofs.selection.SelectedLemmas.{selected-lists}
@@ -13,9 +15,10 @@ use Rattle.policy_core.specs.Policy.{PolicyFound}
 use Rattle.policy_core.specs.valid.View.{policy_of}
 use Rattle.policy_core.specs.declared.valid.policy.ValidConfig.{ValidConfig}
 use Rattle.gather_core.specs.Calls.{CrateTurn}
-use Rattle.gather_core.specs.Gathered.{include_of}
+use Rattle.gather_core.specs.Gathered.{include_of, krate_of}
+use Rattle.gather_core.specs.Rules.{rules_of}
 use Rattle.gather_core.specs.declared.summary.KrateLicense.{KrateLicense}
-use Rattle.gather_core.proofs.CrateTurns.{own_turns}
+use Rattle.gather_core.proofs.CrateTurns.{krates_told, own_turns}
 use Rattle.spdx_core.specs.declared.certificates.verdict.Verdict.{Verdict}
 use Rattle.check_core.specs.Check.{AreVerdicts, findings_of}
 use Rattle.check_core.specs.Labels.{VerdictPoints}
@@ -24,8 +27,8 @@ use Rattle.run_overrides.specs.Levels.{packs_at}
 use Rattle.run_found.specs.Found.{files_loaded}
 use Rattle.run_found.specs.declared.error.Error.TheVariants.{Memory}
 use Rattle.run_found.specs.Hearing.{RequestHearing, TreeSeen, crates_heard, tree_seen}
-use Rattle.run_found.specs.Selection.{included_in}
 use Rattle.run_found.specs.Written.{SinkSeen}
+use Rattle.run_found.proofs.ByteLemmas.{bytes_of_graph}
 use Rattle.run_command.specs.declared.crates.CratesFound.{CratesFound}
 use Rattle.run_command.specs.Crates.{HasCrates}
 use Rattle.run_command.specs.Found.{at_threshold, choice_in, scanner_of_given, turns_in}
@@ -44,14 +47,10 @@ use Rattle.run_check.specs.Steps.{IsCheckOf, IsCheckedOn, checked_by, report_wit
 use Rattle.run_check.proofs.OrderAlike.{lists_alike}
 use Rattle.run_check.proofs.GatheredLemmas.{all_looked, labels_cut, reported_by, sources_told, verdicts_reported}
 
--- the least score of a text leaves the policy's file, and which crates are looked at
+-- the least score of a text leaves the policy's file
 file_at : (threshold : Option ℤ) (policy : ValidConfig) → (at_threshold threshold policy).file_id ≡ policy.file_id
 file_at None policy = refl
 file_at (Some threshold) policy = refl
-
-include_at : (threshold : Option ℤ) (policy : ValidConfig) → include_of (at_threshold threshold policy) ≡ include_of policy
-include_at None policy = refl
-include_at (Some threshold) policy = refl
 
 -- ---- by what was read
 
@@ -113,20 +112,13 @@ module _ (given : CommandArguments) (hearing : RequestHearing) (policy : ValidCo
 
 -- ---- over a tree
 
--- the crates that are selected of those that are reached are those that are asked for
-module _ (given : CommandArguments) (hearing : RequestHearing) (policy : ValidConfig) (licenses : List KrateLicense) (last : List File) (settled : IsSettled given hearing policy licenses last) (chosen : ReachedCrates)
-    (is : IsChosen settled.asked.graph (choice_in given settled.asked.policy) chosen) where
-  same_include : include_of policy ≡ included_in settled.asked.policy
-  same_include = ap include_of settled.ordered.rest ∙ include_at given.options.threshold settled.asked.policy.licenses
-
+-- the crates that are selected of those that are reached are those that had their turns
+module _ (given : CommandArguments) (hearing : RequestHearing) (policy : ValidConfig) (licenses : List KrateLicense) (last : List File) (settled : IsSettled given hearing policy licenses last) (graph : Graph)
+    (rising : AreRising (ids_of graph)) (choice : Choice) (chosen : ReachedCrates) (is : IsChosen graph choice chosen) (selected : IsListOf graph (Selected graph choice (include_of policy)) (map krate_of licenses)) where
   pub crates_are : selected_in (include_of policy) chosen ≡ crates_heard hearing
   crates_are =
-      lists_alike settled.asked.graph (graph-rising settled.asks.metadata.text sparse_dir settled.asked.graph settled.asks.metadata.tells) (Selected settled.asked.graph (choice_in given settled.asked.policy) (included_in settled.asked.policy))
-      (selected_in (include_of policy) chosen) settled.asked.crates
-      (subst (λ include. IsListOf settled.asked.graph (Selected settled.asked.graph (choice_in given settled.asked.policy) include) (selected_in (include_of policy) chosen)) same_include
-      (selected-lists settled.asked.graph (choice_in given settled.asked.policy) chosen is (include_of policy)))
-      settled.asks.selected
-      ∙ sym settled.crates
+      lists_alike graph rising (Selected graph choice (include_of policy)) (selected_in (include_of policy) chosen) (map krate_of licenses) (selected-lists graph choice chosen is (include_of policy)) selected
+      ∙ sym (krates_told (scanner_of_given given policy) policy.file_id (rules_of policy) (files_loaded given.request hearing) hearing.crates licenses last settled.turns)
 
 module _ (given : CommandArguments) (carried : given.options.unsupported ≡ None) (told middle tells : Option Content) (begun mid after : ℕ) (old between more : List Call) (err : SinkSeen) (files : List File)
     (found : CratesFound) (has : HasCrates given (tree_seen told middle begun mid old between) err files found) where
@@ -136,12 +128,13 @@ module _ (given : CommandArguments) (carried : given.options.unsupported ≡ Non
   judged_ends last checked done =
       let hearing = hears given told middle tells begun mid after old between more err files found has done.gathered.crates in
       let settled = is_settled given told middle tells begun mid after old between more err files found has carried last done.licenses done.gathered in
+      let at = bytes_of_graph given.request hearing has.graph has.graph_is in
       hears_so given told middle tells begun mid after old between more err files found has carried last done.licenses done.gathered (λ hearing. IsJudged given hearing (record { report = report_with checked last; krates = found.krates }))
       (record {
         report = is_reported given hearing found.policy done.licenses last settled checked done.check done.points;
         crates =
             ap (λ (policy : ValidConfig). selected_in (include_of policy) found.krates) (ap (λ (one : CheckedCrates). one.policy) done.check.is)
-            ∙ crates_are given hearing found.policy done.licenses last settled found.krates has.chosen;
+            ∙ crates_are given hearing found.policy done.licenses last settled has.graph (graph-rising at.text sparse_dir has.graph at.tells) (choice_in given has.policy) found.krates has.chosen done.gathered.selected;
       })
 
 -- the report is the one that is asked for, whatever crates are beside it
