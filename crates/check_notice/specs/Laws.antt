@@ -24,7 +24,8 @@ pub record CitesTerm (by : TextSources) (own : List OwnText) (texts : List (List
   pub leads : LeadsTo texts key.number text
 
 -- a crate is told with each term that it is used under, in the same order
-pub record TellsCrate (by : TextSources) (texts : List (List ℕ)) (one : NoticedCrate) (told : NoticeCrate) : Type 0 where
+pub record TellsCrate (by : TextSources) (texts : List (List ℕ)) (one : NoticedCrate) (told : NoticeCrate)
+    : Type 0 where
   pub id : told.id ≡ one.krate.id
   pub terms : AllZip (CitesTerm by one.own texts) (used_terms one) told.keys
 

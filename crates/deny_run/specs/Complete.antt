@@ -10,8 +10,8 @@ use Rattle.run_request.specs.declared.request.Subcommand.{Subcommand}
 use Rattle.run_request.specs.declared.request.Subcommand.TheVariants.{Check, List as Listing, Sample, Record, Verify}
 use Rattle.run_request.specs.declared.request.Subcommand.TheVariants.{Bill, Notice}
 use Rattle.run_found.specs.declared.error.Error.{Error}
-use Rattle.run_found.specs.declared.error.Error.TheVariants.{NotAccepted, NoText, RecordRead, RecordSyntax, BillText, BillRead}
-use Rattle.run_found.specs.declared.error.Error.TheVariants.{BillSyntax}
+use Rattle.run_found.specs.declared.error.Error.TheVariants.{NotAccepted, NoText, RecordRead, RecordSyntax}
+use Rattle.run_found.specs.declared.error.Error.TheVariants.{BillText, BillRead, BillSyntax}
 use Rattle.run_found.specs.Error.{MayEndLawful, cause_of}
 use Rattle.run_found.specs.own_names.Given.{ListsGiven}
 use Rattle.run_command.specs.Given.{CommandOptions}
@@ -19,7 +19,8 @@ use Rattle.run_command.specs.Lawful.{CommandHearing, IsLawfulOver, IsLawfulRun}
 use Rattle.run_command.specs.Stops.{PolicyAndCrates}
 use Rattle.deny_run.specs.declared.outcome.Outcome.{Outcome}
 use Rattle.deny_run.specs.declared.outcome.RunEnd.{RunEnd}
-use Rattle.deny_run.specs.declared.outcome.RunEnd.TheVariants.{Checked, Listed, Recorded, Verified, Billed, Noticed, Refused}
+use Rattle.deny_run.specs.declared.outcome.RunEnd.TheVariants.{Checked, Listed, Recorded, Verified, Billed}
+use Rattle.deny_run.specs.declared.outcome.RunEnd.TheVariants.{Noticed, Refused}
 use Rattle.deny_run.specs.Given.{RunArguments, asked_of, options_of}
 use Rattle.deny_run.specs.Seen.{IsWithoutFault, RunSeen}
 use Rattle.deny_run.specs.Words.{HasRequest}

@@ -32,8 +32,8 @@ use Rattle.run_notice.specs.declared.noticed.NoticedCrates.{NoticedCrates}
 use Rattle.run_notice.specs.Noticed.{Notices}
 use Rattle.deny_run.specs.declared.answer.Answered.{Answered}
 use Rattle.deny_run.specs.declared.outcome.RunEnd.{RunEnd}
-use Rattle.deny_run.specs.declared.outcome.RunEnd.TheVariants.{Checked, Listed, Sampled, Recorded, Verified, Billed, Noticed}
-use Rattle.deny_run.specs.declared.outcome.RunEnd.TheVariants.{Refused}
+use Rattle.deny_run.specs.declared.outcome.RunEnd.TheVariants.{Checked, Listed, Sampled, Recorded, Verified, Billed}
+use Rattle.deny_run.specs.declared.outcome.RunEnd.TheVariants.{Noticed, Refused}
 use Rattle.deny_run.specs.Check.{Checks}
 use Rattle.deny_run.specs.Given.{RunArguments}
 use Rattle.deny_run.specs.Sample.{Samples}
