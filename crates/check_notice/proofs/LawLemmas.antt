@@ -59,8 +59,8 @@ terms_cited by own texts (req ∷ reqs) whole there = step (text_for by own req)
     step (Some text) has =
         subst Goal (sym has)
         (λ there. (
-        record { called = refl; text = text; is = has; leads = leads texts text there.0 },
-        terms_cited by own texts reqs (sym (ap (λ (found : Option (List ℕ)). cond (is_none found) (Some req) (find (lacks by own) reqs)) has) ∙ whole) there.1,
+          record { called = refl; text = text; is = has; leads = leads texts text there.0 },
+          terms_cited by own texts reqs (sym (ap (λ (found : Option (List ℕ)). cond (is_none found) (Some req) (find (lacks by own) reqs)) has) ∙ whole) there.1,
         ))
         there
 

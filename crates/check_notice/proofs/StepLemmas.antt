@@ -106,7 +106,7 @@ one_told by texts told one accepted now is =
     let mine = fold with_text texts (map text_in own) in
     let all = fold with_text mine (uses_of by accepted) in
     let whole : fold with_text texts (uses_of by (one ∷ accepted)) ≡ all =
-        ap (fold with_text texts) (map-append text_in own (flat_map (cites_of by) accepted)) ∙ fold-append with_text texts (map text_in own) (uses_of by accepted) in
+    ap (fold with_text texts) (map-append text_in own (flat_map (cites_of by) accepted)) ∙ fold-append with_text texts (map text_in own) (uses_of by accepted) in
     let later : List NoticeCrate = map (told_of by all) accepted in
     ap (λ (now : Cited). progress_with by now.numbers (told ++ told_as one.krate now.keys ∷ []) accepted) is
     ∙ ap (λ (crates : List NoticeCrate). record { numbers = all; crates = crates })

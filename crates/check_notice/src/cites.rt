@@ -60,12 +60,7 @@ fn kept_text<I: TextLookup>(
 }
 
 /// What is cited, with a text under a key.
-fn cite_text(
-    alloc: Global,
-    cited: Cited,
-    key: Text,
-    text: &str,
-) -> Result<Cited, AllocError>
+fn cite_text(alloc: Global, cited: Cited, key: Text, text: &str) -> Result<Cited, AllocError>
     ensures { IfOk result (λ now. now ≡ cited_with cited key text.now) }
 {
     let Cited { numbers, mut keys } = cited;

@@ -8,11 +8,7 @@ use spdx_terms::{LicenseItem, LicenseReq};
 use std::alloc::{AllocError, Global};
 
 /// The name of a licence, and of its exception where it has one.
-fn with_exception(
-    alloc: Global,
-    name: &str,
-    exception: &Option<Text>,
-) -> Result<Text, AllocError>
+fn with_exception(alloc: Global, name: &str, exception: &Option<Text>) -> Result<Text, AllocError>
     ensures { IfOk result (λ key. key ≡ name.now ++ exception_text exception.now) }
 {
     match exception {

@@ -12,7 +12,9 @@ pub mod sources;
 mod used;
 pub mod written;
 
-pub use notice::{KeyNumber, KeyNumbers, Notice, NoticeCrate, NoticeCrates, NoticeError, notice_of};
+pub use notice::{
+    KeyNumber, KeyNumbers, Notice, NoticeCrate, NoticeCrates, NoticeError, notice_of,
+};
 pub use refusals::first_unaccepted;
 pub use sources::{NoticeSource, TextFinder};
 pub use written::{notice_head, text_head};

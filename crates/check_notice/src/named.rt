@@ -63,11 +63,7 @@ fn place_of(names: &[Option<Text>], name: &str) -> Option<usize>
 }
 
 /// The first text of a licence, where these are the licences of the texts.
-fn text_named<'o>(
-    own: &'o [OwnText],
-    names: &[Option<Text>],
-    name: &str,
-) -> Option<&'o OwnText>
+fn text_named<'o>(own: &'o [OwnText], names: &[Option<Text>], name: &str) -> Option<&'o OwnText>
     ensures { (told_of : OwnText → Option (List ℕ)) → names.now ≡ map told_of own.now
         → option_copied result ≡ find (λ one. is_named name.now (told_of one)) own.now }
 {

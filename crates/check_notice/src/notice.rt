@@ -52,10 +52,7 @@ pub struct Notice {
 #[derive(Drop)]
 pub enum NoticeError {
     /// The first term of the first crate for which there is no text.
-    NoText {
-        id: Text,
-        key: Text,
-    },
+    NoText { id: Text, key: Text },
     Memory,
 }
 
@@ -108,11 +105,7 @@ fn name_of(alloc: Global, krate: &Krate) -> Result<Text, AllocError>
 }
 
 /// A crate under the keys that it is used under.
-fn told_crate(
-    alloc: Global,
-    krate: &Krate,
-    keys: KeyNumbers,
-) -> Result<NoticeCrate, AllocError>
+fn told_crate(alloc: Global, krate: &Krate, keys: KeyNumbers) -> Result<NoticeCrate, AllocError>
     ensures { IfOk result (λ told. told ≡ spec.told_as (record_of krate.now) keys) }
 {
     let id = Text::copy(alloc, krate.id.as_str())?;

@@ -20,7 +20,9 @@ fn is_unaccepted(verdict: &Verdict) -> bool
 fn first_place(reports: &[CrateReport]) -> Option<usize>
     ensures { result ≡ position spec.is_against reports.now }
 {
-    reports.iter().position(|report| is_unaccepted(&report.verdict))
+    reports
+        .iter()
+        .position(|report| is_unaccepted(&report.verdict))
 }
 
 /// The first crate that is rejected, or has no licence.

@@ -100,7 +100,6 @@ module _ (lists : CatalogLists) (match_of : List ℕ → Match) (text_of : List 
   request_lawful (Bill args) runs options is lawful =
       run_lawful Billed _ (λ out err lists. BillsAs args out err) seen answer runs MayEndBill bill_wanting (λ lists own rest is_done. bills_made own args rest seen.err seen.out runs.value is_done)
       (λ lists own rest apart is_done. bills_lawful own args rest seen.err seen.out apart out_quiet err_quiet runs.value is_done) (at_options _ options is lawful)
-
   request_lawful Notice runs options is lawful =
       run_lawful Noticed _ NoticesAs seen answer runs MayEndNotice notice_wanting (λ lists own rest is_done. notices_made lists.texts.text_of own rest seen.err seen.out runs.value is_done)
       (λ lists own rest apart is_done. notices_lawful lists.texts.text_of own rest seen.err seen.out apart out_quiet err_quiet runs.value is_done) (at_options _ options is lawful)

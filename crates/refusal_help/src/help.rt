@@ -222,11 +222,15 @@ fn push_missing(
     match folder {
         Some(folder) => {
             let place = text_place(alloc, folder.as_path(), key)?;
-            let told = format!(in alloc; "there is no such text, and {id} has no file that is identified as {key}")?;
+            let told = format!(in alloc;
+                "there is no such text, and {id} has no file that is identified as {key}"
+            )?;
             push_file(text, place.as_path(), told.as_str())
         }
         None => {
-            let told = format!(in alloc; "{id} has no file that is identified as {key}, and no stored text has this name: cargo deny --store DIR names others")?;
+            let told = format!(in alloc;
+                "{id} has no file that is identified as {key}, and no stored text has this name: cargo deny --store DIR names others"
+            )?;
             push_advice(text, told.as_str())
         }
     }

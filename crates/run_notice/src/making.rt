@@ -12,9 +12,7 @@ ghost use Rattle.run_notice.specs.Steps.{MakesNotice, RefusesUnaccepted, noticed
 use crate::noticed::NoticedCrates;
 use crate::own::{own_of_crates, reads_of_own};
 use check_core::CrateReport;
-use check_notice::{
-    Notice, NoticeError, NoticeSource, TextFinder, first_unaccepted, notice_of,
-};
+use check_notice::{Notice, NoticeError, NoticeSource, TextFinder, first_unaccepted, notice_of};
 use deny_text::{ListOf, Text};
 use gather_core::cut_threshold;
 use gather_license::OwnTexts;

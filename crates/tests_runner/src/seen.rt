@@ -373,7 +373,11 @@ fn put_unreported(out: &mut AnswerText, ended: &RunEnd, key: &str, err: &str) {
         RunEnd::Sampled(_) => out.put("sampled"),
         RunEnd::Recorded(_) => out.put("recorded"),
         RunEnd::Verified(crates) => put_answer(out, &crates.answer),
-        RunEnd::Billed(crates) => out.put(if crates.same { "billed" } else { "bill changed" }),
+        RunEnd::Billed(crates) => out.put(if crates.same {
+            "billed"
+        } else {
+            "bill changed"
+        }),
         RunEnd::Noticed(_) => out.put("noticed"),
     }
 }

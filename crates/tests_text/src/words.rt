@@ -123,7 +123,11 @@ fn put_request(out: &mut AnswerText, request: &Request) {
         Subcommand::Record => out.put(" record"),
         Subcommand::Verify(path) => write!(out, " verify {path}"),
         Subcommand::Bill(args) => {
-            write!(out, " bill {} {} {}", args.name, args.namespace, args.created);
+            write!(
+                out,
+                " bill {} {} {}",
+                args.name, args.namespace, args.created
+            );
             put_path(out, "against", &args.against);
         }
         Subcommand::Notice => out.put(" notice"),
