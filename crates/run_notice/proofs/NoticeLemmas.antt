@@ -1,12 +1,12 @@
 -- The steps of a run for a notice, and its ends.
-use Rattle.std.proofs.Common.{◌≡◌, ◌∙◌, ◌⊎◌, inl, inr, subst, sym, ap, ℕ, List, [], ◌++◌, append-nil, Option, Result, Ok, Err, IfErr}
+use Rattle.std.proofs.Common.{◌≡◌, ◌∙◌, ◌⊎◌, inl, inr, subst, sym, ap, refl, ℕ, List, [], ◌++◌, append-nil, Option, Result, Ok, Err, IfErr}
 use Rattle.tree_core.specs.Call.{Call}
 use Rattle.tree_core.specs.Content.{Content}
 use Rattle.tree_core.proofs.MadeLemmas.{made_as, made_joined}
 use Rattle.tree_core.specs.texts.Cause.{ReadCounts}
 use Rattle.graph_core.specs.Krate.{CrateRecord}
 use Rattle.gather_license.specs.files.Calls.{IsFront}
-use Rattle.gather_core.specs.Calls.{ReadsOfCrate}
+use Rattle.gather_core.specs.Calls.{ReadsOfCrate, calls_of_all}
 use Rattle.run_found.specs.declared.error.Error.{Error}
 use Rattle.run_found.specs.declared.error.Error.TheVariants.{Memory, NotAccepted, NoText}
 use Rattle.run_found.specs.Error.{cause_of}
@@ -23,7 +23,7 @@ use Rattle.run_check.specs.Judged.{Judges, crates_judged}
 use Rattle.run_check.specs.Report.{IsReport}
 use Rattle.run_check.proofs.ReportLemmas.{reported_stops}
 use Rattle.run_notice.specs.declared.noticed.NoticedCrates.{NoticedCrates}
-use Rattle.run_notice.specs.Noticed.{FindsNotice, HearsOwn, Notices, TellsNotice}
+use Rattle.run_notice.specs.Noticed.{FindsNotice, HearsOwn, LacksMemory, Notices, TellsNotice}
 use Rattle.run_notice.specs.Own.{AreOwnReads, IsOwnBegun, crates_in}
 use Rattle.run_notice.specs.Steps.{MakesNotice, MakesOwn, WritesNotice}
 use Rattle.check_notice.specs.Written.{notice_text}
@@ -140,12 +140,25 @@ notice_counts texts judged tree (Err _) is begun before after = absurd is
 -- ---- it is written
 
 module _ (text_of : List ℕ → Option (List ℕ)) (given : CommandArguments) (tree : TreeSeen) (err out : SinkSeen) (noticed : NoticedCrates)
-    (hears : HearsOwn given tree err (TellsNotice text_of given noticed)) (wanting : Stops given tree err Memory) where
-  pub written_ok : WritesNotice (notice_text noticed.notice) out (Ok tt) → Notices text_of given tree err out (Ok noticed)
-  written_ok gained = (hears, gained)
+    (hears : HearsOwn given tree err (TellsNotice text_of given noticed)) where
+  -- memory was wanting behind all own reads
+  lacks : LacksMemory given tree err
+  lacks = record {
+    hearing = hears.hearing;
+    report = hears.is_so.report;
+    own = hears.own;
+    lost = [];
+    begun = hears.begun;
+    made = made_as (ap (λ more. calls_of given hears.hearing ++ more) (sym (append-nil (calls_of_all hears.own)))) hears.made;
+    is = hears.is_so.is;
+    due = hears.are.due;
+    among = ([], sym hears.are.crates_are ∙ sym (append-nil (crates_in hears.own)));
+    ends = inl refl;
+    written = hears.written;
+  }
 
   pub written_err : (error : Error) → WritesNotice (notice_text noticed.notice) out (Err error) → Notices text_of given tree err out (Err error)
-  written_err error (inl wants) = subst (λ own. Notices text_of given tree err out (Err own)) (sym wants.0) (inl (inl wanting, wants.1))
+  written_err error (inl wants) = subst (λ own. Notices text_of given tree err out (Err own)) (sym wants.0) (inl (inr lacks, wants.1))
   written_err error (inr cut) = inr (record { noticed = noticed; hears = hears; refused = cut.0; front = cut.1 })
 
 pub write_notice_counts : (text : List ℕ) (out : SinkSeen) (error : Error) → WritesNotice text out (Err error) → (begun before after : ℕ) → ReadCounts begun before after (cause_of error)
