@@ -70,6 +70,12 @@ words="bill --name workspace-1.0 --namespace https://example.org/spdx/workspace-
 compare bill "$top/examples/workspace" "$asks $words"
 compare bill-changed "$top/examples/workspace" "$asks $words >'$room/old' && sed 's/\"ISC\", //' deny.toml >'$room/p.toml' && $asks --config '$room/p.toml' $words --against '$room/old'"
 
+# A notice, which is the one that the example keeps; of the built-in texts one is missing.
+metadata "$top/examples/notice"
+asks="'$program' --metadata-path '$room/metadata.json'"
+compare notice "$top/examples/notice" "$asks --store texts notice"
+compare notice-built-in "$top/examples/notice" "$asks notice"
+
 # An exception that is tied to a file: a record that was right before a word of the file changed, and a check behind that.
 folder="$room/reviewed"
 cp -R "$top/examples/reviewed" "$folder"

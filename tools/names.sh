@@ -96,7 +96,7 @@ facts | awk -F '\t' '
         sub(/[.:]+$/, "", name)
         first = substr(name, 1, index(name "/", "/") - 1)
         if (name in other || name ~ /^[\/~-]|:\/\/|\*|(^|\/)(out|dist)\// ||
-            name ~ /(^|\/)(NAME|CRATE|FILE|FOLDER)(\.|\/|$)|(^|_)x(_|$)|[a-z]X$|^X[A-Z]/) return
+            name ~ /(^|\/)(NAME|CRATE|FILE|FOLDER|KEY)(\.|\/|$)|(^|_)x(_|$)|[a-z]X$|^X[A-Z]/) return
         if (name in crate) enter(name, "")
         else if (name ~ /^[^:]+\.(rt|antt|edit)$|\/[^:]+\.(sh|txt|md|toml|rs|awk|json)$/) look(name)
         else if (name != first && (first in crate || first in top)) look(name)

@@ -9,7 +9,7 @@ use Rattle.spdx_terms.specs.declared.catalog.identifier.Match.{Match}
 use Rattle.run_request.specs.declared.list.ListArgs.{ListArgs}
 use Rattle.run_request.specs.declared.request.Request.{Request}
 use Rattle.run_request.specs.declared.request.Subcommand.{Subcommand}
-use Rattle.run_request.specs.declared.request.Subcommand.TheVariants.{Check, List as Listing, Sample, Record, Verify, Bill}
+use Rattle.run_request.specs.declared.request.Subcommand.TheVariants.{Check, List as Listing, Sample, Record, Verify, Bill, Notice}
 use Rattle.run_found.specs.declared.error.Error.{Error}
 use Rattle.run_found.specs.declared.error.Error.TheVariants.{Memory}
 use Rattle.run_found.specs.declared.reads.CrateRead.{CrateRead}
@@ -29,16 +29,17 @@ use Rattle.run_list.specs.Listing.{IsListing}
 use Rattle.run_record.specs.Recorded.{IsRecorded, file_in, reads_in}
 use Rattle.deny_run.specs.declared.outcome.Outcome.{Outcome}
 use Rattle.deny_run.specs.declared.outcome.RunEnd.{RunEnd}
-use Rattle.deny_run.specs.declared.outcome.RunEnd.TheVariants.{Checked, Listed, Recorded, Verified, Billed}
+use Rattle.deny_run.specs.declared.outcome.RunEnd.TheVariants.{Checked, Listed, Recorded, Verified, Billed, Noticed}
 use Rattle.deny_run.specs.Check.{Checks}
-use Rattle.deny_run.specs.Complete.{AsksCommand, EndsAs, EndsLawful, IsComplete, IsWanting, MayEndBill, MayEndVerify}
-use Rattle.deny_run.specs.Ends.{Answers, AnswersOf, BillsAs, Ends, IsOutcome, ListsAs, RecordsAs, RunsAs, VerifiesAs, end_of}
+use Rattle.deny_run.specs.Complete.{AsksCommand, EndsAs, EndsLawful, IsComplete, IsWanting, MayEndBill, MayEndNotice, MayEndVerify}
+use Rattle.deny_run.specs.Ends.{Answers, AnswersOf, BillsAs, Ends, IsOutcome, ListsAs, NoticesAs, RecordsAs, RunsByTexts, VerifiesAs, end_of}
 use Rattle.deny_run.specs.Given.{RunArguments, asked_of, options_of}
 use Rattle.deny_run.specs.Seen.{IsWithoutFault, RunSeen, sink_to}
 use Rattle.deny_run.specs.Words.{HasRequest}
 use Rattle.deny_run.proofs.BillLemmas.{bill_wanting, bills_lawful, bills_made}
 use Rattle.deny_run.proofs.CheckLemmas.{checks_lawful, checks_made, rose_less}
 use Rattle.deny_run.proofs.EndLemmas.{EndsBy, ends_as}
+use Rattle.deny_run.proofs.NoticeLemmas.{notice_wanting, notices_lawful, notices_made}
 use Rattle.deny_run.proofs.RunLemmas.{lists_made, records_made}
 use Rattle.deny_run.proofs.VerifyLemmas.{verifies_lawful, verifies_made, verify_wanting}
 use Rattle.deny_run.proofs.WordLemmas.{none_answered, same_request}
@@ -55,15 +56,15 @@ wanting_end {X} (Err error) ends = ends
 
 -- ---- a command
 
-module _ {X : Type 0} (end_by : X → RunEnd) (asked : CommandRequest) (IsDone : SinkSeen → SinkSeen → CommandArguments → TreeSeen → Result X Error → Type 0) (seen : RunSeen) (answer : Result RunEnd Error)
-    (runs : RunsAs end_by asked IsDone seen answer) (MayRefuse : Error → Type 0) (wanting : (error : Error) → MayEndLawful (cause_of error) → MayRefuse error)
-    (makes : (own : CommandArguments) (rest : TreeSeen) → IsDone seen.out seen.err own rest runs.value → HasMade rest)
-    (done : (own : CommandArguments) (rest : TreeSeen) → NoRefusal own rest → IsDone seen.out seen.err own rest runs.value → EndsBy MayRefuse runs.value) where
+module _ {X : Type 0} (end_by : X → RunEnd) (asked : CommandRequest) (IsDone : SinkSeen → SinkSeen → ListsGiven → CommandArguments → TreeSeen → Result X Error → Type 0) (seen : RunSeen) (answer : Result RunEnd Error)
+    (runs : RunsByTexts end_by asked IsDone seen answer) (MayRefuse : Error → Type 0) (wanting : (error : Error) → MayEndLawful (cause_of error) → MayRefuse error)
+    (makes : (lists : ListsGiven) (own : CommandArguments) (rest : TreeSeen) → IsDone seen.out seen.err lists own rest runs.value → HasMade rest)
+    (done : (lists : ListsGiven) (own : CommandArguments) (rest : TreeSeen) → NoRefusal own rest → IsDone seen.out seen.err lists own rest runs.value → EndsBy MayRefuse runs.value) where
   value_lawful : IsLawfulOn asked seen.tree → EndsBy MayRefuse runs.value
   value_lawful (by_read hearing had behind input lawful) =
-      lawful_run asked (IsDone seen.out seen.err) seen.tree seen.err seen.out runs.value makes (EndsBy MayRefuse) wanting had (λ rest apart is_done. done (command_by asked.command had) rest apart is_done) hearing behind input lawful runs.is_so
+      lawful_run asked (IsDone seen.out seen.err) seen.tree seen.err seen.out runs.value makes (EndsBy MayRefuse) wanting had (λ rest apart is_done. done had (command_by asked.command had) rest apart is_done) hearing behind input lawful runs.is_so
   value_lawful (by_content content told still hearing had input lawful) =
-      lawful_over asked (IsDone seen.out seen.err) seen.tree seen.err seen.out runs.value makes (EndsBy MayRefuse) wanting had (λ rest apart is_done. done (command_by asked.command had) rest apart is_done) content told still hearing input lawful
+      lawful_over asked (IsDone seen.out seen.err) seen.tree seen.err seen.out runs.value makes (EndsBy MayRefuse) wanting had (λ rest apart is_done. done had (command_by asked.command had) rest apart is_done) content told still hearing input lawful
       runs.is_so
 
   run_lawful : IsLawfulOn asked seen.tree → EndsAs end_by MayRefuse (end_of answer)
@@ -71,34 +72,37 @@ module _ {X : Type 0} (end_by : X → RunEnd) (asked : CommandRequest) (IsDone :
 
 -- ---- a request
 
-module _ (lists : CatalogLists) (match_of : List ℕ → Match) (request : Request) (seen : RunSeen) (answer : Result RunEnd Error) (out_quiet : Rose seen.out.before seen.out.after → ⊥) (err_quiet : Rose seen.err.before seen.err.after → ⊥) where
+module _ (lists : CatalogLists) (match_of : List ℕ → Match) (text_of : List ℕ → Option (List ℕ)) (request : Request) (seen : RunSeen) (answer : Result RunEnd Error) (out_quiet : Rose seen.out.before seen.out.after → ⊥) (err_quiet : Rose seen.err.before seen.err.after → ⊥) where
   same_options : {one other : CommandOptions} → Some one ≡ Some other → one ≡ other
   same_options e = cc
 
   -- the lawful input is that of this command
-  at_options : (own options : CommandOptions) → Some own ≡ Some options → IsLawfulOn (command_asked lists match_of request options) seen.tree → IsLawfulOn (command_asked lists match_of request own) seen.tree
-  at_options own options is lawful = subst (λ one. IsLawfulOn (command_asked lists match_of request one) seen.tree) (sym (same_options is)) lawful
+  at_options : (own options : CommandOptions) → Some own ≡ Some options → IsLawfulOn (command_asked lists match_of text_of request options) seen.tree → IsLawfulOn (command_asked lists match_of text_of request own) seen.tree
+  at_options own options is lawful = subst (λ one. IsLawfulOn (command_asked lists match_of text_of request one) seen.tree) (sym (same_options is)) lawful
 
-  request_lawful : (command : Subcommand) → Answers lists match_of request command seen answer → (options : CommandOptions) → options_of request command ≡ Some options
-      → IsLawfulOn (command_asked lists match_of request options) seen.tree → EndsLawful command (end_of answer)
+  request_lawful : (command : Subcommand) → Answers lists match_of text_of request command seen answer → (options : CommandOptions) → options_of request command ≡ Some options
+      → IsLawfulOn (command_asked lists match_of text_of request options) seen.tree → EndsLawful command (end_of answer)
   request_lawful (Check args) runs options is lawful =
-      run_lawful Checked _ (Checks args.show_stats) seen answer runs IsWanting (λ error may. may) (λ own rest is_done. checks_made own rest args.show_stats seen.out seen.err runs.value is_done)
-      (λ own rest apart is_done. wanting_end runs.value (checks_lawful own rest args.show_stats seen.out seen.err apart out_quiet err_quiet runs.value is_done)) (at_options _ options is lawful)
+      run_lawful Checked _ (λ out err lists. Checks args.show_stats out err) seen answer runs IsWanting (λ error may. may) (λ lists own rest is_done. checks_made own rest args.show_stats seen.out seen.err runs.value is_done)
+      (λ lists own rest apart is_done. wanting_end runs.value (checks_lawful own rest args.show_stats seen.out seen.err apart out_quiet err_quiet runs.value is_done)) (at_options _ options is lawful)
   request_lawful (Listing args) runs options is lawful =
-      run_lawful Listed _ (ListsAs args) seen answer runs IsWanting (λ error may. may) (λ own rest is_done. lists_made args seen.out seen.err own rest runs.value is_done)
-      (λ own rest apart is_done. wanting_end runs.value
+      run_lawful Listed _ (λ out err lists. ListsAs args out err) seen answer runs IsWanting (λ error may. may) (λ lists own rest is_done. lists_made args seen.out seen.err own rest runs.value is_done)
+      (λ lists own rest apart is_done. wanting_end runs.value
       (writes_lawful own rest seen.err seen.out (IsListing (record { command = own; args = args })) (λ listing. listing_text (record { command = own; args = args }) listing.crates) (λ listing. listing.reads)
       apart err_quiet out_quiet runs.value is_done)) (at_options _ options is lawful)
   request_lawful (Sample size) ends options is lawful = tt
   request_lawful Record runs options is lawful =
-      run_lawful Recorded _ RecordsAs seen answer runs IsWanting (λ error may. may) (λ own rest is_done. records_made seen.out seen.err own rest runs.value is_done)
-      (λ own rest apart is_done. wanting_end runs.value (writes_lawful own rest seen.err seen.out (IsRecorded own) file_in reads_in apart err_quiet out_quiet runs.value is_done.0)) (at_options _ options is lawful)
+      run_lawful Recorded _ (λ out err lists. RecordsAs out err) seen answer runs IsWanting (λ error may. may) (λ lists own rest is_done. records_made seen.out seen.err own rest runs.value is_done)
+      (λ lists own rest apart is_done. wanting_end runs.value (writes_lawful own rest seen.err seen.out (IsRecorded own) file_in reads_in apart err_quiet out_quiet runs.value is_done.0)) (at_options _ options is lawful)
   request_lawful (Verify path) runs options is lawful =
-      run_lawful Verified _ (VerifiesAs path) seen answer runs MayEndVerify verify_wanting (λ own rest is_done. verifies_made own path rest seen.err seen.out runs.value is_done)
-      (λ own rest apart is_done. verifies_lawful own path rest seen.err seen.out apart out_quiet err_quiet runs.value is_done) (at_options _ options is lawful)
+      run_lawful Verified _ (λ out err lists. VerifiesAs path out err) seen answer runs MayEndVerify verify_wanting (λ lists own rest is_done. verifies_made own path rest seen.err seen.out runs.value is_done)
+      (λ lists own rest apart is_done. verifies_lawful own path rest seen.err seen.out apart out_quiet err_quiet runs.value is_done) (at_options _ options is lawful)
   request_lawful (Bill args) runs options is lawful =
-      run_lawful Billed _ (BillsAs args) seen answer runs MayEndBill bill_wanting (λ own rest is_done. bills_made own args rest seen.err seen.out runs.value is_done)
-      (λ own rest apart is_done. bills_lawful own args rest seen.err seen.out apart out_quiet err_quiet runs.value is_done) (at_options _ options is lawful)
+      run_lawful Billed _ (λ out err lists. BillsAs args out err) seen answer runs MayEndBill bill_wanting (λ lists own rest is_done. bills_made own args rest seen.err seen.out runs.value is_done)
+      (λ lists own rest apart is_done. bills_lawful own args rest seen.err seen.out apart out_quiet err_quiet runs.value is_done) (at_options _ options is lawful)
+  request_lawful Notice runs options is lawful =
+      run_lawful Noticed _ NoticesAs seen answer runs MayEndNotice notice_wanting (λ lists own rest is_done. notices_made lists.texts.text_of own rest seen.err seen.out runs.value is_done)
+      (λ lists own rest apart is_done. notices_lawful lists.texts.text_of own rest seen.err seen.out apart out_quiet err_quiet runs.value is_done) (at_options _ options is lawful)
 
 -- ---- a run
 
@@ -113,6 +117,7 @@ lost_lawful (Sample size) answer is = tt
 lost_lawful Record answer is = lost_as Recorded IsWanting tt answer is
 lost_lawful (Verify path) answer is = lost_as Verified MayEndVerify tt answer is
 lost_lawful (Bill args) answer is = lost_as Billed MayEndBill tt answer is
+lost_lawful Notice answer is = lost_as Noticed MayEndNotice tt answer is
 
 module _ (given : RunArguments) (seen : RunSeen) (outcome : Outcome) (is : IsOutcome given seen outcome.request outcome.ended) where
   abbrev first : RunSeen
@@ -123,8 +128,8 @@ module _ (given : RunArguments) (seen : RunSeen) (outcome : Outcome) (is : IsOut
   answer_lawful None answers request options asks quiet lawful = lost_lawful request.command is.answer (none_answered given first is.answer request asks.of_words answers.1)
   answer_lawful (Some own) answers request options asks quiet lawful =
       let same = same_request given own request answers.0 asks.of_words in
-      request_lawful given.lists given.match_of request first is.answer quiet.out (λ rose. quiet.err (rose_less seen.err.before is.count seen.err.after is.late rose)) request.command
-      (subst (λ one. Answers given.lists given.match_of one one.command first is.answer) same answers.1) options asks.options_are lawful
+      request_lawful given.lists given.match_of given.text_of request first is.answer quiet.out (λ rose. quiet.err (rose_less seen.err.before is.count seen.err.after is.late rose)) request.command
+      (subst (λ one. Answers given.lists given.match_of given.text_of one one.command first is.answer) same answers.1) options asks.options_are lawful
 
   lawful_at : (request : Request) (options : CommandOptions) → AsksCommand given request options → IsWithoutFault seen → IsLawfulOn (asked_of given request options) seen.tree → EndsLawful request.command outcome.ended
   lawful_at request options asks quiet lawful = subst (EndsLawful request.command) (sym is.is) (answer_lawful outcome.request is.answers request options asks quiet lawful)

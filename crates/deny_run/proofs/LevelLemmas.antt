@@ -118,13 +118,13 @@ level_law given level tree hearing had report ran is = (
 
 -- the calls for a run's names and texts, and those of its check, say what the content has
 record TellsBoth (given : CommandRequest) (content : Content) (hearing : CommandHearing) (had : ListsGiven) : Type 0 where
-  lists : AllByRecursion (TellsContent content) (lists_calls (handed_in given.command) given.own hearing.lists)
+  lists : AllByRecursion (TellsContent content) (lists_calls (handed_in given) given.own hearing.lists)
   found : AllByRecursion (TellsContent content) (calls_of (command_by given.command had) hearing.found)
 
 tells_both : (given : CommandRequest) (content : Content) (hearing : CommandHearing) (had : ListsGiven) (count : ℕ) → IsHeardOf given content count hearing had → TellsBoth given content hearing had
 tells_both given content hearing had count heard =
     let Tells = TellsContent content in
-    let lists = lists_calls (handed_in given.command) given.own hearing.lists in
+    let lists = lists_calls (handed_in given) given.own hearing.lists in
     let own = calls_of (command_by given.command had) hearing.found in
     let behind : AllByRecursion Tells (lists ++ own) = (recursion_from_All Tells (run_calls given hearing had) heard.tells).1 in
     record { lists = each_front Tells lists own behind; found = each_back Tells lists own behind }
@@ -153,11 +153,11 @@ some_heard heard own is none = absurd (apart (sym none ∙ is))
     apart e = cc
 
 -- two checks of one content have the same names and texts
-lists_alike : (given : CommandRequest) (content : Content) (one other : CommandHearing) (had own : ListsGiven) → given_heard (handed_in given.command) given.own one.lists ≡ Some (Ok had)
-    → given_heard (handed_in given.command) given.own other.lists ≡ Some (Ok own) → AllByRecursion (TellsContent content) (lists_calls (handed_in given.command) given.own one.lists)
-    → AllByRecursion (TellsContent content) (lists_calls (handed_in given.command) given.own other.lists) → had ≡ own
+lists_alike : (given : CommandRequest) (content : Content) (one other : CommandHearing) (had own : ListsGiven) → given_heard (handed_in given) given.own one.lists ≡ Some (Ok had)
+    → given_heard (handed_in given) given.own other.lists ≡ Some (Ok own) → AllByRecursion (TellsContent content) (lists_calls (handed_in given) given.own one.lists)
+    → AllByRecursion (TellsContent content) (lists_calls (handed_in given) given.own other.lists) → had ≡ own
 lists_alike given content one other had own first second tells told =
-    let handed = handed_in given.command in
+    let handed = handed_in given in
     let calls = lists_calls handed given.own one.lists in
     let others = lists_calls handed given.own other.lists in
     let both : BothTell content (calls ++ []) (others ++ []) =

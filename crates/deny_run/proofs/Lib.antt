@@ -4,6 +4,7 @@ pub mod EndLemmas
 pub mod HeadlineLemmas
 pub mod LawfulLemmas
 pub mod LevelLemmas
+pub mod NoticeLemmas
 pub mod OutcomeLemmas
 pub mod RunLemmas
 pub mod SummaryLemmas

@@ -8,9 +8,10 @@ use Rattle.tree_core.specs.Content.{Content}
 use Rattle.run_request.specs.declared.request.Request.{Request}
 use Rattle.run_request.specs.declared.request.Subcommand.{Subcommand}
 use Rattle.run_request.specs.declared.request.Subcommand.TheVariants.{Check, List as Listing, Sample, Record, Verify}
-use Rattle.run_request.specs.declared.request.Subcommand.TheVariants.{Bill}
+use Rattle.run_request.specs.declared.request.Subcommand.TheVariants.{Bill, Notice}
 use Rattle.run_found.specs.declared.error.Error.{Error}
-use Rattle.run_found.specs.declared.error.Error.TheVariants.{RecordRead, RecordSyntax, BillText, BillRead, BillSyntax}
+use Rattle.run_found.specs.declared.error.Error.TheVariants.{NotAccepted, NoText, RecordRead, RecordSyntax}
+use Rattle.run_found.specs.declared.error.Error.TheVariants.{BillText, BillRead, BillSyntax}
 use Rattle.run_found.specs.Error.{MayEndLawful, cause_of}
 use Rattle.run_found.specs.own_names.Given.{ListsGiven}
 use Rattle.run_command.specs.Given.{CommandOptions}
@@ -18,7 +19,8 @@ use Rattle.run_command.specs.Lawful.{CommandHearing, IsLawfulOver, IsLawfulRun}
 use Rattle.run_command.specs.Stops.{PolicyAndCrates}
 use Rattle.deny_run.specs.declared.outcome.Outcome.{Outcome}
 use Rattle.deny_run.specs.declared.outcome.RunEnd.{RunEnd}
-use Rattle.deny_run.specs.declared.outcome.RunEnd.TheVariants.{Checked, Listed, Recorded, Verified, Billed, Refused}
+use Rattle.deny_run.specs.declared.outcome.RunEnd.TheVariants.{Checked, Listed, Recorded, Verified, Billed}
+use Rattle.deny_run.specs.declared.outcome.RunEnd.TheVariants.{Noticed, Refused}
 use Rattle.deny_run.specs.Given.{RunArguments, asked_of, options_of}
 use Rattle.deny_run.specs.Seen.{IsWithoutFault, RunSeen}
 use Rattle.deny_run.specs.Words.{HasRequest}
@@ -44,6 +46,12 @@ MayEndBill (BillRead fault reads) = ⊤
 MayEndBill BillSyntax = ⊤
 MayEndBill error = IsWanting error
 
+-- a crate is not accepted, a text is missing, or memory was wanting
+abbrev pub MayEndNotice : Error → Type 0
+MayEndNotice (NotAccepted id reads) = ⊤
+MayEndNotice (NoText id key reads own) = ⊤
+MayEndNotice error = IsWanting error
+
 -- how a command ends; of a sample it is said where that is described
 abbrev pub EndsLawful : Subcommand → RunEnd → Type 0
 EndsLawful (Check args) ended = EndsAs Checked IsWanting ended
@@ -52,6 +60,7 @@ EndsLawful (Sample size) ended = ⊤
 EndsLawful Record ended = EndsAs Recorded IsWanting ended
 EndsLawful (Verify path) ended = EndsAs Verified MayEndVerify ended
 EndsLawful (Bill args) ended = EndsAs Billed MayEndBill ended
+EndsLawful Notice ended = EndsAs Noticed MayEndNotice ended
 
 -- the words ask for a command with these options
 pub record AsksCommand (given : RunArguments) (request : Request) (options : CommandOptions) : Type 0 where

@@ -9,16 +9,17 @@ use Rattle.run_request.specs.declared.list.ListArgs.{ListArgs}
 use Rattle.run_request.specs.declared.request.Request.{Request}
 use Rattle.run_request.specs.declared.request.Subcommand.{Subcommand}
 use Rattle.run_request.specs.declared.request.Subcommand.TheVariants.{Check, List as Listing, Sample, Record, Verify}
-use Rattle.run_request.specs.declared.request.Subcommand.TheVariants.{Bill}
+use Rattle.run_request.specs.declared.request.Subcommand.TheVariants.{Bill, Notice}
 use Rattle.run_found.specs.declared.error.Error.{Error}
 use Rattle.run_found.specs.declared.error.Error.TheVariants.{Memory}
 use Rattle.run_found.specs.declared.reads.CrateRead.{CrateRead}
 use Rattle.run_found.specs.Error.{cause_of}
 use Rattle.run_found.specs.Hearing.{TreeSeen}
+use Rattle.run_found.specs.own_names.Given.{ListsGiven}
 use Rattle.run_found.specs.Written.{IsSilent, SinkSeen}
 use Rattle.run_command.specs.Carried.{plain_options}
 use Rattle.run_command.specs.Given.{CommandArguments, CommandRequest, command_asked}
-use Rattle.run_command.specs.Prelude.{IsUntouched, Runs}
+use Rattle.run_command.specs.Prelude.{IsUntouched, Runs, RunsBy}
 use Rattle.run_check.specs.Given.{check_options}
 use Rattle.run_list.specs.Given.{list_options}
 use Rattle.run_list.specs.Listing.{Lists}
@@ -27,10 +28,12 @@ use Rattle.run_record.specs.Recorded.{Records}
 use Rattle.run_record.specs.Verified.{Verifies}
 use Rattle.run_bill.specs.declared.billed.BilledCrates.{BilledCrates}
 use Rattle.run_bill.specs.Billed.{Bills}
+use Rattle.run_notice.specs.declared.noticed.NoticedCrates.{NoticedCrates}
+use Rattle.run_notice.specs.Noticed.{Notices}
 use Rattle.deny_run.specs.declared.answer.Answered.{Answered}
 use Rattle.deny_run.specs.declared.outcome.RunEnd.{RunEnd}
 use Rattle.deny_run.specs.declared.outcome.RunEnd.TheVariants.{Checked, Listed, Sampled, Recorded, Verified, Billed}
-use Rattle.deny_run.specs.declared.outcome.RunEnd.TheVariants.{Refused}
+use Rattle.deny_run.specs.declared.outcome.RunEnd.TheVariants.{Noticed, Refused}
 use Rattle.deny_run.specs.Check.{Checks}
 use Rattle.deny_run.specs.Given.{RunArguments}
 use Rattle.deny_run.specs.Sample.{Samples}
@@ -64,6 +67,14 @@ RunsAs {X} end_by asked IsDone seen answer =
     IsEndBy end_by
     (λ (value : Result X Error). Runs asked (IsDone seen.out seen.err) seen.tree seen.err seen.out value) answer
 
+-- the same of a command that needs the names and texts that count
+abbrev pub RunsByTexts : {X : Type 0} → (X → RunEnd) → CommandRequest
+    → (SinkSeen → SinkSeen → ListsGiven → CommandArguments → TreeSeen → Result X Error → Type 0) → RunSeen
+    → Result RunEnd Error → Type 0
+RunsByTexts {X} end_by asked IsDone seen answer =
+    IsEndBy end_by
+    (λ (value : Result X Error). RunsBy asked (IsDone seen.out seen.err) seen.tree seen.err seen.out value) answer
+
 -- so a listing, a verdict file, of which nothing is written where memory was wanting, whether one is right, and a bill
 abbrev pub ListsAs : ListArgs → SinkSeen → SinkSeen → CommandArguments → TreeSeen → Result (List CrateRead) Error
     → Type 0
@@ -79,25 +90,34 @@ VerifiesAs path out err own tree value = Verifies own path tree err out value
 abbrev pub BillsAs : BillArgs → SinkSeen → SinkSeen → CommandArguments → TreeSeen → Result BilledCrates Error → Type 0
 BillsAs args out err own tree value = Bills own args tree err out value
 
+-- and a notice, by the texts that count
+abbrev pub NoticesAs : SinkSeen → SinkSeen → ListsGiven → CommandArguments → TreeSeen → Result NoticedCrates Error
+    → Type 0
+NoticesAs out err lists own tree value = Notices lists.texts.text_of own tree err out value
+
 -- what a run over a request answers, by its command; a sample makes no call on the tree
-abbrev pub Answers : CatalogLists → (List ℕ → Match) → Request → Subcommand → RunSeen → Result RunEnd Error → Type 0
-Answers lists match_of request (Check args) seen answer =
-    RunsAs Checked (command_asked lists match_of request (check_options request.log_ctx args request.krate_ctx))
+abbrev pub Answers : CatalogLists → (List ℕ → Match) → (List ℕ → Option (List ℕ)) → Request → Subcommand → RunSeen
+    → Result RunEnd Error → Type 0
+Answers lists match_of text_of request (Check args) seen answer =
+    RunsAs Checked (command_asked lists match_of text_of request (check_options request.log_ctx args request.krate_ctx))
     (Checks args.show_stats) seen answer
-Answers lists match_of request (Listing args) seen answer =
-    RunsAs Listed (command_asked lists match_of request (list_options request.log_ctx args request.krate_ctx))
+Answers lists match_of text_of request (Listing args) seen answer =
+    RunsAs Listed (command_asked lists match_of text_of request (list_options request.log_ctx args request.krate_ctx))
     (ListsAs args) seen answer
-Answers lists match_of request (Sample size) seen answer =
+Answers lists match_of text_of request (Sample size) seen answer =
     IsEndBy Sampled (λ value. IsUntouched seen.tree × Samples size lists match_of seen.out seen.err value) answer
-Answers lists match_of request Record seen answer =
-    RunsAs Recorded (command_asked lists match_of request (plain_options request.log_ctx request.krate_ctx))
+Answers lists match_of text_of request Record seen answer =
+    RunsAs Recorded (command_asked lists match_of text_of request (plain_options request.log_ctx request.krate_ctx))
     RecordsAs seen answer
-Answers lists match_of request (Verify path) seen answer =
-    RunsAs Verified (command_asked lists match_of request (plain_options request.log_ctx request.krate_ctx))
+Answers lists match_of text_of request (Verify path) seen answer =
+    RunsAs Verified (command_asked lists match_of text_of request (plain_options request.log_ctx request.krate_ctx))
     (VerifiesAs path) seen answer
-Answers lists match_of request (Bill args) seen answer =
-    RunsAs Billed (command_asked lists match_of request (plain_options request.log_ctx request.krate_ctx))
+Answers lists match_of text_of request (Bill args) seen answer =
+    RunsAs Billed (command_asked lists match_of text_of request (plain_options request.log_ctx request.krate_ctx))
     (BillsAs args) seen answer
+Answers lists match_of text_of request Notice seen answer =
+    RunsByTexts Noticed (command_asked lists match_of text_of request (plain_options request.log_ctx request.krate_ctx))
+    NoticesAs seen answer
 
 -- ---- words
 
@@ -105,7 +125,7 @@ Answers lists match_of request (Bill args) seen answer =
 -- help and the version are shown, and mistakes are reported.
 abbrev pub AnswersOf : RunArguments → Option Request → RunSeen → Result RunEnd Error → Type 0
 AnswersOf given (Some request) seen answer =
-    HasRequest given request × Answers given.lists given.match_of request request.command seen answer
+    HasRequest given request × Answers given.lists given.match_of given.text_of request request.command seen answer
 AnswersOf given None seen answer = IsUntouched seen.tree × AnswersNone given seen answer
 
 -- each label of each finding of a report lies in the text of its file, between characters

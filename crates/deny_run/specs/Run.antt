@@ -15,6 +15,7 @@ use Rattle.run_command.specs.Prelude.{IsUntouched}
 use Rattle.deny_run.specs.declared.outcome.Outcome.{Outcome}
 use Rattle.deny_run.specs.declared.outcome.RunEnd.{RunEnd}
 use Rattle.deny_run.specs.declared.outcome.RunEnd.TheVariants.{Checked, Listed, Sampled, Recorded, Verified, Billed}
+use Rattle.deny_run.specs.declared.outcome.RunEnd.TheVariants.{Noticed}
 use Rattle.deny_run.specs.declared.outcome.RunEnd.TheVariants.{Shown, Usage, Refused}
 use Rattle.deny_run.specs.Complete.{AsksCommand, IsComplete}
 use Rattle.deny_run.specs.Ends.{HasLabels, IsOutcome}
@@ -40,6 +41,7 @@ exit_status (Sampled report) = 0
 exit_status (Recorded reads) = 0
 exit_status (Verified crates) = answer_status crates.answer
 exit_status (Billed crates) = if crates.same then 0 else 4
+exit_status (Noticed crates) = 0
 exit_status Shown = 0
 exit_status Usage = 2
 exit_status (Refused error) = 1

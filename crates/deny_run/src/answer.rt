@@ -10,19 +10,19 @@ ghost use Rattle.deny_run.specs.Given.{run_arguments_of};
 ghost use Rattle.deny_run.specs.Seen.{run_seen};
 
 use crate::check::check_request;
-use crate::commands::{bill_request, list_request, record_request, verify_request};
+use crate::commands::{bill_request, list_request, notice_request, record_request, verify_request};
 use crate::outcome::RunEnd;
 use crate::words::{show, write_usage};
 use run_found::Error;
 use run_request::read::read;
 use run_request::{CliAnswer, Request, Subcommand};
 use run_sample::sample;
-use spdx_core::{Catalog, Identifier};
+use spdx_core::{Catalog, Identifier, TextLookup};
 use std::alloc::Global;
 use tree_core::{Sink, Tree};
 
 /// The answer to a request, by its command. The line of a refusal is not written yet.
-fn answer_request<T: Tree, O: Sink, E: Sink, C: Catalog, I: Identifier>(
+fn answer_request<T: Tree, O: Sink, E: Sink, C: Catalog, I: Identifier + TextLookup>(
     alloc: Global,
     request: &Request,
     tree: &mut T,
@@ -31,7 +31,8 @@ fn answer_request<T: Tree, O: Sink, E: Sink, C: Catalog, I: Identifier>(
     catalog: &C,
     identifier: &I,
 ) -> Result<RunEnd, Error>
-    ensures answers { Answers (C.lists catalog.now) (I.match_of identifier.now) request.now request.now.command
+    ensures answers { Answers (C.lists catalog.now) (I.match_of identifier.now) (I.text_of identifier.now) request.now
+        request.now.command
         (run_seen (seen_between T.content T.fault_count T.trace tree.old tree.new)
         (sink_between O.written O.fault_count out.old out.new)
         (sink_between E.written E.fault_count err.old err.new)) result }
@@ -77,6 +78,12 @@ fn answer_request<T: Tree, O: Sink, E: Sink, C: Catalog, I: Identifier>(
                 Err(error) => Err(error),
             }
         }
+        Subcommand::Notice => {
+            match notice_request(alloc, request, tree, out, err, catalog, identifier) {
+                Ok(crates) => Ok(RunEnd::Noticed(crates)),
+                Err(error) => Err(error),
+            }
+        }
     }
 }
 
@@ -88,7 +95,7 @@ pub(crate) struct Answered {
 }
 
 /// The answer to words.
-pub(crate) fn answer_words<T: Tree, O: Sink, E: Sink, C: Catalog, I: Identifier>(
+pub(crate) fn answer_words<T: Tree, O: Sink, E: Sink, C: Catalog, I: Identifier + TextLookup>(
     alloc: Global,
     words: &[String],
     cwd: &str,
@@ -99,7 +106,8 @@ pub(crate) fn answer_words<T: Tree, O: Sink, E: Sink, C: Catalog, I: Identifier>
     identifier: &I,
 ) -> Answered
     ensures answered { IsAnswered
-        (run_arguments_of (C.lists catalog.now) (I.match_of identifier.now) words.now cwd.now)
+        (run_arguments_of (C.lists catalog.now) (I.match_of identifier.now) (I.text_of identifier.now) words.now
+        cwd.now)
         (run_seen (seen_between T.content T.fault_count T.trace tree.old tree.new)
         (sink_between O.written O.fault_count out.old out.new)
         (sink_between E.written E.fault_count err.old err.new)) result }

@@ -18,13 +18,13 @@ use run_command::lists_of_request;
 use run_found::Error;
 use run_request::Request;
 use run_request::check::CheckArgs;
-use spdx_core::{Catalog, Identifier};
+use spdx_core::{Catalog, Identifier, TextLookup};
 use std::alloc::Global;
 use tree_core::{Sink, Tree};
 
 /// The report of a check by some names and texts, all of whose request is carried, with what was found on `err`, and
 /// then its summary on its sink.
-fn check_by<T: Tree, O: Sink, E: Sink, C: Catalog, I: Identifier>(
+fn check_by<T: Tree, O: Sink, E: Sink, C: Catalog, I: Identifier + TextLookup>(
     alloc: Global,
     request: &Request,
     args: &CheckArgs,
@@ -76,7 +76,7 @@ fn check_by<T: Tree, O: Sink, E: Sink, C: Catalog, I: Identifier>(
 
 /// The report that a request for a check asks for, behind what comes before it. What is printed of the
 /// policy's load and what was found goes to `err`, and the summary to its sink.
-pub(crate) fn check_request<T: Tree, O: Sink, E: Sink, C: Catalog, I: Identifier>(
+pub(crate) fn check_request<T: Tree, O: Sink, E: Sink, C: Catalog, I: Identifier + TextLookup>(
     alloc: Global,
     request: &Request,
     args: &CheckArgs,
@@ -87,7 +87,7 @@ pub(crate) fn check_request<T: Tree, O: Sink, E: Sink, C: Catalog, I: Identifier
     identifier: &I,
 ) -> Result<Report, Error>
     ensures runs { Runs
-        (command_asked (C.lists catalog.now) (I.match_of identifier.now) request.now
+        (command_asked (C.lists catalog.now) (I.match_of identifier.now) (I.text_of identifier.now) request.now
         (check_options request.now.log_ctx args.now request.now.krate_ctx))
         (Checks args.now.show_stats
         (sink_between O.written O.fault_count out.old out.new)

@@ -21,6 +21,7 @@ pub use policy_load::{
 pub use run_bill::BilledCrates;
 pub use run_check::report::{AllStats, CrateReport, Report, Stats, Verdict};
 pub use run_found::{CrateRead, CrateReads, Error};
+pub use run_notice::NoticedCrates;
 pub use run_record::{NoReason, VerifiedCrates, VerifyAnswer};
 pub use run_request::{Request, Subcommand};
 pub use spdx_own_names::StoreFault;

@@ -4,6 +4,7 @@
 use run_bill::BilledCrates;
 use run_check::Report;
 use run_found::{CrateReads, Error};
+use run_notice::NoticedCrates;
 use run_record::VerifiedCrates;
 use run_request::Request;
 
@@ -23,6 +24,8 @@ pub enum RunEnd {
     Verified(VerifiedCrates),
     /// A bill of the crates was written, or it was told whether one has changed.
     Billed(BilledCrates),
+    /// The licences that the crates are used under were written, with their texts.
+    Noticed(NoticedCrates),
     /// Help or the version was written.
     Shown,
     /// The words are none that are taken.
@@ -35,7 +38,7 @@ pub enum RunEnd {
 #[derive(Drop)]
 pub struct Outcome {
     /// The exit status of the program: 0 after a report in which nothing is an error, after a verdict file that is
-    /// right, after a bill that has not changed, after a listing, a sample, a verdict file or a bill that was written,
+    /// right, after a bill that has not changed, after a listing, a sample, a verdict file, a bill or a notice that was written,
     /// after help and after the version; 4 after a report in which something is an error, after a verdict file that is
     /// not right, and after a bill that has changed; 2 after words that are not taken; 1 after a refusal.
     pub status: u8,

@@ -14,7 +14,7 @@ use crate::outcome::{Outcome, RunEnd};
 use run_found::Error;
 use run_record::VerifyAnswer;
 use run_request::Request;
-use spdx_core::{Catalog, Identifier};
+use spdx_core::{Catalog, Identifier, TextLookup};
 use std::alloc::Global;
 use tree_core::{Sink, Tree, write_all};
 
@@ -45,7 +45,7 @@ fn answer_status(answer: &VerifyAnswer) -> u8
 }
 
 /// The status of an end: 0 where the check of licences has no errors, where a verdict file is right, and where a bill
-/// has not changed, 4 where not; 0 after a listing, a sample, a verdict file, a bill, help and the version, 2 after a
+/// has not changed, 4 where not; 0 after a listing, a sample, a verdict file, a bill, a notice, help and the version, 2 after a
 /// mistake in the words, 1 after a refusal.
 fn exit_status(ended: &RunEnd) -> u8
     ensures { result ≡ run.exit_status ended.now }
@@ -54,7 +54,11 @@ fn exit_status(ended: &RunEnd) -> u8
         RunEnd::Checked(report) => { if report.stats.has_errors() { 4 } else { 0 } }
         RunEnd::Verified(crates) => answer_status(&crates.answer),
         RunEnd::Billed(crates) => { if crates.same { 0 } else { 4 } }
-        RunEnd::Listed(_) | RunEnd::Sampled(_) | RunEnd::Recorded(_) | RunEnd::Shown => 0,
+        RunEnd::Listed(_)
+        | RunEnd::Sampled(_)
+        | RunEnd::Recorded(_)
+        | RunEnd::Noticed(_)
+        | RunEnd::Shown => 0,
         RunEnd::Usage => 2,
         RunEnd::Refused(_) => 1,
     }
@@ -78,7 +82,7 @@ fn outcome_of(request: Option<Request>, ended: RunEnd) -> Outcome
 /// The status is 0 where no finding is an error, 4 where one is, 2 where the words are not taken, and 1 after
 /// a refusal; it is 0 after help and the version. Where a verdict file is verified it is 0 where that is
 /// right, else 4; where a bill is compared with, 0 where nothing but the moment has changed, else 4.
-pub fn run<T: Tree, O: Sink, E: Sink, C: Catalog, I: Identifier>(
+pub fn run<T: Tree, O: Sink, E: Sink, C: Catalog, I: Identifier + TextLookup>(
     alloc: Global,
     words: &[String],
     cwd: &str,
@@ -88,7 +92,8 @@ pub fn run<T: Tree, O: Sink, E: Sink, C: Catalog, I: Identifier>(
     catalog: &C,
     identifier: &I,
 ) -> Outcome
-    ensures { IsRun (run_arguments_of (C.lists catalog.now) (I.match_of identifier.now) words.now cwd.now)
+    ensures { IsRun (run_arguments_of (C.lists catalog.now) (I.match_of identifier.now) (I.text_of identifier.now) words.now
+        cwd.now)
         (run_seen (seen_between T.content T.fault_count T.trace tree.old tree.new)
         (sink_between O.written O.fault_count out.old out.new)
         (sink_between E.written E.fault_count err.old err.new)) result }

@@ -78,17 +78,17 @@ counts_of_all count (one ∷ crates) =
     ∙ sym (faults_after-append count (calls_in [] one.reads) (calls_in [] (reads_of_all crates)))
     ∙ ap (faults_after count) (sym (calls_in-append [] one.reads (reads_of_all crates)))
 
-calls_push : (crates : List ReadsOfCrate) (one : ReadsOfCrate) → calls_of_all (crates ++ one ∷ []) ≡ calls_of_all crates ++ calls_in (folder_of one.krate) one.reads
+pub calls_push : (crates : List ReadsOfCrate) (one : ReadsOfCrate) → calls_of_all (crates ++ one ∷ []) ≡ calls_of_all crates ++ calls_in (folder_of one.krate) one.reads
 calls_push crates one =
     flat_map-append (λ (one : ReadsOfCrate). calls_in (folder_of one.krate) one.reads) crates (one ∷ [])
     ∙ ap (λ (calls : List Call). calls_of_all crates ++ calls) (append-nil (calls_in (folder_of one.krate) one.reads))
 
-reads_push : (crates : List ReadsOfCrate) (one : ReadsOfCrate) → reads_of_all (crates ++ one ∷ []) ≡ reads_of_all crates ++ one.reads
+pub reads_push : (crates : List ReadsOfCrate) (one : ReadsOfCrate) → reads_of_all (crates ++ one ∷ []) ≡ reads_of_all crates ++ one.reads
 reads_push crates one =
     flat_map-append (λ (one : ReadsOfCrate). one.reads) crates (one ∷ []) ∙ ap (λ (reads : List AnsweredRead). reads_of_all crates ++ reads) (append-nil one.reads)
 
 -- records tell what the answers say, and so do those of the next crate
-are_then : {told mid : Option Content} {before middle : ℕ} {old between : List Call} (crates : List ReadsOfCrate) (more : List AnsweredRead) → Made told mid before middle old between (calls_of_all crates)
+pub are_then : {told mid : Option Content} {before middle : ℕ} {old between : List Call} (crates : List ReadsOfCrate) (more : List AnsweredRead) → Made told mid before middle old between (calls_of_all crates)
     → AreReads before (reads_of_all crates) → AreReads middle more → AreReads before (reads_of_all crates ++ more)
 are_then {told} {mid} {before} {middle} crates more made first then =
     are_joined before [] (reads_of_all crates) more first (subst (λ (count : ℕ). AreReads count more) (made.counts ∙ counts_of_all before crates) then)

@@ -40,8 +40,8 @@ pub struct Gatherer<'i, I> {
     threshold: u8,
 }
 
-/// A score in hundredths, cut to 0..100.
-fn threshold(hundredths: i64) -> u8
+/// The least score of a name that is joined: a number of hundredths, cut to 0..100.
+pub fn cut_threshold(hundredths: i64) -> u8
     ensures { result ≡ threshold_of hundredths }
 {
     if hundredths < 0 {
@@ -165,7 +165,7 @@ impl<'i, I> Gatherer<'i, I> {
     {
         Gatherer {
             store: self.store,
-            threshold: threshold(hundredths),
+            threshold: cut_threshold(hundredths),
         }
     }
 }

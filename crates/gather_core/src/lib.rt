@@ -13,5 +13,5 @@ mod told;
 mod turn;
 
 pub use crate::findings::{Diags, LicenseExprInfo, LicenseExprSource, LicenseInfo};
-pub use gatherer::Gatherer;
+pub use gatherer::{Gatherer, cut_threshold};
 pub use summary::{KrateLicense, KrateLicenses, Summary};

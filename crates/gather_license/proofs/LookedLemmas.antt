@@ -62,7 +62,7 @@ looked krate clarifications reads begun new held missing begins takes paths hold
     }
 
 -- the files of the pack are what is read of the paths of the pack
-files_looked : (known_reads : FolderReads) (pack : PackView) (paths : List (List ℕ)) → Agrees known_reads pack → paths_of pack.files ≡ in_path_order paths → AreApart paths
+pub files_looked : (known_reads : FolderReads) (pack : PackView) (paths : List (List ℕ)) → Agrees known_reads pack → paths_of pack.files ≡ in_path_order paths → AreApart paths
     → pack.files ≡ files_heard known_reads (in_path_order paths)
 files_looked known_reads pack paths agrees sorted apart =
     sym (heard_at_paths known_reads.file pack.files (subst AreApart (sym sorted) (apart_in_order paths apart)) agrees.files) ∙ ap (files_heard known_reads) sorted

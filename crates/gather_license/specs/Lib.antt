@@ -1,6 +1,7 @@
 pub mod Calls
 pub mod Clarification
 pub mod Notes
+pub mod OwnTexts
 pub mod Priority
 pub mod Settled
 pub mod Steps

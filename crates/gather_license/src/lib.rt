@@ -1,5 +1,5 @@
 //! What settles the licence that a crate is under: the clarifications of the policy and of its exceptions
-//! file, its own field and its licence files.
+//! file, its own field and its licence files. And the licence texts that it comes with.
 #![tactic(auto)]
 
 pub mod clarification;
@@ -7,11 +7,13 @@ pub mod expression;
 pub mod files;
 pub mod location;
 mod notes;
+pub mod own_texts;
 pub mod scan;
 pub mod settle;
 pub mod settling;
 
 pub use clarification::{ClarificationRef, FileRef, HeldClarification};
+pub use own_texts::{OwnText, OwnTextItems, OwnTexts, own_texts};
 pub use scan::Scan;
 pub use settle::{Coords, SettledLicense, folder, settle_license};
 pub use settling::{FilesSeen, JoinedNames, LicenseBasis};

@@ -46,8 +46,8 @@ pub struct SettledLicense {
 
 /// A crate's pack, the first clarification that holds by it, and the places of files that are not there.
 #[derive(Drop)]
-struct ClarifiedPack {
-    pack: LicensePack,
+pub(crate) struct ClarifiedPack {
+    pub(crate) pack: LicensePack,
     held: Option<HeldClarification>,
     missing: Coords,
 }
@@ -115,7 +115,7 @@ fn try_all<T: Tree>(
 }
 
 /// Reads what is found of a crate's licence files, and tries clarifications.
-fn look<T: Tree>(
+pub(crate) fn look<T: Tree>(
     alloc: Global,
     tree: &mut T,
     krate: &Krate,

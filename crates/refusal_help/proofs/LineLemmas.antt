@@ -11,11 +11,11 @@ use Rattle.diag_core.specs.declared.severity.Severity.{Severity}
 use Rattle.diag_print.specs.Human.{flat_byte, flat_text}
 use Rattle.graph_metadata.specs.declared.fault.MetaFault.{MetaFault}
 use Rattle.run_found.specs.declared.error.Error.{Error}
-use Rattle.run_found.specs.declared.error.Error.TheVariants.{Memory, NotCarried, ManifestPath, ManifestRead, CatalogRead, CatalogSyntax, StoreRead, ConfigRead, ConfigSyntax, ConfigShape, ConfigInvalid, OverrideTwice, MetadataRead, MetadataSyntax, MetadataShape, NoRoots, RecordRead, RecordSyntax, BillText, BillRead, BillSyntax, WriteFault}
+use Rattle.run_found.specs.declared.error.Error.TheVariants.{Memory, NotCarried, ManifestPath, ManifestRead, CatalogRead, CatalogSyntax, StoreRead, ConfigRead, ConfigSyntax, ConfigShape, ConfigInvalid, OverrideTwice, MetadataRead, MetadataSyntax, MetadataShape, NoRoots, NotAccepted, NoText, RecordRead, RecordSyntax, BillText, BillRead, BillSyntax, WriteFault}
 use Rattle.spdx_own_names.specs.declared.error.StoreFault.{StoreFault}
 use Rattle.toml_subset.specs.declared.error.SyntaxError.{SyntaxError}
 use Rattle.tree_core.specs.declared.texts.fault.ReadFault.{ReadFault}
-use Rattle.refusal_help.specs.Help.{advice, at_file, at_file_if, catalog_words, fault_at, help_of, is_unresolved, line_and_column, line_help, place_in, place_text, policy_help, file_of, resolve_help, roots_help, roots_words, shape_help, store_help, store_place, syntax_help, twice_help, unknown_help}
+use Rattle.refusal_help.specs.Help.{advice, at_file, at_file_if, catalog_words, fault_at, help_of, is_unresolved, line_and_column, line_help, missing_help, place_in, place_text, policy_help, file_of, resolve_help, roots_help, roots_words, shape_help, store_help, store_place, syntax_help, text_place, twice_help, unknown_help}
 use Rattle.refusal_help.specs.Laws.{AreHelpLines, HelpHasItsLines, IsHelpLine, if_known, if_so, line_count, with_end}
 use Rattle.refusal_help.specs.Unknown.{names_unknown}
 use Rattle.refusal_help.specs.Words.{fault_words, level_option, line_words, manifest_words, policy_words, read_words, reason_words, store_words, what_words}
@@ -104,6 +104,10 @@ store_lines : (folder : Option (List ℕ)) (fault : StoreFault) → AreHelpLines
 store_lines (Some folder) fault = file_lines (store_place folder fault) (store_words fault)
 store_lines None fault = no_lines
 
+missing_lines : (folder : Option (List ℕ)) (id key : List ℕ) → AreHelpLines 1 (missing_help folder id key)
+missing_lines (Some folder) id key = file_lines (text_place folder key) (codes "there is no such text, and " ++ id ++ codes " has no file that is identified as " ++ key)
+missing_lines None id key = advice_lines (id ++ codes " has no file that is identified as " ++ key ++ codes ", and no stored text has this name: cargo deny --store DIR names others")
+
 unknown_lines : (catalog : Option (List ℕ)) (is : Bool) → AreHelpLines (if_so is) (unknown_help catalog is)
 unknown_lines catalog true = advice_lines (catalog_words catalog)
 unknown_lines catalog false = no_lines
@@ -170,6 +174,8 @@ help_lines request again (MetadataRead fault) = record { lines = file_if_lines r
 help_lines request again MetadataSyntax = record { lines = file_if_lines request.krate_ctx.metadata_path (codes "is no JSON"); few = known_few request.krate_ctx.metadata_path }
 help_lines request again (MetadataShape fault) = record { lines = shape_lines request.krate_ctx.metadata_path fault; few = both_few request.krate_ctx.metadata_path (is_unresolved fault) }
 help_lines request again (NoRoots base excluded unpublished) = record { lines = roots_lines base excluded unpublished; few = one_few }
+help_lines request again (NotAccepted id reads) = record { lines = advice_lines (id ++ codes " is rejected or unlicensed: check licenses says why"); few = one_few }
+help_lines request again (NoText id key reads own) = record { lines = missing_lines request.store id key; few = one_few }
 help_lines request again (RecordRead fault reads) = record { lines = file_if_lines (file_of request.command) (read_words fault); few = known_few (file_of request.command) }
 help_lines request again RecordSyntax = record { lines = file_if_lines (file_of request.command) (codes "is no verdict file"); few = known_few (file_of request.command) }
 help_lines request again (BillText id) = record { lines = advice_lines (id ++ codes ": its name is empty or has the end of a line"); few = one_few }

@@ -16,7 +16,7 @@ use Rattle.run_found.specs.declared.error.Error.TheVariants.{Memory, NotCarried,
 use Rattle.run_found.specs.declared.error.Error.TheVariants.{CatalogRead, CatalogSyntax, StoreRead, ConfigRead}
 use Rattle.run_found.specs.declared.error.Error.TheVariants.{ConfigSyntax, ConfigShape, ConfigInvalid, OverrideTwice}
 use Rattle.run_found.specs.declared.error.Error.TheVariants.{MetadataRead, MetadataSyntax, MetadataShape, NoRoots}
-use Rattle.run_found.specs.declared.error.Error.TheVariants.{RecordRead, RecordSyntax, BillText}
+use Rattle.run_found.specs.declared.error.Error.TheVariants.{NotAccepted, NoText, RecordRead, RecordSyntax, BillText}
 use Rattle.run_found.specs.declared.error.Error.TheVariants.{BillRead, BillSyntax, WriteFault}
 use Rattle.run_request.specs.declared.request.Request.{Request}
 use Rattle.run_request.specs.declared.request.Subcommand.{Subcommand}
@@ -137,6 +137,25 @@ file_of _ = None
 abbrev pub name_help : List ℕ → List ℕ
 name_help id = advice (id ++ codes ": its name is empty or has the end of a line")
 
+-- ---- a notice
+
+-- a crate that is not accepted
+abbrev pub accepted_help : List ℕ → List ℕ
+accepted_help id = advice (id ++ codes " is rejected or unlicensed: check licenses says why")
+
+-- where the text of a key would be in a folder of texts
+abbrev pub text_place : List ℕ → List ℕ → List ℕ
+text_place folder key = join_of folder (key ++ codes ".txt")
+
+-- a licence of a crate for which there is no text
+abbrev pub missing_help : Option (List ℕ) → List ℕ → List ℕ → List ℕ
+missing_help (Some folder) id key =
+    at_file (text_place folder key)
+    (codes "there is no such text, and " ++ id ++ codes " has no file that is identified as " ++ key)
+missing_help None id key =
+    advice (id ++ codes " has no file that is identified as " ++ key
+    ++ codes ", and no stored text has this name: cargo deny --store DIR names others")
+
 -- ---- counts and levels
 
 -- how many crates could be roots, and how many are left out
@@ -175,6 +194,8 @@ help_of request again (MetadataRead fault) = at_file_if request.krate_ctx.metada
 help_of request again MetadataSyntax = at_file_if request.krate_ctx.metadata_path (codes "is no JSON")
 help_of request again (MetadataShape fault) = shape_help request.krate_ctx.metadata_path fault
 help_of request again (NoRoots base excluded unpublished) = roots_help base excluded unpublished
+help_of request again (NotAccepted id reads) = accepted_help id
+help_of request again (NoText id key reads own) = missing_help request.store id key
 help_of request again (RecordRead fault reads) = at_file_if (file_of request.command) (read_words fault)
 help_of request again RecordSyntax = at_file_if (file_of request.command) (codes "is no verdict file")
 help_of request again (BillText id) = name_help id

@@ -7,7 +7,7 @@ use Rattle.run_found.specs.declared.error.Error.TheVariants.{Memory, NotCarried,
 use Rattle.run_found.specs.declared.error.Error.TheVariants.{CatalogRead, CatalogSyntax, StoreRead, ConfigRead}
 use Rattle.run_found.specs.declared.error.Error.TheVariants.{ConfigSyntax, ConfigShape, ConfigInvalid, OverrideTwice}
 use Rattle.run_found.specs.declared.error.Error.TheVariants.{MetadataRead, MetadataSyntax, MetadataShape, NoRoots}
-use Rattle.run_found.specs.declared.error.Error.TheVariants.{RecordRead, RecordSyntax, BillText}
+use Rattle.run_found.specs.declared.error.Error.TheVariants.{NotAccepted, NoText, RecordRead, RecordSyntax, BillText}
 use Rattle.run_found.specs.declared.error.Error.TheVariants.{BillRead, BillSyntax, WriteFault}
 use Rattle.run_request.specs.declared.request.Request.{Request}
 use Rattle.refusal_help.specs.declared.again.Again.{Again}
@@ -60,6 +60,8 @@ line_count request again MetadataSyntax = if_known request.krate_ctx.metadata_pa
 line_count request again (MetadataShape fault) =
     if_known request.krate_ctx.metadata_path + if_so (is_unresolved fault)
 line_count request again (NoRoots base excluded unpublished) = 1
+line_count request again (NotAccepted id reads) = 1
+line_count request again (NoText id key reads own) = 1
 line_count request again (RecordRead fault reads) = if_known (file_of request.command)
 line_count request again RecordSyntax = if_known (file_of request.command)
 line_count request again (BillText id) = 1

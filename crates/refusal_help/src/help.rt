@@ -6,6 +6,7 @@ ghost use Rattle.std.specs.String.{string_bytes};
 ghost use Rattle.refusal_help.specs.Help.{advice, at_file, at_file_if, fault_at, help_of, is_unresolved};
 ghost use Rattle.refusal_help.specs.Help.{line_and_column, place_text, resolve_help, roots_help, roots_words};
 ghost use Rattle.refusal_help.specs.Help.{catalog_words, line_help, store_help, store_place, syntax_help};
+ghost use Rattle.refusal_help.specs.Help.{accepted_help, missing_help, text_place};
 ghost use Rattle.refusal_help.specs.Help.{file_of, name_help, policy_help, shape_help, twice_help, unknown_help};
 ghost use Rattle.refusal_help.specs.Words.{read_words};
 
@@ -190,6 +191,49 @@ fn push_name(alloc: Global, text: &mut String, id: &Text) -> Result<(), AllocErr
 {
     let told = format!(in alloc; "{id}: its name is empty or has the end of a line")?;
     push_advice(text, told.as_str())
+}
+
+/// A crate that is not accepted.
+fn push_accepted(alloc: Global, text: &mut String, id: &Text) -> Result<(), AllocError>
+    ensures { OnOk result (string_bytes text.new ≡ string_bytes text.old ++ accepted_help id.now) }
+{
+    let told = format!(in alloc; "{id} is rejected or unlicensed: check licenses says why")?;
+    push_advice(text, told.as_str())
+}
+
+/// Where the text of a key would be in a folder of texts.
+fn text_place(alloc: Global, folder: &str, key: &Text) -> Result<PathBuf, AllocError>
+    ensures { IfOk result (λ place. place ≡ text_place folder.now key.now) }
+{
+    let name = format!(in alloc; "{key}.txt")?;
+    join(alloc, folder, name.as_str())
+}
+
+/// A licence of a crate for which there is no text.
+fn push_missing(
+    alloc: Global,
+    text: &mut String,
+    folder: &Option<PathBuf>,
+    id: &Text,
+    key: &Text,
+) -> Result<(), AllocError>
+    ensures { OnOk result (string_bytes text.new ≡ string_bytes text.old ++ missing_help folder.now id.now key.now) }
+{
+    match folder {
+        Some(folder) => {
+            let place = text_place(alloc, folder.as_path(), key)?;
+            let told = format!(in alloc;
+                "there is no such text, and {id} has no file that is identified as {key}"
+            )?;
+            push_file(text, place.as_path(), told.as_str())
+        }
+        None => {
+            let told = format!(in alloc;
+                "{id} has no file that is identified as {key}, and no stored text has this name: cargo deny --store DIR names others"
+            )?;
+            push_advice(text, told.as_str())
+        }
+    }
 }
 
 /// A fault of the catalogue's file, at a line that counts from 1.
@@ -401,6 +445,8 @@ fn push_help(
             excluded,
             unpublished,
         } => push_roots(alloc, text, *base, *excluded, *unpublished),
+        Error::NotAccepted { id, .. } => push_accepted(alloc, text, id),
+        Error::NoText { id, key, .. } => push_missing(alloc, text, &request.store, id, key),
         Error::RecordRead { fault, .. } => push_asked_read(alloc, text, &request.command, *fault),
         Error::RecordSyntax => push_asked(text, &request.command, "is no verdict file"),
         Error::BillText(id) => push_name(alloc, text, id),

@@ -14,7 +14,6 @@ use Rattle.graph_workspace.specs.Krates.{graph_in}
 use Rattle.graph_workspace.specs.declared.error.KratesError.{KratesError}
 use Rattle.graph_workspace.specs.declared.error.KratesError.TheVariants as krates
 use Rattle.spdx_terms.specs.catalog.Catalog.{CatalogLists}
-use Rattle.spdx_terms.specs.declared.catalog.identifier.Match.{Match}
 use Rattle.spdx_own_names.specs.File.{first_fault, lines_of, lists_of}
 use Rattle.spdx_own_names.specs.Folder.{StoreHeard, store_answered}
 use Rattle.policy_core.specs.config.Root.{root_of}
@@ -43,11 +42,11 @@ use Rattle.run_found.specs.Hearing.{LooksResult, look_failed, nowhere, at, unend
 use Rattle.run_found.specs.Steps.{◌>>=◌}
 use Rattle.run_found.specs.Written.{SinkSeen}
 use Rattle.run_found.specs.own_names.Found.{AnswersHeard}
-use Rattle.run_found.specs.own_names.Given.{ListsAsked, ListsGiven}
+use Rattle.run_found.specs.own_names.Given.{ListsAsked, ListsGiven, TextsGiven}
 use Rattle.run_found.specs.own_names.Heard.{ListsHearing, catalog_by, catalog_told, count_catalog, given_by, given_heard, lists_calls, lists_heard, texts_by, texts_heard, texts_told}
 use Rattle.run_command.specs.Found.{input_of, policy_asked, unless_twice}
 use Rattle.run_command.specs.Given.{CommandArguments, CommandRequest, command_by, handed_in}
-use Rattle.run_command.specs.Prelude.{ComesTo, Runs, came, from_there, lists_had, no_lists, no_manifest, stopped, unsupported}
+use Rattle.run_command.specs.Prelude.{ComesTo, RunsBy, came, from_there, lists_had, no_lists, no_manifest, stopped, unsupported}
 use Rattle.run_command.specs.Stops.{Refuses, Stops}
 use Rattle.run_command.proofs.ManifestLemmas.{look_apart}
 
@@ -196,7 +195,7 @@ heard_never None e = absurd (cc)
 heard_never (Some (Ok texts)) e = absurd (cc)
 heard_never (Some (Err own)) e = absurd (cc)
 
-texts_never : (given : List ℕ → Match) (path : Option (List ℕ)) (begun after : ℕ) (listing : Option CallAnswer) (reads : List CallAnswer) → texts_by given path begun after listing reads ≡ Some (Err (ConfigRead Absent)) → ⊥
+texts_never : (given : TextsGiven) (path : Option (List ℕ)) (begun after : ℕ) (listing : Option CallAnswer) (reads : List CallAnswer) → texts_by given path begun after listing reads ≡ Some (Err (ConfigRead Absent)) → ⊥
 texts_never given None begun after listing reads e = absurd (cc)
 texts_never given (Some path) begun after None reads e = absurd (cc)
 texts_never given (Some path) begun after (Some answer) reads e = heard_never (store_answered begun after answer reads) e
@@ -207,17 +206,17 @@ lists_never given asked hearing is = by_lists (lists_heard given asked hearing) 
     as_lists : {own : Error} → ◌≡◌ {A = Option (Result ListsGiven Error)} (Some (Err own)) (Some (Err (ConfigRead Absent))) → ◌≡◌ {A = Option (Result CatalogLists Error)} (Some (Err own)) (Some (Err (ConfigRead Absent)))
     as_lists e = cc
 
-    as_texts : {own : Error} → ◌≡◌ {A = Option (Result ListsGiven Error)} (Some (Err own)) (Some (Err (ConfigRead Absent))) → ◌≡◌ {A = Option (Result (List ℕ → Match) Error)} (Some (Err own)) (Some (Err (ConfigRead Absent)))
+    as_texts : {own : Error} → ◌≡◌ {A = Option (Result ListsGiven Error)} (Some (Err own)) (Some (Err (ConfigRead Absent))) → ◌≡◌ {A = Option (Result (TextsGiven) Error)} (Some (Err own)) (Some (Err (ConfigRead Absent)))
     as_texts e = cc
 
-    by_lists : (heard : Option (Result CatalogLists Error)) (texts : Option (Result (List ℕ → Match) Error)) → lists_heard given asked hearing ≡ heard → texts_heard given asked hearing ≡ texts
+    by_lists : (heard : Option (Result CatalogLists Error)) (texts : Option (Result (TextsGiven) Error)) → lists_heard given asked hearing ≡ heard → texts_heard given asked hearing ≡ texts
         → given_by heard texts ≡ Some (Err (ConfigRead Absent)) → ⊥
     by_lists None texts one two both = absurd (cc)
     by_lists (Some (Err own)) texts one two both = catalog_never given.lists asked.catalog hearing.begun (count_catalog asked hearing) hearing.catalog (one ∙ as_lists both)
     by_lists (Some (Ok lists)) None one two both = absurd (cc)
     by_lists (Some (Ok lists)) (Some (Ok found)) one two both = absurd (cc)
     by_lists (Some (Ok lists)) (Some (Err own)) one two both =
-        texts_never given.match_of asked.store (count_catalog asked hearing) (faults_after hearing.begun (lists_calls given asked hearing)) hearing.listing hearing.texts (two ∙ as_texts both)
+        texts_never given.texts asked.store (count_catalog asked hearing) (faults_after hearing.begun (lists_calls given asked hearing)) hearing.listing hearing.texts (two ∙ as_texts both)
 
 same_error : {X : Type 0} {error own : Error} → ◌≡◌ {A = Result X Error} (Err error) (Err own) → own ≡ error
 same_error e = cc
@@ -226,12 +225,12 @@ comes_never : (given : CommandRequest) (tree : TreeSeen) → ComesTo given tree 
 comes_never given tree (unsupported what is same untouched) = absurd (cc)
 comes_never given tree (no_manifest carried own looked same) = look_apart given.command.request.context.manifest_path tree own looked (same_error same)
 comes_never given tree (no_lists carried told count calls looked own finds same) =
-    lists_never (handed_in given.command) given.own finds.hearing (subst (λ error. AnswersHeard (given_heard (handed_in given.command) given.own finds.hearing) (Err error)) (same_error same) finds.answers)
+    lists_never (handed_in given) given.own finds.hearing (subst (λ error. AnswersHeard (given_heard (handed_in given) given.own finds.hearing) (Err error)) (same_error same) finds.answers)
 comes_never given tree (lists_had carried told count calls looked own finds same) = absurd (cc)
 
 -- ---- a run
 
-pub runs_never : {X : Type 0} (given : CommandRequest) (IsDone : CommandArguments → TreeSeen → Result X Error → Type 0) (tree : TreeSeen) (err out : SinkSeen)
-    → ((own : CommandArguments) (rest : TreeSeen) → IsDone own rest (Err (ConfigRead Absent)) → ⊥) → Runs given IsDone tree err out (Err (ConfigRead Absent)) → ⊥
+pub runs_never : {X : Type 0} (given : CommandRequest) (IsDone : ListsGiven → CommandArguments → TreeSeen → Result X Error → Type 0) (tree : TreeSeen) (err out : SinkSeen)
+    → ((lists : ListsGiven) (own : CommandArguments) (rest : TreeSeen) → IsDone lists own rest (Err (ConfigRead Absent)) → ⊥) → RunsBy given IsDone tree err out (Err (ConfigRead Absent)) → ⊥
 runs_never {X} given IsDone tree err out never (stopped error comes same silent silent_out) = comes_never given tree (subst (λ own. ComesTo given tree (Err own)) (same_error same) comes)
-runs_never {X} given IsDone tree err out never (came told count calls lists comes is_done) = never (command_by given.command lists) (from_there tree told count calls) is_done
+runs_never {X} given IsDone tree err out never (came told count calls lists comes is_done) = never lists (command_by given.command lists) (from_there tree told count calls) is_done

@@ -10,8 +10,6 @@ use Rattle.tree_core.specs.texts.Heard.{read_of, text_answered}
 use Rattle.tree_core.specs.declared.texts.fault.ReadFault.{ReadFault}
 use Rattle.deny_text.specs.Path.{join_of}
 use Rattle.spdx_terms.specs.catalog.Catalog.{CatalogLists}
-use Rattle.spdx_terms.specs.catalog.Store.{match_of}
-use Rattle.spdx_terms.specs.declared.catalog.identifier.Match.{Match}
 use Rattle.spdx_terms.specs.declared.catalog.store.StoreText.{StoreText}
 use Rattle.spdx_own_names.specs.Folder.{StoreHeard, TextFile, heard_with, if_unread, list_of, reads_answered, reads_of, store_answered, texts_due, texts_of, with_text}
 use Rattle.spdx_own_names.specs.declared.error.StoreFault.{StoreFault}
@@ -19,7 +17,7 @@ use Rattle.spdx_own_names.specs.declared.error.StoreFault.TheVariants as fault
 use Rattle.run_found.specs.declared.error.Error.{Error}
 use Rattle.run_found.specs.Hearing.{TreeSeen, read_calls}
 use Rattle.run_found.specs.own_names.Found.{FindsLists}
-use Rattle.run_found.specs.own_names.Given.{ListsAsked, ListsGiven, lists_given}
+use Rattle.run_found.specs.own_names.Given.{ListsAsked, ListsGiven, TextsGiven, lists_given, store_given}
 use Rattle.run_found.specs.own_names.Heard.{ListsHearing, catalog_answered, catalog_by, count_catalog, due_behind, given_behind, given_by, given_heard, lists_calls, lists_heard, store_calls, store_due, texts_by, texts_heard, texts_told}
 
 -- ---- no call
@@ -105,18 +103,18 @@ catalog_quiet given lists (Some path) begun after count (Some call.failed) is = 
 catalog_quiet given lists (Some path) begun after count (Some call.no_memory) is = refl
 
 -- the texts of a folder, where they are found: it was listed, and each of its texts read
-record HadTexts (begun after : ℕ) (answer : CallAnswer) (reads : List CallAnswer) (found : List ℕ → Match) : Type 0 where
+record HadTexts (begun after : ℕ) (answer : CallAnswer) (reads : List CallAnswer) (found : TextsGiven) : Type 0 where
   entries : List (List ℕ × Bool)
   answer_is : answer ≡ call.entries entries
   all : List StoreText
   had : reads_answered begun after (texts_of entries) reads ≡ Some (Ok all)
-  found_is : found ≡ match_of all
+  found_is : found ≡ store_given all
 
-none_unread : (reads : List CallAnswer) (own : StoreFault) (found : List ℕ → Match) → ◌≡◌ {A = Option (Result (List ℕ → Match) Error)} (texts_told (if_unread reads own)) (Some (Ok found)) → ⊥
+none_unread : (reads : List CallAnswer) (own : StoreFault) (found : TextsGiven) → ◌≡◌ {A = Option (Result (TextsGiven) Error)} (texts_told (if_unread reads own)) (Some (Ok found)) → ⊥
 none_unread [] own found is = absurd (cc)
 none_unread (answer ∷ answers) own found is = absurd (cc)
 
-had_texts : (begun after : ℕ) (answer : CallAnswer) (reads : List CallAnswer) (found : List ℕ → Match) → texts_told (store_answered begun after answer reads) ≡ Some (Ok found)
+had_texts : (begun after : ℕ) (answer : CallAnswer) (reads : List CallAnswer) (found : TextsGiven) → texts_told (store_answered begun after answer reads) ≡ Some (Ok found)
     → HadTexts begun after answer reads found
 had_texts begun after (call.bytes items) reads found is = absurd (cc)
 had_texts begun after (call.entries items) reads found is = by_heard (reads_answered begun after (texts_of items) reads) refl is
@@ -125,7 +123,7 @@ had_texts begun after (call.entries items) reads found is = by_heard (reads_answ
     by_heard None e told = absurd (cc)
     by_heard (Some (Ok texts)) e told = record { entries = items; answer_is = refl; all = texts; had = e; found_is = sym (same told) }
       where
-        same : {one : List ℕ → Match} → ◌≡◌ {A = Option (Result (List ℕ → Match) Error)} (Some (Ok one)) (Some (Ok found)) → one ≡ found
+        same : {one : TextsGiven} → ◌≡◌ {A = Option (Result (TextsGiven) Error)} (Some (Ok one)) (Some (Ok found)) → one ≡ found
         same both = cc
     by_heard (Some (Err own)) e told = absurd (cc)
 had_texts begun after (call.told answer) reads found is = absurd (cc)
@@ -134,7 +132,7 @@ had_texts begun after call.wrong_kind reads found is = absurd (none_unread reads
 had_texts begun after call.failed reads found is = absurd (none_unread reads (fault.Failed begun after) found is)
 had_texts begun after call.no_memory reads found is = absurd (cc)
 
-store_quiet : (given found : List ℕ → Match) (path : Option (List ℕ)) (begun after count : ℕ) (listing : Option CallAnswer) (reads : List CallAnswer)
+store_quiet : (given found : TextsGiven) (path : Option (List ℕ)) (begun after count : ℕ) (listing : Option CallAnswer) (reads : List CallAnswer)
     → texts_by given path begun after listing reads ≡ Some (Ok found) → faults_after count (store_calls path listing reads) ≡ count
 store_quiet given found None begun after count listing reads is = refl
 store_quiet given found (Some path) begun after count None reads is = absurd (cc)
@@ -149,7 +147,7 @@ store_quiet given found (Some path) begun after count (Some answer) reads is =
 pub record HadBoth (given : ListsGiven) (asked : ListsAsked) (hearing : ListsHearing) (own : ListsGiven) : Type 0 where
   pub lists : CatalogLists
   pub lists_is : lists_heard given asked hearing ≡ Some (Ok lists)
-  pub found : List ℕ → Match
+  pub found : TextsGiven
   pub found_is : texts_heard given asked hearing ≡ Some (Ok found)
   pub own_is : own ≡ lists_given lists found
 
@@ -159,7 +157,7 @@ had_both given asked hearing own is = by_lists (lists_heard given asked hearing)
     same : {one : ListsGiven} → ◌≡◌ {A = Option (Result ListsGiven Error)} (Some (Ok one)) (Some (Ok own)) → one ≡ own
     same e = cc
 
-    by_lists : (heard : Option (Result CatalogLists Error)) (texts : Option (Result (List ℕ → Match) Error)) → lists_heard given asked hearing ≡ heard → texts_heard given asked hearing ≡ texts
+    by_lists : (heard : Option (Result CatalogLists Error)) (texts : Option (Result (TextsGiven) Error)) → lists_heard given asked hearing ≡ heard → texts_heard given asked hearing ≡ texts
         → given_by heard texts ≡ Some (Ok own) → HadBoth given asked hearing own
     by_lists None texts one two both = absurd (cc)
     by_lists (Some (Err error)) texts one two both = absurd (cc)
@@ -177,7 +175,7 @@ lists_quiet given asked hearing own count is =
     ∙ ap (λ n. faults_after n (store_calls (store_due given asked hearing) hearing.listing hearing.texts))
     (catalog_quiet given.lists had.lists asked.catalog hearing.begun (count_catalog asked hearing) count hearing.catalog had.lists_is)
     ∙ ap (λ path. faults_after count (store_calls path hearing.listing hearing.texts)) due
-    ∙ store_quiet given.match_of had.found asked.store (count_catalog asked hearing) (faults_after hearing.begun (lists_calls given asked hearing)) count hearing.listing hearing.texts had.found_is
+    ∙ store_quiet given.texts had.found asked.store (count_catalog asked hearing) (faults_after hearing.begun (lists_calls given asked hearing)) count hearing.listing hearing.texts had.found_is
 
 pub found_count : (given : ListsGiven) (asked : ListsAsked) (tree : TreeSeen) (own : ListsGiven) → FindsLists given asked tree (Ok own) → tree.count_after ≡ tree.count_before
 found_count given asked tree own finds = finds.made.counts ∙ lists_quiet given asked finds.hearing own tree.count_before finds.answers
@@ -210,7 +208,7 @@ module _ (Same : List Call → List Call → Type 0)
       let behind = reads_same begun after later dir texts reads others more rest first.more first.rest_is more_heard both.1 in
       (as_first ∙ ap (λ own. option_map (with_text (record { name = text.license; body = first.body })) own) behind.0 ∙ ap (λ (own : List StoreText). Some (Ok own)) (sym first.all_is), behind.1)
 
-  store_same : (given found : List ℕ → Match) (path : Option (List ℕ)) (begun after other later : ℕ) (listing listed : Option CallAnswer) (reads others : List CallAnswer) (more rest : List Call)
+  store_same : (given found : TextsGiven) (path : Option (List ℕ)) (begun after other later : ℕ) (listing listed : Option CallAnswer) (reads others : List CallAnswer) (more rest : List Call)
       → texts_by given path begun after listing reads ≡ Some (Ok found) → (texts_by given path other later listed others ≡ None → ⊥) → Same (store_calls path listing reads ++ more) (store_calls path listed others ++ rest)
       → (texts_by given path other later listed others ≡ Some (Ok found)) × Same more rest
   store_same given found None begun after other later listing listed reads others more rest had heard same = (had, same)
@@ -228,7 +226,7 @@ module _ (Same : List Call → List Call → Type 0)
       subst (λ one. Same (reads_of path (texts_of texts.entries) reads ++ more) (reads_of path (texts_due one) others ++ rest)) own_is
       (subst (λ one. Same (reads_of path (texts_due one) reads ++ more) (reads_of path (texts_due own) others ++ rest)) texts.answer_is both.1) in
       let behind = reads_same other after later path (texts_of texts.entries) reads others more rest texts.all had_other own_heard rest_same in
-      (ap (λ one. texts_told (store_answered other later one others)) own_is ∙ ap texts_told behind.0 ∙ ap (λ (one : List ℕ → Match). Some (Ok one)) (sym texts.found_is), behind.1)
+      (ap (λ one. texts_told (store_answered other later one others)) own_is ∙ ap texts_told behind.0 ∙ ap (λ (one : TextsGiven). Some (Ok one)) (sym texts.found_is), behind.1)
     where
       -- it does not depend on the counts
       reads_had : (begun after other later : ℕ) (files : List TextFile) (answers : List CallAnswer) (all : List StoreText) → reads_answered begun after files answers ≡ Some (Ok all)
@@ -282,7 +280,7 @@ module _ (Same : List Call → List Call → Type 0)
       let other_due : store_due given asked other ≡ asked.store = ap (due_behind asked.store) catalog.0 in
       let as_texts : given_heard given asked other ≡ given_behind had.lists (texts_heard given asked other) = ap (λ lists. given_by lists (texts_heard given asked other)) catalog.0 in
       let texts_heard_too : texts_heard given asked other ≡ None → ⊥ = λ e. heard (as_texts ∙ ap (given_behind had.lists) e) in
-      let texts = store_same given.match_of had.found asked.store (count_catalog asked hearing) (faults_after hearing.begun (lists_calls given asked hearing)) (count_catalog asked other)
+      let texts = store_same given.texts had.found asked.store (count_catalog asked hearing) (faults_after hearing.begun (lists_calls given asked hearing)) (count_catalog asked other)
       (faults_after other.begun (lists_calls given asked other)) hearing.listing other.listing hearing.texts other.texts more rest had.found_is texts_heard_too
       (subst (λ path. Same (store ++ more) (store_calls path other.listing other.texts ++ rest)) other_due catalog.1) in
       (as_texts ∙ ap (given_behind had.lists) texts.0 ∙ ap (λ (one : ListsGiven). Some (Ok one)) (sym had.own_is), texts.1)

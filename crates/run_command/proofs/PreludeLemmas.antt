@@ -24,7 +24,7 @@ use Rattle.run_command.specs.Found.{IsHeard, calls_of}
 use Rattle.run_command.specs.Given.{CommandArguments, CommandRequest, command_by, handed_in}
 use Rattle.run_command.specs.Lawful.{CommandHearing, IsLawful, IsLawfulOver, IsLawfulRun, IsRunHeard, run_calls, there_call}
 use Rattle.run_command.specs.Manifest.{AnswersLook, IsLookedWhereDue, LooksAtManifest, is_manifest, look_by, look_in, manifest_call, manifest_calls, manifest_due, manifest_found, unlooked}
-use Rattle.run_command.specs.Prelude.{ComesTo, IsUntouched, Runs, came, from_there, lists_had, no_lists, no_manifest, stopped, unsupported, up_to}
+use Rattle.run_command.specs.Prelude.{ComesTo, IsUntouched, RunsBy, came, from_there, lists_had, no_lists, no_manifest, stopped, unsupported, up_to}
 use Rattle.run_command.specs.Stops.{IsRefusal, PolicyAndCrates}
 use Rattle.run_command.proofs.AlikeLemmas.{IsAlike, IsSameContent, IsSameTrace, content_alike, trace_alike}
 use Rattle.run_command.proofs.LawfulLemmas.{NoRefusal, free_read, free_told}
@@ -58,8 +58,8 @@ pub record CameBy (given : CommandRequest) (tree : TreeSeen) (lists : ListsGiven
   pub named : is_manifest given.command.request.context.manifest_path ≡ true
   pub hearing : ListsHearing
   pub begun : hearing.begun ≡ tree.count_before
-  pub heard : given_heard (handed_in given.command) given.own hearing ≡ Some (Ok lists)
-  pub made : MadeOn tree (there_call given ∷ lists_calls (handed_in given.command) given.own hearing)
+  pub heard : given_heard (handed_in given) given.own hearing ≡ Some (Ok lists)
+  pub made : MadeOn tree (there_call given ∷ lists_calls (handed_in given) given.own hearing)
   pub still : tree.count_after ≡ tree.count_before
 
 pub comes_by : (given : CommandRequest) (tree : TreeSeen) (lists : ListsGiven) → ComesTo given tree (Ok lists) → CameBy given tree lists
@@ -76,9 +76,9 @@ comes_by given tree lists (lists_had carried told count calls looked own finds s
       named = there.named;
       hearing = finds.hearing;
       begun = finds.begun ∙ quiet;
-      heard = subst (λ one. given_heard (handed_in given.command) given.own finds.hearing ≡ Some (Ok one)) (same_lists same) finds.answers;
+      heard = subst (λ one. given_heard (handed_in given) given.own finds.hearing ≡ Some (Ok one)) (same_lists same) finds.answers;
       made = made_joined (looked_made path front looked) finds.made;
-      still = found_count (handed_in given.command) given.own (from_there tree told count calls) own finds ∙ quiet;
+      still = found_count (handed_in given) given.own (from_there tree told count calls) own finds ∙ quiet;
     }
   where
     same_lists : ◌≡◌ {A = Result ListsGiven Error} (Ok lists) (Ok own) → own ≡ lists
@@ -92,8 +92,8 @@ pub comes_still : (given : CommandRequest) (tree : TreeSeen) (lists : ListsGiven
 comes_still given tree lists comes = (comes_by given tree lists comes).still
 
 -- a part that is not carried is the refusal, and no call is made
-pub runs_unsupported : {X : Type 0} (given : CommandRequest) (IsDone : CommandArguments → TreeSeen → Result X Error → Type 0) (tree : TreeSeen) (err out : SinkSeen) (answer : Result X Error) (what : UnsupportedPart)
-    → given.command.options.unsupported ≡ Some what → Runs given IsDone tree err out answer → (answer ≡ Err (NotCarried what)) × IsUntouched tree
+pub runs_unsupported : {X : Type 0} (given : CommandRequest) (IsDone : ListsGiven → CommandArguments → TreeSeen → Result X Error → Type 0) (tree : TreeSeen) (err out : SinkSeen) (answer : Result X Error) (what : UnsupportedPart)
+    → given.command.options.unsupported ≡ Some what → RunsBy given IsDone tree err out answer → (answer ≡ Err (NotCarried what)) × IsUntouched tree
 runs_unsupported {X} given IsDone tree err out answer what is (stopped error comes same silent silent_out) = by_comes comes
   where
     refused_with : {own : UnsupportedPart} {refusal : Error} → own ≡ what → ◌≡◌ {A = Result ListsGiven Error} (Err refusal) (Err (NotCarried own)) → ◌≡◌ {A = Result X Error} (Err refusal) (Err (NotCarried what))
@@ -127,12 +127,12 @@ run_heard given tree told count calls lists comes own heard =
 -- the calls of a lawful run, and those that a tree was asked, are answered alike
 module _ (Same : List Call → List Call → Type 0) (alike : IsAlike Same) (given : CommandRequest) (carried : given.command.options.unsupported ≡ None)
     (named : is_manifest given.command.request.context.manifest_path ≡ true) (lawful : ListsHearing) (had : ListsGiven)
-    (heard : given_heard (handed_in given.command) given.own lawful ≡ Some (Ok had)) (more : List Call) where
+    (heard : given_heard (handed_in given) given.own lawful ≡ Some (Ok had)) (more : List Call) where
   abbrev path : List ℕ
   path = given.command.request.context.manifest_path
 
   abbrev own_lists : List Call
-  own_lists = lists_calls (handed_in given.command) given.own lawful ++ more
+  own_lists = lists_calls (handed_in given) given.own lawful ++ more
 
   look_same : (answer : Option CallAnswer) (rest : List Call) → (look_in answer ≡ unlooked → ⊥) → Same (there_call given ∷ own_lists) (manifest_calls (Some path) answer ++ rest)
       → (answer ≡ Some (call.told true)) × Same own_lists rest
@@ -171,18 +171,18 @@ module _ (Same : List Call → List Call → Type 0) (alike : IsAlike Same) (giv
       by_answer (inr (own, found)) = (looked_same looked.answer rest own same).1
 
   -- names and texts are refused for want of memory alone
-  lists_lawful : (tree : TreeSeen) (error : Error) (finds : FindsLists (handed_in given.command) given.own tree (Err error)) → Same own_lists (lists_calls (handed_in given.command) given.own finds.hearing ++ [])
+  lists_lawful : (tree : TreeSeen) (error : Error) (finds : FindsLists (handed_in given) given.own tree (Err error)) → Same own_lists (lists_calls (handed_in given) given.own finds.hearing ++ [])
       → MayEndLawful (cause_of error)
   lists_lawful tree error finds same = by_cause (cause_of error) finds.answers
     where
-      apart : given_heard (handed_in given.command) given.own finds.hearing ≡ Some (Err error) → ⊥
+      apart : given_heard (handed_in given) given.own finds.hearing ≡ Some (Err error) → ⊥
       apart is =
-          both_apart (sym is ∙ (lists_same Same alike (handed_in given.command) given.own lawful finds.hearing had more [] heard (λ none. none_apart (sym is ∙ none)) same).0)
+          both_apart (sym is ∙ (lists_same Same alike (handed_in given) given.own lawful finds.hearing had more [] heard (λ none. none_apart (sym is ∙ none)) same).0)
         where
           both_apart : ◌≡◌ {A = Option (Result ListsGiven Error)} (Some (Err error)) (Some (Ok had)) → ⊥
           both_apart e = absurd (cc)
 
-      by_cause : (cause : Cause) → AnswersBy cause (given_heard (handed_in given.command) given.own finds.hearing) error → MayEndLawful cause
+      by_cause : (cause : Cause) → AnswersBy cause (given_heard (handed_in given) given.own finds.hearing) error → MayEndLawful cause
       by_cause no_memory is = tt
       by_cause causes.told is = absurd (apart is)
       by_cause (failed_read first last) is = absurd (apart is)
@@ -199,7 +199,7 @@ module _ (Same : List Call → List Call → Type 0) (alike : IsAlike Same) (giv
       same_error : ◌≡◌ {A = Result ListsGiven Error} (Err error) (Err own) → error ≡ own
       same_error e = cc
   refused_before tree error (no_lists all told count calls looked own finds same) alikes =
-      let texts = lists_calls (handed_in given.command) given.own finds.hearing in
+      let texts = lists_calls (handed_in given) given.own finds.hearing in
       let first = manifest_calls (manifest_due None path) looked.answer in
       let both = alikes (first ++ (texts ++ [])) (made_as (ap (λ one. first ++ one) (sym (append-nil texts))) (made_joined looked.made finds.made)) in
       subst (λ one. MayEndLawful (cause_of one)) (sym (same_error same))
@@ -210,11 +210,11 @@ module _ (Same : List Call → List Call → Type 0) (alike : IsAlike Same) (giv
   refused_before tree error (lists_had all told count calls looked own finds same) alikes = absurd (ok_apart (sym same))
 
   -- where it comes to a command, that has the lawful names and texts, and the calls behind are alike
-  pub came_alike : (tree : TreeSeen) (lists : ListsGiven) (by : CameBy given tree lists) (rest : List Call) → Same (there_call given ∷ own_lists) (there_call given ∷ (lists_calls (handed_in given.command) given.own by.hearing ++ rest))
+  pub came_alike : (tree : TreeSeen) (lists : ListsGiven) (by : CameBy given tree lists) (rest : List Call) → Same (there_call given ∷ own_lists) (there_call given ∷ (lists_calls (handed_in given) given.own by.hearing ++ rest))
       → (lists ≡ had) × Same more rest
   came_alike tree lists by rest same =
-      let behind = alike (there_call given) (there_call given) own_lists (lists_calls (handed_in given.command) given.own by.hearing ++ rest) same refl refl told_apart in
-      let both = lists_same Same alike (handed_in given.command) given.own lawful by.hearing had more rest heard (λ none. none_apart (sym by.heard ∙ none)) behind.1 in
+      let behind = alike (there_call given) (there_call given) own_lists (lists_calls (handed_in given) given.own by.hearing ++ rest) same refl refl told_apart in
+      let both = lists_same Same alike (handed_in given) given.own lawful by.hearing had more rest heard (λ none. none_apart (sym by.heard ∙ none)) behind.1 in
       (same_had (sym by.heard ∙ both.0), both.1)
     where
       told_apart : call.told true ≡ call.no_memory → ⊥
@@ -227,59 +227,59 @@ module _ (Same : List Call → List Call → Type 0) (alike : IsAlike Same) (giv
 
 -- What is so of a refusal for want of memory, and of what the command answers by the lawful names and texts where nothing that it hears is
 -- refused, is so of the answer.
-module _ {X : Type 0} (given : CommandRequest) (IsDone : CommandArguments → TreeSeen → Result X Error → Type 0) (tree : TreeSeen) (err out : SinkSeen) (answer : Result X Error)
-    (makes : (own : CommandArguments) (rest : TreeSeen) → IsDone own rest answer → HasMade rest) where
+module _ {X : Type 0} (given : CommandRequest) (IsDone : ListsGiven → CommandArguments → TreeSeen → Result X Error → Type 0) (tree : TreeSeen) (err out : SinkSeen) (answer : Result X Error)
+    (makes : (lists : ListsGiven) (own : CommandArguments) (rest : TreeSeen) → IsDone lists own rest answer → HasMade rest) where
   -- calls were made, and nothing else came of the run
-  pub runs_made : Runs given IsDone tree err out answer → HasMade tree
+  pub runs_made : RunsBy given IsDone tree err out answer → HasMade tree
   runs_made (stopped error comes is silent silent_out) = comes_made given tree (Err error) comes
   runs_made (came told count calls lists comes is_done) =
-      some_joined (comes_made given (up_to tree told count calls) (Ok lists) comes) (makes (command_by given.command lists) (from_there tree told count calls) is_done)
+      some_joined (comes_made given (up_to tree told count calls) (Ok lists) comes) (makes lists (command_by given.command lists) (from_there tree told count calls) is_done)
 
   module _ (EndsSo : Result X Error → Type 0) (wanting : (error : Error) → MayEndLawful (cause_of error) → EndsSo (Err error)) (had : ListsGiven)
-      (done : (rest : TreeSeen) → NoRefusal (command_by given.command had) rest → IsDone (command_by given.command had) rest answer → EndsSo answer) where
+      (done : (rest : TreeSeen) → NoRefusal (command_by given.command had) rest → IsDone had (command_by given.command had) rest answer → EndsSo answer) where
     abbrev own : CommandArguments
     own = command_by given.command had
 
     module _ (Same : List Call → List Call → Type 0) (alike : IsAlike Same) (hearing : CommandHearing) (asked : PolicyAndCrates) (lawful : IsLawful given hearing had asked) (more : List Call)
-        (alikes : (calls : List Call) → MadeOn tree calls → Same (there_call given ∷ (lists_calls (handed_in given.command) given.own hearing.lists ++ more)) calls)
+        (alikes : (calls : List Call) → MadeOn tree calls → Same (there_call given ∷ (lists_calls (handed_in given) given.own hearing.lists ++ more)) calls)
         (free : (one : RequestHearing) (error : Error) → one.begun ≡ tree.count_before → Same more (calls_of own one) → IsRefusal own one error → ⊥) where
       -- the calls behind names and texts are alike
       alike_behind : (told : Option Content) (count : ℕ) (calls : List Call) (lists : ListsGiven) → CameBy given (up_to tree told count calls) lists → (rest : List Call)
           → MadeOn (from_there tree told count calls) rest → (lists ≡ had) × Same more rest
       alike_behind told count calls lists by rest made =
           came_alike Same alike given lawful.asks.carried lawful.comes.named hearing.lists had lawful.comes.heard more (up_to tree told count calls) lists by rest
-          (alikes (there_call given ∷ (lists_calls (handed_in given.command) given.own by.hearing ++ rest)) (made_joined by.made made))
+          (alikes (there_call given ∷ (lists_calls (handed_in given) given.own by.hearing ++ rest)) (made_joined by.made made))
 
       free_behind : (told : Option Content) (count : ℕ) (calls : List Call) (lists : ListsGiven) → CameBy given (up_to tree told count calls) lists
           → NoRefusal own (from_there tree told count calls)
       free_behind told count calls lists by one error ran refusal =
           free one error (ran.begun ∙ by.still) (alike_behind told count calls lists by (calls_of own one) ran.made).1 refusal
 
-      lawful_by : Runs given IsDone tree err out answer → EndsSo answer
+      lawful_by : RunsBy given IsDone tree err out answer → EndsSo answer
       lawful_by (stopped error comes is silent silent_out) =
           subst EndsSo (sym is)
           (wanting error (refused_before Same alike given lawful.asks.carried lawful.comes.named hearing.lists had lawful.comes.heard more tree error comes alikes))
       lawful_by (came told count calls lists comes is_done) =
           let rest = from_there tree told count calls in
           let by = comes_by given (up_to tree told count calls) lists comes in
-          let made = makes (command_by given.command lists) rest is_done in
+          let made = makes lists (command_by given.command lists) rest is_done in
           done rest (free_behind told count calls lists by)
-          (subst (λ one. IsDone (command_by given.command one) rest answer) (alike_behind told count calls lists by made.calls made.made).0 is_done)
+          (subst (λ one. IsDone one (command_by given.command one) rest answer) (alike_behind told count calls lists by made.calls made.made).0 is_done)
 
     -- by what was read
-    pub lawful_run : (hearing : CommandHearing) (behind : List Call) (asked : PolicyAndCrates) → IsLawfulRun given tree hearing had behind asked → Runs given IsDone tree err out answer → EndsSo answer
+    pub lawful_run : (hearing : CommandHearing) (behind : List Call) (asked : PolicyAndCrates) → IsLawfulRun given tree hearing had behind asked → RunsBy given IsDone tree err out answer → EndsSo answer
     lawful_run hearing behind asked is =
         lawful_by IsSameTrace trace_alike hearing asked is.lawful (calls_of own hearing.found ++ behind) alikes
         (λ one error begun same refusal. free_read own hearing.found one asked (begun ∙ sym is.begun.found) is.lawful.due is.lawful.asks error refusal behind (sym same))
       where
-        alikes : (calls : List Call) → MadeOn tree calls → there_call given ∷ (lists_calls (handed_in given.command) given.own hearing.lists ++ (calls_of own hearing.found ++ behind)) ≡ calls
+        alikes : (calls : List Call) → MadeOn tree calls → there_call given ∷ (lists_calls (handed_in given) given.own hearing.lists ++ (calls_of own hearing.found ++ behind)) ≡ calls
         alikes calls made =
-            ap (λ one. there_call given ∷ one) (sym (append_assoc (lists_calls (handed_in given.command) given.own hearing.lists) (calls_of own hearing.found) behind))
+            ap (λ one. there_call given ∷ one) (sym (append_assoc (lists_calls (handed_in given) given.own hearing.lists) (calls_of own hearing.found) behind))
             ∙ append_cancel_left tree.calls_before (run_calls given hearing had ++ behind) calls (sym is.made.traced ∙ made.traced)
 
     -- and by a content, where the tree tells it
     pub lawful_over : (content : Content) → tree.told ≡ Some content → ¬ (Rose tree.count_before tree.count_after) → (hearing : CommandHearing) (asked : PolicyAndCrates)
-        → IsLawfulOver given content tree.count_before hearing had asked → Runs given IsDone tree err out answer → EndsSo answer
+        → IsLawfulOver given content tree.count_before hearing had asked → RunsBy given IsDone tree err out answer → EndsSo answer
     lawful_over content told still hearing asked is =
         lawful_by (IsSameContent content tree.count_before tree.count_after) (content_alike content tree.count_before tree.count_after still) hearing asked is.lawful (calls_of own hearing.found)
         (λ calls made. record {

@@ -8,7 +8,7 @@ use Rattle.run_request.specs.declared.context.KrateContext.{KrateContext}
 use Rattle.run_request.specs.declared.level.LintLevels.{LintLevels}
 use Rattle.run_found.specs.Given.{RequestArguments, request_arguments_of}
 use Rattle.run_request.specs.declared.request.Request.{Request}
-use Rattle.run_found.specs.own_names.Given.{ListsAsked, ListsGiven, lists_asked, lists_given}
+use Rattle.run_found.specs.own_names.Given.{ListsAsked, ListsGiven, lists_asked, lists_given, texts_given}
 
 -- In what commands differ before they do their own: the first part of the request that is not carried, the codes and
 -- levels that are asked for, whether the flags of the policy's graph leave crates out, and the least score of a text,
@@ -32,25 +32,28 @@ command_arguments_of lists match_of log context options =
 
 -- ---- an organisation's own names and texts
 
--- a command by the names and texts that are handed in, and where a catalogue's file and a folder of texts take their
--- place
+-- a command by the names and texts that are handed in, with the text of each name, and where a catalogue's file and a
+-- folder of texts take their place
 pub record CommandRequest : Type 0 where
   pub command : CommandArguments
+  pub text_of : List ℕ → Option (List ℕ)
   pub own : ListsAsked
 
 -- what is handed in
-abbrev pub handed_in : CommandArguments → ListsGiven
-handed_in command = lists_given command.request.lists command.match_of
+abbrev pub handed_in : CommandRequest → ListsGiven
+handed_in given = lists_given given.command.request.lists (texts_given given.command.match_of given.text_of)
 
 -- the command by other names and texts
 abbrev pub command_by : CommandArguments → ListsGiven → CommandArguments
 command_by command lists =
-    command_arguments_of lists.lists lists.match_of command.request.log command.request.context command.options
+    command_arguments_of lists.lists lists.texts.match_of command.request.log command.request.context command.options
 
 -- what a request asks of a command, by what is handed in
-abbrev pub command_asked : CatalogLists → (List ℕ → Match) → Request → CommandOptions → CommandRequest
-command_asked lists match_of request options =
+abbrev pub command_asked : CatalogLists → (List ℕ → Match) → (List ℕ → Option (List ℕ)) → Request → CommandOptions
+    → CommandRequest
+command_asked lists match_of text_of request options =
     record {
       command = command_arguments_of lists match_of request.log_ctx request.krate_ctx options;
+      text_of = text_of;
       own = lists_asked request.catalog request.store;
     }

@@ -24,7 +24,7 @@ pub record HasBegun (hearing : CommandHearing) (count : ℕ) : Type 0 where
 -- the run came to its command: the path is that of a manifest, and these names and texts are found
 pub record ComesBy (given : CommandRequest) (hearing : CommandHearing) (had : ListsGiven) : Type 0 where
   pub named : is_manifest given.command.request.context.manifest_path ≡ true
-  pub heard : given_heard (handed_in given.command) given.own hearing.lists ≡ Some (Ok had)
+  pub heard : given_heard (handed_in given) given.own hearing.lists ≡ Some (Ok had)
 
 -- the look, with the answer that the manifest is there
 abbrev pub there_call : CommandRequest → Call
@@ -34,7 +34,7 @@ there_call given = manifest_call given.command.request.context.manifest_path (ca
 abbrev pub run_calls : CommandRequest → CommandHearing → ListsGiven → List Call
 run_calls given hearing had =
     there_call given
-    ∷ (lists_calls (handed_in given.command) given.own hearing.lists
+    ∷ (lists_calls (handed_in given) given.own hearing.lists
     ++ calls_of (command_by given.command had) hearing.found)
 
 -- a run on a tree came to its command so, and made these calls, and no other

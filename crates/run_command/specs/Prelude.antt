@@ -34,21 +34,27 @@ pub data ComesTo (given : CommandRequest) (tree : TreeSeen) (answer : Result Lis
       → ComesTo given tree answer
   no_lists : given.command.options.unsupported ≡ None → (told : Option Content) (count : ℕ) (calls : List Call)
       → LooksAtManifest given.command.request.context.manifest_path (up_to tree told count calls) (Ok tt)
-      → (error : Error) → FindsLists (handed_in given.command) given.own (from_there tree told count calls) (Err error)
+      → (error : Error) → FindsLists (handed_in given) given.own (from_there tree told count calls) (Err error)
       → answer ≡ Err error → ComesTo given tree answer
   lists_had : given.command.options.unsupported ≡ None → (told : Option Content) (count : ℕ) (calls : List Call)
       → LooksAtManifest given.command.request.context.manifest_path (up_to tree told count calls) (Ok tt)
       → (lists : ListsGiven)
-      → FindsLists (handed_in given.command) given.own (from_there tree told count calls) (Ok lists) → answer ≡ Ok lists
+      → FindsLists (handed_in given) given.own (from_there tree told count calls) (Ok lists) → answer ≡ Ok lists
       → ComesTo given tree answer
 
--- A command is refused before it begins, and nothing was written; or it has begun, by the names and texts that count,
--- and this is so of its answer and of what the tree printed behind that.
-pub data Runs {X : Type 0} (given : CommandRequest) (IsDone : CommandArguments → TreeSeen → Result X Error → Type 0)
-    (tree : TreeSeen) (err out : SinkSeen) (answer : Result X Error) : Type 0 where
+-- A command is refused before it begins, and nothing was written; or it has begun, and this is so of the names and
+-- texts that count, of the command by these, of its answer, and of what the tree reported behind that.
+pub data RunsBy {X : Type 0} (given : CommandRequest)
+    (IsDone : ListsGiven → CommandArguments → TreeSeen → Result X Error → Type 0) (tree : TreeSeen)
+    (err out : SinkSeen) (answer : Result X Error) : Type 0 where
   stopped : (error : Error) → ComesTo given tree (Err error) → answer ≡ Err error → IsSilent err → IsSilent out
-      → Runs given IsDone tree err out answer
+      → RunsBy given IsDone tree err out answer
   came : (told : Option Content) (count : ℕ) (calls : List Call) (lists : ListsGiven)
       → ComesTo given (up_to tree told count calls) (Ok lists)
-      → IsDone (command_by given.command lists) (from_there tree told count calls) answer
-      → Runs given IsDone tree err out answer
+      → IsDone lists (command_by given.command lists) (from_there tree told count calls) answer
+      → RunsBy given IsDone tree err out answer
+
+-- the same of a command that needs no text of a name
+abbrev pub Runs : {X : Type 0} → CommandRequest → (CommandArguments → TreeSeen → Result X Error → Type 0) → TreeSeen
+    → SinkSeen → SinkSeen → Result X Error → Type 0
+Runs {X} given IsDone tree err out answer = RunsBy given (λ lists own. IsDone own) tree err out answer

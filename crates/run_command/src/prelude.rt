@@ -6,7 +6,7 @@ ghost use Rattle.graph_workspace.specs.declared.error.UnsupportedPart.{Unsupport
 ghost use Rattle.run_found.specs.Error.{cause_of};
 ghost use Rattle.run_found.specs.Hearing.{seen_between};
 ghost use Rattle.run_found.specs.own_names.Found.{FindsLists, found_answer};
-ghost use Rattle.run_found.specs.own_names.Given.{lists_asked, lists_given};
+ghost use Rattle.run_found.specs.own_names.Given.{lists_asked, lists_given, texts_given};
 ghost use Rattle.run_command.specs.Given.{CommandOptions, command_asked};
 ghost use Rattle.run_command.specs.Prelude.{ComesTo};
 
@@ -15,23 +15,24 @@ use graph_workspace::UnsupportedPart;
 use run_found::Error;
 use run_found::own_names::{ListsFound, lists_found};
 use run_request::Request;
-use spdx_core::{Catalog, Identifier};
+use spdx_core::{Catalog, Identifier, TextLookup};
 use std::alloc::Global;
 use tree_core::Tree;
 
 /// The catalogue and the identifier of a request: an organisation's own, where it names them, in place of those that
 /// are handed in.
-fn own_lists<'g, T: Tree, C: Catalog, I: Identifier>(
+fn own_lists<'g, T: Tree, C: Catalog, I: Identifier + TextLookup>(
     alloc: Global,
     tree: &mut T,
     request: &Request,
     catalog: &'g C,
     identifier: &'g I,
 ) -> Result<ListsFound<'g, C, I>, Error>
-    ensures found { FindsLists (lists_given (C.lists catalog.now) (I.match_of identifier.now))
+    ensures found { FindsLists
+        (lists_given (C.lists catalog.now) (texts_given (I.match_of identifier.now) (I.text_of identifier.now)))
         (lists_asked request.now.catalog request.now.store)
         (seen_between T.content T.fault_count T.trace tree.old tree.new)
-        (found_answer C.lists I.match_of result) }
+        (found_answer C.lists I.match_of I.text_of result) }
     ensures counts { IfErr result (λ error. ReadCounts (T.fault_count tree.old)
         (T.fault_count tree.old) (T.fault_count tree.new) (cause_of error)) }
 {
@@ -43,7 +44,7 @@ fn own_lists<'g, T: Tree, C: Catalog, I: Identifier>(
 /// What comes before a command: it is refused where a part of the request is not carried; the manifest is looked at;
 /// and then an organisation's own names and texts are read, where some are asked for. Those that the command goes by
 /// are answered.
-pub fn lists_of_request<'g, T: Tree, C: Catalog, I: Identifier>(
+pub fn lists_of_request<'g, T: Tree, C: Catalog, I: Identifier + TextLookup>(
     alloc: Global,
     tree: &mut T,
     request: &Request,
@@ -53,9 +54,9 @@ pub fn lists_of_request<'g, T: Tree, C: Catalog, I: Identifier>(
 ) -> Result<ListsFound<'g, C, I>, Error>
     // whatever else the command is given
     ensures comes { (options : CommandOptions) → options.unsupported ≡ unsupported → ComesTo
-        (command_asked (C.lists catalog.now) (I.match_of identifier.now) request.now options)
+        (command_asked (C.lists catalog.now) (I.match_of identifier.now) (I.text_of identifier.now) request.now options)
         (seen_between T.content T.fault_count T.trace tree.old tree.new)
-        (found_answer C.lists I.match_of result) }
+        (found_answer C.lists I.match_of I.text_of result) }
     ensures counts { IfErr result (λ error. ReadCounts
         (T.fault_count tree.old) (T.fault_count tree.old) (T.fault_count tree.new) (cause_of error)) }
 {

@@ -67,6 +67,20 @@ pub enum Error {
         /// Those of the others that are published nowhere, where these are left out.
         unpublished: usize,
     },
+    /// A crate is rejected, or has no licence, so there is no notice. The text is the id of the first such crate; the
+    /// licences were settled by these reads.
+    NotAccepted {
+        id: Text,
+        reads: CrateReads,
+    },
+    /// There is no text of a licence that a crate is used under. The texts are the id of the first such crate, and the
+    /// key of its first such term; behind the reads of the licences these were made for the crates' own texts.
+    NoText {
+        id: Text,
+        key: Text,
+        reads: CrateReads,
+        own: CrateReads,
+    },
     /// A verdict file was not read, once the licences were settled by these reads. The numbers of a failed read are
     /// the tree's counts of faults as that read began and behind it.
     RecordRead {
@@ -115,6 +129,8 @@ impl Error {
             Error::MetadataSyntax => "error: the metadata could not be parsed\n",
             Error::MetadataShape(_) => "error: the metadata has not the stated shape\n",
             Error::NoRoots { .. } => "error: no root crate is left\n",
+            Error::NotAccepted { .. } => "error: a crate is not accepted\n",
+            Error::NoText { .. } => "error: a license text is missing\n",
             Error::RecordRead { .. } => "error: the record could not be read\n",
             Error::RecordSyntax => "error: the record could not be parsed\n",
             Error::BillText(_) => "error: a crate name does not fit the bill\n",

@@ -18,7 +18,7 @@ use Rattle.run_request.specs.declared.read.CliAnswer.{CliAnswer}
 use Rattle.run_request.specs.declared.read.CliAnswer.TheVariants.{Asked, Shown, Usage}
 use Rattle.run_request.specs.declared.request.Request.{Request}
 use Rattle.run_request.specs.declared.request.Subcommand.{Subcommand}
-use Rattle.run_request.specs.declared.request.Subcommand.TheVariants.{Check, List as Listing, Sample, Record, Verify, Bill}
+use Rattle.run_request.specs.declared.request.Subcommand.TheVariants.{Check, List as Listing, Sample, Record, Verify, Bill, Notice}
 use Rattle.run_request.specs.Args.{check_args_of, list_args_of}
 use Rattle.run_request.specs.Bill.{bill_args_of}
 use Rattle.run_request.specs.Cli.{cli}
@@ -59,6 +59,9 @@ by_bill : (name : Text) (rows : List Row) (cwd : Text) (command : Subcommand) (r
 by_bill name rows cwd command (Ok args) is reads e = subst (IsCommandOf name rows cwd) (same_value e) (is, reads)
 by_bill name rows cwd command (Err error) is reads e = absurd (cc)
 
+by_notice : (name : Text) (rows : List Row) (cwd : Text) (command : Subcommand) → name ≡ codes "notice" → ◌≡◌ {A = Result Subcommand ArgsError} (Ok Notice) (Ok command) → IsCommandOf name rows cwd command
+by_notice name rows cwd command is e = subst (IsCommandOf name rows cwd) (same_value e) is
+
 by_sample : (name : Text) (rows : List Row) (cwd : Text) (command : Subcommand) (read : Result (Option SampleSize) ArgsError) → name ≡ codes "sample"
     → first_read sample_size_of (codes "N") rows ≡ read → and_then sample_of read ≡ Ok command → IsCommandOf name rows cwd command
 by_sample name rows cwd command (Ok (Some size)) is reads e = subst (IsCommandOf name rows cwd) (same_value e) (is, reads)
@@ -83,9 +86,10 @@ named (Some below) cwd command e =
     (by_test P (bytes_eq name (codes "verify")) _ _ (λ is. by_verify name rows cwd command (path_at cwd (codes "FILE") rows) ((bytes_eq-Decides name (codes "verify")).0 is) refl)
     (by_test P (bytes_eq name (codes "bill")) _ _
     (λ is. by_bill name rows cwd command (bill_args_of rows (path_at cwd (codes "against") rows)) ((bytes_eq-Decides name (codes "bill")).0 is) refl)
+    (by_test P (bytes_eq name (codes "notice")) _ _ (λ is. by_notice name rows cwd command ((bytes_eq-Decides name (codes "notice")).0 is))
     (by_test P (bytes_eq name (codes "sample")) _ _
     (λ is. by_sample name rows cwd command (first_read sample_size_of (codes "N") rows) ((bytes_eq-Decides name (codes "sample")).0 is) refl)
-    (λ none. absurd (cc))))))) e
+    (λ none. absurd (cc)))))))) e
 
 -- ---- the command of a request
 
@@ -158,6 +162,7 @@ command_sized name rows cwd (Listing args) is = tt
 command_sized name rows cwd Record is = tt
 command_sized name rows cwd (Verify path) is = tt
 command_sized name rows cwd (Bill args) is = tt
+command_sized name rows cwd Notice is = tt
 command_sized name rows cwd (Sample size) is = first_fits (first_of (codes "N") rows) size is.1
 
 sized_in : (below : Option (Text × List Row)) (cwd : Text) (command : Subcommand) → IsSomeAnd below (λ named. IsCommandOf named.0 named.1 cwd command) → IsSized command

@@ -9,7 +9,7 @@ use Rattle.run_request.specs.declared.bill.BillArgs.{BillArgs}
 use Rattle.run_request.specs.declared.error.ArgsError.{ArgsError}
 use Rattle.run_request.specs.declared.request.Request.{Request}
 use Rattle.run_request.specs.declared.request.Subcommand.{Subcommand}
-use Rattle.run_request.specs.declared.request.Subcommand.TheVariants.{Bill, Record}
+use Rattle.run_request.specs.declared.request.Subcommand.TheVariants.{Bill, Notice, Record}
 use Rattle.run_request.specs.declared.context.KrateContext.{KrateContext}
 use Rattle.diag_print.specs.declared.context.LogContext.{LogContext}
 use Rattle.deny_text.specs.Path.{join_of}
@@ -102,7 +102,8 @@ same_asked (Some below) one other =
     (same_if (bytes_eq below.0 (codes "list")) _ _ _ _ (same_as _)
     (same_if (bytes_eq below.0 (codes "record")) _ _ _ _ (same_as (Ok Record))
     (same_if (bytes_eq below.0 (codes "verify")) _ _ _ _ (same_file (first_of (codes "FILE") below.1) one other)
-    (same_if (bytes_eq below.0 (codes "bill")) _ _ _ _ (same_bill below.1 (first_of (codes "against") below.1) one other) (same_as _)))))
+    (same_if (bytes_eq below.0 (codes "bill")) _ _ _ _ (same_bill below.1 (first_of (codes "against") below.1) one other)
+    (same_if (bytes_eq below.0 (codes "notice")) _ _ _ _ (same_as (Ok Notice)) (same_as _))))))
 
 by_command : (rows : List Row) (log_ctx : LogContext) (one other : Text) (command further : Result Subcommand ArgsError) → SameAsked command further
     → option_map without_folder (result_ok (and_then (λ command. Ok (read_of rows log_ctx command one)) command))

@@ -119,12 +119,16 @@ verify_shape = subcommand_shape (codes "verify") verify_rules
 abbrev pub bill_shape : Shape
 bill_shape = subcommand_shape (codes "bill") bill_rules
 
+abbrev pub notice_shape : Shape
+notice_shape = subcommand_shape (codes "notice") []
+
 abbrev pub sample_shape : Shape
 sample_shape = subcommand_shape (codes "sample") sample_rules
 
 -- the subcommands, in the order in which help lists them
 abbrev pub subcommand_shapes : List Shape
-subcommand_shapes = check_shape ∷ list_shape ∷ record_shape ∷ verify_shape ∷ bill_shape ∷ sample_shape ∷ []
+subcommand_shapes =
+    check_shape ∷ list_shape ∷ record_shape ∷ verify_shape ∷ bill_shape ∷ notice_shape ∷ sample_shape ∷ []
 
 -- a command without subcommands
 abbrev pub app_of_shape : Shape → App

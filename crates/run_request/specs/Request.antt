@@ -17,7 +17,7 @@ use Rattle.run_request.specs.declared.context.KrateContext.{KrateContext}
 use Rattle.run_request.specs.declared.request.Request.{Request}
 use Rattle.run_request.specs.declared.request.Subcommand.{Subcommand}
 use Rattle.run_request.specs.declared.request.Subcommand.TheVariants.{Check, List as Listing, Sample, Record, Verify}
-use Rattle.run_request.specs.declared.request.Subcommand.TheVariants.{Bill}
+use Rattle.run_request.specs.declared.request.Subcommand.TheVariants.{Bill, Notice}
 use Rattle.run_request.specs.declared.number.SampleSize.{SampleSize}
 use Rattle.run_request.specs.Named.{named_in}
 use Rattle.run_request.specs.Names.{filter_names, format_names, color_names}
@@ -85,6 +85,7 @@ subcommand_named name rows cwd =
     else if bytes_eq name (codes "record") then Ok Record
     else if bytes_eq name (codes "verify") then verify_of (path_at cwd (codes "FILE") rows)
     else if bytes_eq name (codes "bill") then bill_of rows (path_at cwd (codes "against") rows)
+    else if bytes_eq name (codes "notice") then Ok Notice
     else if bytes_eq name (codes "sample") then and_then sample_of (first_read sample_size_of (codes "N") rows)
     else Err (BadValue (codes "COMMAND") name)
 
@@ -101,6 +102,7 @@ IsCommandOf name rows cwd Record = name ≡ codes "record"
 IsCommandOf name rows cwd (Verify path) = (name ≡ codes "verify") × (path_at cwd (codes "FILE") rows ≡ Some path)
 IsCommandOf name rows cwd (Bill args) =
     (name ≡ codes "bill") × (bill_args_of rows (path_at cwd (codes "against") rows) ≡ Ok args)
+IsCommandOf name rows cwd Notice = name ≡ codes "notice"
 IsCommandOf name rows cwd (Sample size) =
     (name ≡ codes "sample") × (first_read sample_size_of (codes "N") rows ≡ Ok (Some (record { 0 = size })))
 

@@ -281,7 +281,7 @@ static MAIN: [OptionRow; 19] = [
     ),
 ];
 
-static SUBCOMMANDS: [SubcommandRow; 6] = [
+static SUBCOMMANDS: [SubcommandRow; 7] = [
     SubcommandRow {
         name: "check",
         about: "Checks a project's crates",
@@ -429,6 +429,11 @@ static SUBCOMMANDS: [SubcommandRow; 6] = [
                 "A bill: writes whether anything but the moment has changed, and no bill"
             ),
         ],
+    },
+    SubcommandRow {
+        name: "notice",
+        about: "Writes which licence each accepted crate is used under, and each licence text once, to standard output",
+        rows: &[],
     },
     SubcommandRow {
         name: "sample",

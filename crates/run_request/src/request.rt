@@ -32,6 +32,8 @@ pub enum Subcommand {
     Verify(PathBuf),
     /// A bill of the crates is to be written, or compared with one.
     Bill(BillArgs),
+    /// The licences that the crates are used under are to be written, with their texts.
+    Notice,
 }
 
 /// What the words of a command line ask for.
@@ -102,6 +104,8 @@ fn subcommand_named(
     } else if name == "bill" {
         let against = path_at(alloc, below, "against", cwd)?;
         bill_of(alloc, below, against)
+    } else if name == "notice" {
+        Ok(Subcommand::Notice)
     } else if name == "sample" {
         let size: Option<SampleSize> = read_first(alloc, below, "N")?;
         sample_of(alloc, size)

@@ -12,7 +12,7 @@ mod stack;
 pub use expression::Expression;
 pub use node::ExprNode;
 pub use spdx_terms::catalog::{
-    Catalog, Identifier, Imprecise, LicenseEntry, LicenseStore, Match, Table,
+    Catalog, Identifier, Imprecise, LicenseEntry, LicenseStore, Match, Table, TextLookup,
 };
 pub use spdx_terms::{
     ExprError, ExpressionReq, Family, LicenseItem, LicenseReq, Licensee, ParseError, ParseMode,

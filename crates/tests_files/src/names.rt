@@ -1,9 +1,9 @@
 //! An identifier of texts that are the name of a licence.
-ghost use Rattle.std.specs.Prelude.{◌≡◌, option_copied};
+ghost use Rattle.std.specs.Prelude.{◌≡◌, None, option_copied};
 ghost use Rattle.tests_files.specs.Said.{is_within, match_with, name_in, score_in};
 
 use deny_text::Text;
-use spdx_terms::catalog::{Identifier, Match};
+use spdx_terms::catalog::{Identifier, Match, TextLookup};
 use std::alloc::{AllocError, Global};
 
 /// Says of a text of one line, which is the name of a licence, that it is that one, at 80 or at the score
@@ -71,5 +71,14 @@ impl Identifier for NameIdentifier {
                 score: 0,
             }),
         }
+    }
+}
+
+/// It keeps no text.
+impl TextLookup for NameIdentifier {
+    ghost text_of = { λ _ _. None };
+
+    fn text(&self, _name: &str) -> Option<&str> {
+        None
     }
 }

@@ -1,9 +1,9 @@
 //! What tells licences from texts in a case.
 ghost use Rattle.std.specs.Prelude.{◌≡◌, Some, IfOk};
-ghost use Rattle.tests_runner.specs.Said.{match_of_text, is_within};
+ghost use Rattle.tests_runner.specs.Said.{is_within, kept_text, match_of_text};
 
 use deny_text::Text;
-use spdx_terms::catalog::{Identifier, LicenseStore, Match};
+use spdx_terms::catalog::{Identifier, LicenseStore, Match, TextLookup};
 use std::alloc::{AllocError, Global};
 use tests_files::NameIdentifier;
 use tests_files::told::UnreadLine;
@@ -39,6 +39,18 @@ impl Identifier for CaseIdentifier {
             CaseIdentifier::Stored(store) => store.scan(alloc, text),
             CaseIdentifier::Named => NameIdentifier.scan(alloc, text),
             CaseIdentifier::Mit(score) => match_of(alloc, "MIT", (*score).min(100)),
+        }
+    }
+}
+
+/// The texts of its store; those that name licences keep none.
+impl TextLookup for CaseIdentifier {
+    ghost text_of = { kept_text };
+
+    fn text(&self, name: &str) -> Option<&str> {
+        match self {
+            CaseIdentifier::Stored(store) => store.text(name),
+            CaseIdentifier::Named | CaseIdentifier::Mit(_) => None,
         }
     }
 }

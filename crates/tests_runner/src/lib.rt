@@ -15,7 +15,7 @@ pub use lines::put_run;
 /// Files of cases: of the first path and failures, of what words ask for and how they are refused, of metadata, of
 /// policies, of what is found, of what is read of each crate, of the calls of the tree, of licence families, of
 /// listings, of the sample, of own catalogues and texts, of verdict files, of policies by their version, of
-/// clarifications of the exceptions file, and of bills.
+/// clarifications of the exceptions file, of bills, and of notices.
 const FILES: [&str; 16] = [
     "run/gate.txt",
     "run/command.txt",
@@ -33,6 +33,7 @@ const FILES: [&str; 16] = [
     "run/versions.txt",
     "run/overlays.txt",
     "run/bills.txt",
+    "run/notices.txt",
 ];
 
 /// Files of cases of input that is bad, long or deep, and of runs in which calls fail.

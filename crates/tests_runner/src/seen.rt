@@ -125,6 +125,8 @@ fn put_error(out: &mut AnswerText, error: &Error) {
             excluded,
             unpublished,
         } => write!(out, "no roots: {base} {excluded} {unpublished}"),
+        Error::NotAccepted { id, .. } => write!(out, "not accepted: {id}"),
+        Error::NoText { id, key, .. } => write!(out, "no text: {id} {key}"),
         Error::RecordRead { fault, .. } => write!(out, "record: {fault:?}"),
         Error::RecordSyntax => out.put("record syntax"),
         Error::BillText(id) => write!(out, "bill text: {id}"),
@@ -377,6 +379,7 @@ fn put_unreported(out: &mut AnswerText, ended: &RunEnd, key: &str, err: &str) {
         } else {
             "bill changed"
         }),
+        RunEnd::Noticed(_) => out.put("noticed"),
     }
 }
 

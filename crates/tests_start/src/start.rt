@@ -46,6 +46,7 @@ fn put_ended(out: &mut AnswerText, ended_at: &Result<Outcome, StartError>) {
             RunEnd::Recorded(_) => out.put("recorded"),
             RunEnd::Verified(_) => out.put("verified"),
             RunEnd::Billed(_) => out.put("billed"),
+            RunEnd::Noticed(_) => out.put("noticed"),
             RunEnd::Shown => out.put("shown"),
             RunEnd::Usage => out.put("usage"),
             RunEnd::Refused(_) => out.put("refused"),

@@ -130,6 +130,7 @@ fn put_request(out: &mut AnswerText, request: &Request) {
             );
             put_path(out, "against", &args.against);
         }
+        Subcommand::Notice => out.put(" notice"),
     }
 }
 

@@ -8,12 +8,11 @@ use Rattle.tree_core.specs.Trace.{faults_after}
 use Rattle.tree_core.proofs.MadeLemmas.{made_as, made_joined, made_these}
 use Rattle.tree_core.specs.texts.Cause.{Cause, ReadCounts, no_memory, told, failed_read, refused_write}
 use Rattle.spdx_terms.specs.catalog.Catalog.{CatalogLists}
-use Rattle.spdx_terms.specs.declared.catalog.identifier.Match.{Match}
 use Rattle.run_found.specs.declared.error.Error.{Error}
 use Rattle.run_found.specs.Error.{cause_of}
 use Rattle.run_found.specs.Hearing.{read_calls, tree_seen}
 use Rattle.run_found.specs.own_names.Found.{AnswersBy, AnswersHeard, FindsLists, HasCatalog, HasTexts}
-use Rattle.run_found.specs.own_names.Given.{ListsAsked, ListsGiven, lists_asked}
+use Rattle.run_found.specs.own_names.Given.{ListsAsked, ListsGiven, TextsGiven, lists_asked}
 use Rattle.run_found.specs.own_names.Heard.{ListsHearing, catalog_by, due_behind, given_behind, given_by, lists_calls, lists_heard, store_calls, store_due, texts_by, texts_heard, with_texts}
 
 -- a catalogue that was found took no failed call
@@ -34,17 +33,17 @@ no_store_calls (Some path) = refl
 
 -- ---- what is answered
 
-behind_by : (lists : CatalogLists) (heard : Option (Result (List ℕ → Match) Error)) (error : Error) (cause : Cause) → AnswersBy cause heard error → AnswersBy cause (given_behind lists heard) error
+behind_by : (lists : CatalogLists) (heard : Option (Result TextsGiven Error)) (error : Error) (cause : Cause) → AnswersBy cause heard error → AnswersBy cause (given_behind lists heard) error
 behind_by lists heard error no_memory is = tt
 behind_by lists heard error told is = ap (given_behind lists) is
 behind_by lists heard error (failed_read first last) is = ap (given_behind lists) is
 behind_by lists heard error (refused_write first last) is = ap (given_behind lists) is
 
-behind_catalog : (lists : CatalogLists) (heard : Option (Result (List ℕ → Match) Error)) (answer : Result (List ℕ → Match) Error) → AnswersHeard heard answer → AnswersHeard (given_behind lists heard) (with_texts lists answer)
-behind_catalog lists heard (Ok match_of) is = ap (given_behind lists) is
+behind_catalog : (lists : CatalogLists) (heard : Option (Result TextsGiven Error)) (answer : Result TextsGiven Error) → AnswersHeard heard answer → AnswersHeard (given_behind lists heard) (with_texts lists answer)
+behind_catalog lists heard (Ok texts) is = ap (given_behind lists) is
 behind_catalog lists heard (Err error) is = behind_by lists heard error (cause_of error) is
 
-without_by : (heard : Option (Result CatalogLists Error)) (texts : Option (Result (List ℕ → Match) Error)) (error : Error) (cause : Cause) → AnswersBy cause heard error → AnswersBy cause (given_by heard texts) error
+without_by : (heard : Option (Result CatalogLists Error)) (texts : Option (Result TextsGiven Error)) (error : Error) (cause : Cause) → AnswersBy cause heard error → AnswersBy cause (given_by heard texts) error
 without_by heard texts error no_memory is = tt
 without_by heard texts error told is = ap (λ read. given_by read texts) is
 without_by heard texts error (failed_read first last) is = ap (λ read. given_by read texts) is
@@ -83,7 +82,7 @@ module _ (given : ListsGiven) (path folder : Option (List ℕ)) where
       pub counts_behind : (after : ℕ) (cause : Cause) → ReadCounts middle middle after cause → ReadCounts begun begun after cause
       counts_behind after cause counts = subst (λ count. ReadCounts count count after cause) no_fault_yet counts
 
-      pub found : {tells : Option Content} {after : ℕ} {new : List Call} (answer : Result (List ℕ → Match) Error) → HasTexts given.match_of folder middle after between new answer → MadeSome mid tells middle after between new
+      pub found : {tells : Option Content} {after : ℕ} {new : List Call} (answer : Result TextsGiven Error) → HasTexts given.texts folder middle after between new answer → MadeSome mid tells middle after between new
           → FindsLists given (lists_asked path folder) (tree_seen told tells begun after old new) (with_texts lists answer)
       found {tells} {after} {new} answer texts more =
           let hearing : ListsHearing = record { begun = begun; catalog = had.read; listing = texts.listing; texts = texts.reads } in
@@ -92,8 +91,8 @@ module _ (given : ListsGiven) (path folder : Option (List ℕ)) where
           let all : Made told tells begun after old new (lists_calls given asked hearing) =
           made_as (ap (λ (own : Option (List ℕ)). read_calls path had.read ++ store_calls own texts.listing texts.reads) (sym due)) (made_joined had_made (made_these more texts.made)) in
           let says : AnswersHeard (texts_heard given asked hearing) answer =
-          subst (λ (count : ℕ). AnswersHeard (texts_by given.match_of folder count (faults_after begun (lists_calls given asked hearing)) texts.listing texts.reads) answer) had_made.counts
-          (subst (λ (count : ℕ). AnswersHeard (texts_by given.match_of folder middle count texts.listing texts.reads) answer) all.counts texts.answers) in record {
+          subst (λ (count : ℕ). AnswersHeard (texts_by given.texts folder count (faults_after begun (lists_calls given asked hearing)) texts.listing texts.reads) answer) had_made.counts
+          (subst (λ (count : ℕ). AnswersHeard (texts_by given.texts folder middle count texts.listing texts.reads) answer) all.counts texts.answers) in record {
             hearing = hearing;
             begun = refl;
             made = all;

@@ -8,8 +8,6 @@ use Rattle.tree_core.specs.declared.tree.TreeError.TheVariants as tree
 use Rattle.tree_core.specs.texts.Heard.{read_of}
 use Rattle.tree_core.specs.declared.texts.fault.ReadFault.TheVariants.{Absent, Failed, Folder}
 use Rattle.spdx_terms.specs.catalog.Catalog.{CatalogLists}
-use Rattle.spdx_terms.specs.catalog.Store.{match_of}
-use Rattle.spdx_terms.specs.declared.catalog.identifier.Match.{Match}
 use Rattle.spdx_terms.specs.declared.catalog.store.StoreText.{StoreText}
 use Rattle.spdx_own_names.specs.Folder.{AnswersStore, IsStoreRead, StoreHeard, store_answered}
 use Rattle.spdx_own_names.specs.declared.error.StoreError.{StoreError}
@@ -19,6 +17,7 @@ use Rattle.run_found.specs.declared.error.Error.{Error}
 use Rattle.run_found.specs.declared.error.Error.TheVariants.{CatalogRead, Memory}
 use Rattle.run_found.specs.Error.{error_of_store}
 use Rattle.run_found.specs.own_names.Found.{AnswersHeard, HasCatalog, HasTexts}
+use Rattle.run_found.specs.own_names.Given.{TextsGiven, store_given}
 use Rattle.run_found.specs.own_names.Heard.{catalog_answered, catalog_in, texts_told}
 
 -- ---- a catalogue's file
@@ -59,12 +58,12 @@ refused_as heard (stored.Fault store.NotFolder) is = ap texts_told is
 refused_as heard (stored.Fault (store.NotUtf8 name)) is = ap texts_told is
 refused_as heard stored.Memory is = tt
 
-module _ {begun after : ℕ} {old new : List Call} (given : List ℕ → Match) (asked : Option (List ℕ)) (path own : List ℕ) (is : asked ≡ Some path) (same : own ≡ path) where
-  there : (answer : Result (List ℕ → Match) Error) → HasTexts given (Some own) begun after old new answer → HasTexts given asked begun after old new answer
+module _ {begun after : ℕ} {old new : List Call} (given : TextsGiven) (asked : Option (List ℕ)) (path own : List ℕ) (is : asked ≡ Some path) (same : own ≡ path) where
+  there : (answer : Result TextsGiven Error) → HasTexts given (Some own) begun after old new answer → HasTexts given asked begun after old new answer
   there answer had = subst (λ (those : Option (List ℕ)). HasTexts given those begun after old new answer) (ap (λ (there : List ℕ). Some there) same ∙ sym is) had
 
-  pub texts_had : (texts : List StoreText) → IsStoreRead begun after old new own (Ok texts) → HasTexts given asked begun after old new (Ok (match_of texts))
-  texts_had texts read = there (Ok (match_of texts)) (record { listing = Some read.listing; reads = read.reads; made = read.made; answers = ap texts_told read.answers })
+  pub texts_had : (texts : List StoreText) → IsStoreRead begun after old new own (Ok texts) → HasTexts given asked begun after old new (Ok (store_given texts))
+  texts_had texts read = there (Ok (store_given texts)) (record { listing = Some read.listing; reads = read.reads; made = read.made; answers = ap texts_told read.answers })
 
   pub texts_refused : (refused : StoreError) (error : Error) → IsStoreRead begun after old new own (Err refused) → error ≡ error_of_store refused → HasTexts given asked begun after old new (Err error)
   texts_refused refused error read same_error =

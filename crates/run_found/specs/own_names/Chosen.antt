@@ -1,7 +1,7 @@
 -- The catalogue and the licence texts of a run: those that were handed in, or its own.
-use Rattle.std.specs.Prelude.{◌≤◌, ℕ, List}
+use Rattle.std.specs.Prelude.{◌≤◌, ℕ, List, Option}
 use Rattle.spdx_terms.specs.catalog.Catalog.{CatalogLists, IsCatalog}
-use Rattle.spdx_terms.specs.catalog.Store.{match_of, score_within, stored_for}
+use Rattle.spdx_terms.specs.catalog.Store.{match_of, score_within, stored_for, text_of_store}
 use Rattle.spdx_terms.specs.declared.catalog.identifier.Match.{Match}
 use Rattle.spdx_own_names.specs.Listed.{lists_in}
 use Rattle.run_found.specs.declared.own_names.lists.ChosenCatalog.{ChosenCatalog}
@@ -23,6 +23,11 @@ lists_are_catalog given lawful (lists.Own listing) = listing.is_catalog
 abbrev pub texts_chosen : {I : Type 0} → (I → List ℕ → Match) → ChosenIdentifier I → List ℕ → Match
 texts_chosen given (texts.Given identifier) = given identifier.now
 texts_chosen given (texts.Own store) = match_of store
+
+-- the text that is kept under a name
+abbrev pub kept_chosen : {I : Type 0} → (I → List ℕ → Option (List ℕ)) → ChosenIdentifier I → List ℕ → Option (List ℕ)
+kept_chosen given (texts.Given identifier) = given identifier.now
+kept_chosen given (texts.Own store) = text_of_store store
 
 pub texts_within : {I : Type 0} (given : I → List ℕ → Match)
     → ((identifier : I) (text : List ℕ) → (given identifier text).score ≤ 100)

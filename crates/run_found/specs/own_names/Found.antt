@@ -12,8 +12,8 @@ use Rattle.run_found.specs.Hearing.{MadeOn, TreeSeen, read_calls}
 use Rattle.run_found.specs.declared.own_names.found.ListsFound.{ListsFound}
 use Rattle.run_found.specs.declared.own_names.lists.ChosenCatalog.{ChosenCatalog}
 use Rattle.run_found.specs.declared.own_names.texts.ChosenIdentifier.{ChosenIdentifier}
-use Rattle.run_found.specs.own_names.Chosen.{lists_chosen, texts_chosen}
-use Rattle.run_found.specs.own_names.Given.{ListsAsked, ListsGiven, lists_given}
+use Rattle.run_found.specs.own_names.Chosen.{kept_chosen, lists_chosen, texts_chosen}
+use Rattle.run_found.specs.own_names.Given.{ListsAsked, ListsGiven, TextsGiven, lists_given, texts_given}
 use Rattle.run_found.specs.own_names.Heard.{ListsHearing, catalog_by, given_heard, lists_calls, store_calls, texts_by}
 
 -- want of memory may come in the place of any answer
@@ -43,8 +43,8 @@ pub record HasCatalog (given : CatalogLists) (path : Option (List ℕ)) (begun a
   pub made : new ≡ old ++ read_calls path read
   pub answers : AnswersHeard (catalog_by given path begun after read) answer
 
-pub record HasTexts (given : List ℕ → Match) (path : Option (List ℕ)) (begun after : ℕ) (old new : List Call)
-    (answer : Result (List ℕ → Match) Error) : Type 0 where
+pub record HasTexts (given : TextsGiven) (path : Option (List ℕ)) (begun after : ℕ) (old new : List Call)
+    (answer : Result TextsGiven Error) : Type 0 where
   pub listing : Option CallAnswer
   pub reads : List CallAnswer
   pub made : new ≡ old ++ store_calls path listing reads
@@ -60,13 +60,18 @@ abbrev pub lists_answer : {C : Type 0} → (C → CatalogLists) → Result (Chos
 lists_answer lists (Ok chosen) = Ok (lists_chosen lists chosen)
 lists_answer lists (Err error) = Err error
 
-abbrev pub texts_answer : {I : Type 0} → (I → List ℕ → Match) → Result (ChosenIdentifier I) Error
-    → Result (List ℕ → Match) Error
-texts_answer match_of (Ok chosen) = Ok (texts_chosen match_of chosen)
-texts_answer match_of (Err error) = Err error
+-- the texts of an identifier, by what is said of a text and what is kept under a name
+abbrev pub chosen_given : {I : Type 0} → (I → List ℕ → Match) → (I → List ℕ → Option (List ℕ)) → ChosenIdentifier I
+    → TextsGiven
+chosen_given match_of text_of chosen = texts_given (texts_chosen match_of chosen) (kept_chosen text_of chosen)
 
-abbrev pub found_answer : {C I : Type 0} → (C → CatalogLists) → (I → List ℕ → Match) → Result (ListsFound C I) Error
-    → Result ListsGiven Error
-found_answer lists match_of (Ok found) =
-    Ok (lists_given (lists_chosen lists found.catalog) (texts_chosen match_of found.identifier))
-found_answer lists match_of (Err error) = Err error
+abbrev pub texts_answer : {I : Type 0} → (I → List ℕ → Match) → (I → List ℕ → Option (List ℕ))
+    → Result (ChosenIdentifier I) Error → Result TextsGiven Error
+texts_answer match_of text_of (Ok chosen) = Ok (chosen_given match_of text_of chosen)
+texts_answer match_of text_of (Err error) = Err error
+
+abbrev pub found_answer : {C I : Type 0} → (C → CatalogLists) → (I → List ℕ → Match)
+    → (I → List ℕ → Option (List ℕ)) → Result (ListsFound C I) Error → Result ListsGiven Error
+found_answer lists match_of text_of (Ok found) =
+    Ok (lists_given (lists_chosen lists found.catalog) (chosen_given match_of text_of found.identifier))
+found_answer lists match_of text_of (Err error) = Err error

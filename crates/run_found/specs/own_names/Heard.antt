@@ -6,14 +6,12 @@ use Rattle.tree_core.specs.Call.{CallAnswer, Call}
 use Rattle.tree_core.specs.Trace.{faults_after}
 use Rattle.tree_core.specs.declared.texts.fault.ReadFault.TheVariants.{Absent, Failed, Folder}
 use Rattle.spdx_terms.specs.catalog.Catalog.{CatalogLists}
-use Rattle.spdx_terms.specs.catalog.Store.{match_of}
-use Rattle.spdx_terms.specs.declared.catalog.identifier.Match.{Match}
 use Rattle.spdx_own_names.specs.File.{first_fault, lines_of, lists_of}
 use Rattle.spdx_own_names.specs.Folder.{StoreHeard, list_of, reads_of, store_answered, texts_due}
 use Rattle.run_found.specs.declared.error.Error.{Error}
 use Rattle.run_found.specs.declared.error.Error.TheVariants.{CatalogRead, CatalogSyntax, StoreRead}
 use Rattle.run_found.specs.Hearing.{read_calls}
-use Rattle.run_found.specs.own_names.Given.{ListsAsked, ListsGiven, lists_given}
+use Rattle.run_found.specs.own_names.Given.{ListsAsked, ListsGiven, TextsGiven, lists_given, store_given}
 
 -- The tree's count of faults before the first of the calls, and what they were answered: the read of a catalogue's
 -- file, and the listing of a folder with the reads of its texts, each where it was made.
@@ -54,19 +52,19 @@ catalog_by given (Some path) begun after answer = catalog_read begun after answe
 
 -- ---- the texts
 
--- texts of a folder as an identifier, or why there are none
-abbrev pub texts_told : Option StoreHeard → Option (Result (List ℕ → Match) Error)
+-- the texts of a folder, or why there are none
+abbrev pub texts_told : Option StoreHeard → Option (Result TextsGiven Error)
 texts_told None = None
-texts_told (Some (Ok texts)) = Some (Ok (match_of texts))
+texts_told (Some (Ok texts)) = Some (Ok (store_given texts))
 texts_told (Some (Err fault)) = Some (Err (StoreRead fault))
 
-abbrev pub texts_read : ℕ → ℕ → Option CallAnswer → List CallAnswer → Option (Result (List ℕ → Match) Error)
+abbrev pub texts_read : ℕ → ℕ → Option CallAnswer → List CallAnswer → Option (Result TextsGiven Error)
 texts_read begun after None reads = None
 texts_read begun after (Some answer) reads = texts_told (store_answered begun after answer reads)
 
--- what the texts of a folder say; where there is none, what is given
-abbrev pub texts_by : (List ℕ → Match) → Option (List ℕ) → ℕ → ℕ → Option CallAnswer → List CallAnswer
-    → Option (Result (List ℕ → Match) Error)
+-- the texts of a folder; where there is none, those that are given
+abbrev pub texts_by : TextsGiven → Option (List ℕ) → ℕ → ℕ → Option CallAnswer → List CallAnswer
+    → Option (Result TextsGiven Error)
 texts_by given None begun after listing reads = Some (Ok given)
 texts_by given (Some path) begun after listing reads = texts_read begun after listing reads
 
@@ -101,20 +99,20 @@ lists_calls given asked hearing =
     read_calls asked.catalog hearing.catalog
     ++ store_calls (store_due given asked hearing) hearing.listing hearing.texts
 
-abbrev pub texts_heard : ListsGiven → ListsAsked → ListsHearing → Option (Result (List ℕ → Match) Error)
+abbrev pub texts_heard : ListsGiven → ListsAsked → ListsHearing → Option (Result TextsGiven Error)
 texts_heard given asked hearing =
-    texts_by given.match_of asked.store (count_catalog asked hearing)
+    texts_by given.texts asked.store (count_catalog asked hearing)
     (faults_after hearing.begun (lists_calls given asked hearing)) hearing.listing hearing.texts
 
-abbrev pub with_texts : CatalogLists → Result (List ℕ → Match) Error → Result ListsGiven Error
-with_texts lists (Ok match_of) = Ok (lists_given lists match_of)
+abbrev pub with_texts : CatalogLists → Result TextsGiven Error → Result ListsGiven Error
+with_texts lists (Ok texts) = Ok (lists_given lists texts)
 with_texts lists (Err error) = Err error
 
-abbrev pub given_behind : CatalogLists → Option (Result (List ℕ → Match) Error) → Option (Result ListsGiven Error)
+abbrev pub given_behind : CatalogLists → Option (Result TextsGiven Error) → Option (Result ListsGiven Error)
 given_behind lists None = None
 given_behind lists (Some texts) = Some (with_texts lists texts)
 
-abbrev pub given_by : Option (Result CatalogLists Error) → Option (Result (List ℕ → Match) Error)
+abbrev pub given_by : Option (Result CatalogLists Error) → Option (Result TextsGiven Error)
     → Option (Result ListsGiven Error)
 given_by None texts = None
 given_by (Some (Ok lists)) texts = given_behind lists texts

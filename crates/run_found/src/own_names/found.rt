@@ -6,7 +6,7 @@ ghost use Rattle.tree_core.specs.texts.Cause.{ReadCounts};
 ghost use Rattle.run_found.specs.Error.{cause_of};
 ghost use Rattle.run_found.specs.own_names.Found.{AnswersHeard, FindsLists, HasCatalog, HasTexts};
 ghost use Rattle.run_found.specs.own_names.Found.{found_answer, listing_answer, lists_answer, texts_answer};
-ghost use Rattle.run_found.specs.own_names.Given.{lists_asked, lists_given};
+ghost use Rattle.run_found.specs.own_names.Given.{lists_asked, lists_given, texts_given};
 ghost use Rattle.run_found.specs.own_names.Heard.{catalog_in};
 ghost use Rattle.spdx_terms.specs.catalog.Catalog.{CatalogLists};
 ghost use Rattle.run_found.specs.Hearing.{seen_between, HasMade};
@@ -16,7 +16,7 @@ use crate::own_names::lists::ChosenCatalog;
 use crate::own_names::texts::ChosenIdentifier;
 use deny_text::{Bytes, PathBuf};
 use spdx_own_names::{FileCatalog, read_catalog, read_store};
-use spdx_terms::catalog::{Catalog, Identifier};
+use spdx_terms::catalog::{Catalog, Identifier, TextLookup};
 use std::alloc::Global;
 use tree_core::texts::ReadFault;
 use tree_core::{Tree, TreeError};
@@ -86,15 +86,16 @@ fn lists_at<'c, T: Tree, C: Catalog>(
 
 /// The identifier of a run: the one over the texts of a folder where a path is given, else the one that was
 /// handed in.
-fn texts_at<'i, T: Tree, I: Identifier>(
+fn texts_at<'i, T: Tree, I: Identifier + TextLookup>(
     alloc: Global,
     tree: &mut T,
     path: Option<&PathBuf>,
     identifier: &'i I,
 ) -> Result<ChosenIdentifier<'i, I>, Error>
-    ensures read { HasTexts (I.match_of identifier.now) (option_copied path.entry)
+    ensures read { HasTexts (texts_given (I.match_of identifier.now) (I.text_of identifier.now))
+        (option_copied path.entry)
         (T.fault_count tree.old) (T.fault_count tree.new) (T.trace tree.old) (T.trace tree.new)
-        (texts_answer I.match_of result) }
+        (texts_answer I.match_of I.text_of result) }
     ensures made { HasMade (seen_between T.content T.fault_count T.trace tree.old tree.new) }
     ensures counts { IfErr result (λ error. ReadCounts (T.fault_count tree.old)
         (T.fault_count tree.old) (T.fault_count tree.new) (cause_of error)) }
@@ -113,7 +114,7 @@ fn texts_at<'i, T: Tree, I: Identifier>(
 ///
 /// It is refused where the file is not read or has a fault, where the folder or one of its texts is not read,
 /// and for want of memory; a failed call carries the tree's counts of faults when this call began and behind it.
-pub fn lists_found<'g, T: Tree, C: Catalog, I: Identifier>(
+pub fn lists_found<'g, T: Tree, C: Catalog, I: Identifier + TextLookup>(
     alloc: Global,
     tree: &mut T,
     catalog_path: Option<&PathBuf>,
@@ -123,10 +124,11 @@ pub fn lists_found<'g, T: Tree, C: Catalog, I: Identifier>(
 ) -> Result<ListsFound<'g, C, I>, Error>
     // By what was read: the calls that were due were made, and no other; each refusal is the first one, by
     // its cause.
-    ensures found { FindsLists (lists_given (C.lists catalog.now) (I.match_of identifier.now))
+    ensures found { FindsLists
+        (lists_given (C.lists catalog.now) (texts_given (I.match_of identifier.now) (I.text_of identifier.now)))
         (lists_asked (option_copied catalog_path.entry) (option_copied store_path.entry))
         (seen_between T.content T.fault_count T.trace tree.old tree.new)
-        (found_answer C.lists I.match_of result) }
+        (found_answer C.lists I.match_of I.text_of result) }
     ensures made { HasMade (seen_between T.content T.fault_count T.trace tree.old tree.new) }
     ensures counts { IfErr result (λ error. ReadCounts (T.fault_count tree.old)
         (T.fault_count tree.old) (T.fault_count tree.new) (cause_of error)) }

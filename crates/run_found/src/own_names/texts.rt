@@ -1,8 +1,8 @@
 //! The licence texts of a run.
 //! Made by `texts_at` of found, handed on by deny_run; a text may be scanned twice, no clause counts scans.
-ghost use Rattle.run_found.specs.own_names.Chosen.{texts_chosen, texts_within};
+ghost use Rattle.run_found.specs.own_names.Chosen.{kept_chosen, texts_chosen, texts_within};
 
-use spdx_terms::catalog::{Identifier, LicenseStore, Match};
+use spdx_terms::catalog::{Identifier, LicenseStore, Match, TextLookup};
 use std::alloc::{AllocError, Global};
 
 /// The identifier that was handed in, or the one over the texts of a folder.
@@ -21,6 +21,17 @@ impl<'i, I: Identifier> Identifier for ChosenIdentifier<'i, I> {
         match self {
             ChosenIdentifier::Given(identifier) => identifier.scan(alloc, text),
             ChosenIdentifier::Own(store) => store.scan(alloc, text),
+        }
+    }
+}
+
+impl<'i, I: TextLookup> TextLookup for ChosenIdentifier<'i, I> {
+    ghost text_of = { kept_chosen I.text_of };
+
+    fn text(&self, name: &str) -> Option<&str> {
+        match self {
+            ChosenIdentifier::Given(identifier) => identifier.text(name),
+            ChosenIdentifier::Own(store) => store.text(name),
         }
     }
 }

@@ -10,8 +10,8 @@ use Rattle.std.specs.Str.{bytes_eq}
 use Rattle.std.specs.List.{position_or_len}
 use Rattle.spdx_terms.specs.declared.catalog.store.StoreText.{StoreText}
 use Rattle.spdx_terms.specs.catalog.TextWords.{words_of, words_with_spaces}
-use Rattle.spdx_terms.specs.catalog.Store.{same_words, stored_for}
-use Rattle.spdx_terms.specs.catalog.StorePlaces.{all_spelled}
+use Rattle.spdx_terms.specs.catalog.Store.{named_for, same_words, stored_for}
+use Rattle.spdx_terms.specs.catalog.StorePlaces.{all_named, all_spelled}
 use Rattle.spdx_terms.proofs.catalog.SpelledLemmas.{AllSpaceless, same_spelled, words_spaceless}
 
 -- a place among what is made of the items is a place among the items
@@ -51,6 +51,17 @@ none_stored texts text words is none =
 -- no text is behind the last one
 pub none_behind : (texts : List StoreText) (n : ℕ) → n ≡ length (all_spelled texts) → slice_get texts n ≡ None
 none_behind texts n is = slice_get_past texts n (omega (arith, is, length-map texts (λ (stored : StoreText). words_with_spaces (words_of stored.body))))
+
+-- the text at the place of a name is the first of that name
+pub named_at : (texts : List StoreText) (name : List ℕ) → named_for texts name ≡ slice_get texts (position_or_len (λ known. bytes_eq known name) (all_named texts))
+named_at texts name =
+    let test = λ (stored : StoreText). bytes_eq stored.name name in
+    find_at test texts
+    ∙ ap (λ n. slice_get texts n) (position-map (λ (stored : StoreText). stored.name) test (λ known. bytes_eq known name) (λ stored. refl) texts)
+
+-- no text is behind the last name
+pub no_name_behind : (texts : List StoreText) (n : ℕ) → n ≡ length (all_named texts) → slice_get texts n ≡ None
+no_name_behind texts n is = slice_get_past texts n (omega (arith, is, length-map texts (λ (stored : StoreText). stored.name)))
 
 -- what is at a place
 pub item_at : (texts : List StoreText) (i : ℕ) (r : Option (Bor StoreText)) → IsItemAt texts i r → option_copied r ≡ slice_get texts i

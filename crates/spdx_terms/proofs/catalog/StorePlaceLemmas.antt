@@ -11,7 +11,7 @@ use Rattle.std.proofs.lemmas.Map.Text.{is_eq-slice_cmp}
 use Rattle.std.proofs.lemmas.Slice.Eq.{bytes_eq-Decides}
 use Rattle.deny_text.specs.TextMap.{TextMapTo}
 use Rattle.spdx_terms.specs.declared.catalog.store.StoreText.{StoreText}
-use Rattle.spdx_terms.specs.catalog.StorePlaces.{FindsPlaces, all_spelled, with_new}
+use Rattle.spdx_terms.specs.catalog.StorePlaces.{FindsPlaces, FindsTexts, all_named, all_spelled, with_new}
 use Rattle.spdx_terms.specs.catalog.TextWords.{words_with_spaces, words_of}
 
 abbrev or_at : Bool → ℕ → Option ℕ → Option ℕ
@@ -52,6 +52,9 @@ get-put places key place q =
 pub no_places : (places : TextMapTo ℕ) → places ≡ empty → FindsPlaces places []
 no_places places is q = ap (λ m. get m q) is ∙ get-empty (slice_cmp nat_cmp) q
 
+pub no_texts : (places names : TextMapTo ℕ) → places ≡ empty → names ≡ empty → FindsTexts places names []
+no_texts places names is are = record { by_words = no_places places is; by_names = no_places names are }
+
 -- by whether the key is the one that is asked for, and whether that had a place
 had_place : (here : Bool) (place : ℕ) (found : Option ℕ) → (here ≡ true → is_some found ≡ true) → found ≡ or_at here place found
 had_place here place (Some old) some = refl
@@ -83,3 +86,12 @@ one_more_spelled texts place stored within at =
 
 pub so_many : (texts : List StoreText) (place : ℕ) → place ≤ length texts → place ≡ length (all_spelled (take place texts))
 so_many texts place within = sym (length-map (take place texts) (λ (one : StoreText). words_with_spaces (words_of one.body)) ∙ length-take-le place texts within)
+
+-- the name of one text more
+pub one_more_named : (texts : List StoreText) (place : ℕ) (stored : StoreText) → place < length texts → stored ≡ get_or texts place stored → all_named (take (place + 1) texts) ≡ all_named (take place texts) ++ stored.name ∷ []
+one_more_named texts place stored within at =
+    ap all_named (take_more texts place stored within ∙ ap (λ one. take place texts ++ one ∷ []) (sym at))
+    ∙ map-append (λ (one : StoreText). one.name) (take place texts) (stored ∷ [])
+
+pub so_many_names : (texts : List StoreText) (place : ℕ) → place ≤ length texts → place ≡ length (all_named (take place texts))
+so_many_names texts place within = sym (length-map (take place texts) (λ (one : StoreText). one.name) ∙ length-take-le place texts within)

@@ -1,5 +1,5 @@
--- The exact identifier over stored texts.
-use Rattle.std.specs.Prelude.{◌≤◌, ℕ, Bool, false, List, [], ◌∷◌, Option, Some, None, find}
+-- The exact identifier over stored texts, and the text of a name.
+use Rattle.std.specs.Prelude.{◌≤◌, ℕ, Bool, false, List, [], ◌∷◌, Option, Some, None, find, option_map}
 use Rattle.std.proofs.Common.{lit≤}
 use Rattle.std.specs.Str.{bytes_eq}
 use Rattle.std.specs.Cmp.Lexicographic.{pointwise}
@@ -29,3 +29,13 @@ match_of texts text = match_with (stored_for texts text)
 pub score_within : (found : Option StoreText) → (match_with found).score ≤ 100
 score_within None = lit≤ tt
 score_within (Some stored) = lit≤ tt
+
+-- ---- by a name
+
+-- the first stored text of a name
+abbrev pub named_for : List StoreText → List ℕ → Option StoreText
+named_for texts name = find (λ stored. bytes_eq stored.name name) texts
+
+-- its body
+abbrev pub text_of_store : List StoreText → List ℕ → Option (List ℕ)
+text_of_store texts name = option_map (λ (stored : StoreText). stored.body) (named_for texts name)

@@ -1,13 +1,14 @@
-//! The identifier over stored licence texts.
+//! Stored licence texts: the identifier over them, and the text of each name.
 ghost use Rattle.std.specs.Prelude.{◌≡◌, ℕ, List, [], IfOk, OnOk};
 ghost use Rattle.std.specs.Option.{option_copied};
 ghost use Rattle.spdx_terms.specs.catalog.BuiltIn.{built_in};
-ghost use Rattle.spdx_terms.specs.catalog.Store.{match_of, score_within, stored_for};
-ghost use Rattle.spdx_terms.specs.catalog.StorePlaces.{FindsPlaces, all_spelled, with_new};
+ghost use Rattle.spdx_terms.specs.catalog.Store.{match_of, named_for, score_within, stored_for, text_of_store};
+ghost use Rattle.spdx_terms.specs.catalog.StorePlaces.{FindsPlaces, all_named, all_spelled, with_new};
 ghost use Rattle.spdx_terms.specs.catalog.TextWords.{words_with_spaces, words_of};
 
 use crate::catalog::built_in::{BUILT_IN, built_in_texts};
 use crate::catalog::identifier::{Identifier, Match};
+use crate::catalog::lookup::TextLookup;
 use crate::catalog::text_words::spelled_words;
 use deny_text::{ListOf, Text, TextMap};
 use std::alloc::{AllocError, Global};
@@ -30,18 +31,20 @@ pub struct LicenseStore {
     texts: StoreTexts,
     /// By the words of texts, with a space after each word, the place of the first with these words.
     places: TextMap<usize>,
+    /// By the names of texts, the place of the first of this name.
+    names: TextMap<usize>,
 }
 
 impl Model for LicenseStore {
     ghost use Rattle.std.specs.Prelude.{List};
     ghost use Rattle.spdx_terms.specs.declared.catalog.store.StoreText.{StoreText};
-    ghost use Rattle.spdx_terms.specs.catalog.StorePlaces.{FindsPlaces, all_spelled};
+    ghost use Rattle.spdx_terms.specs.catalog.StorePlaces.{FindsTexts};
 
     ghost Value = { List StoreText };
 
     ghost view = { λ s. s.texts };
 
-    ghost invariant = { λ s. FindsPlaces s.places (all_spelled s.texts) };
+    ghost invariant = { λ s. FindsTexts s.places s.names s.texts };
 }
 
 impl LicenseStore {
@@ -50,7 +53,12 @@ impl LicenseStore {
         ensures { IfOk result (λ store. store ≡ texts) }
     {
         let places = places_of(alloc, texts.items())?;
-        Ok(LicenseStore { texts, places })
+        let names = names_of(alloc, texts.items())?;
+        Ok(LicenseStore {
+            texts,
+            places,
+            names,
+        })
     }
 
     /// The store of the built-in texts: MIT with four headings, and ISC with two.
@@ -69,6 +77,7 @@ impl LicenseStore {
         LicenseStore {
             texts: StoreTexts::new(alloc),
             places: TextMap::new(alloc),
+            names: TextMap::new(alloc),
         }
     }
 
@@ -81,6 +90,14 @@ impl LicenseStore {
             return None;
         }
         let place = *self.places.get(words)?;
+        self.texts.items().get(place)
+    }
+
+    /// The first stored text of a name.
+    fn named(&self, name: &str) -> Option<&StoreText>
+        ensures { option_copied result ≡ named_for self.now name.now }
+    {
+        let place = *self.names.get(name)?;
         self.texts.items().get(place)
     }
 }
@@ -96,6 +113,16 @@ fn key_of(alloc: Global, text: &str) -> Result<Text, AllocError>
     }
 }
 
+/// Adds the place of a key, unless it has one.
+fn add_new(places: &mut TextMap<usize>, key: Text, place: usize) -> Result<(), AllocError>
+    ensures { OnOk result (places.new ≡ with_new places.old key place) }
+{
+    if places.get(key.as_str()).is_none() {
+        places.insert(key, place)?;
+    }
+    Ok(())
+}
+
 /// Adds the place of a text, unless one with its words has one.
 fn add_place(
     alloc: Global,
@@ -106,10 +133,20 @@ fn add_place(
     ensures { OnOk result (places.new ≡ with_new places.old (words_with_spaces (words_of body.now)) place) }
 {
     let key = key_of(alloc, body)?;
-    if places.get(key.as_str()).is_none() {
-        places.insert(key, place)?;
-    }
-    Ok(())
+    add_new(places, key, place)
+}
+
+/// Adds the place of a text, unless one of its name has one.
+fn add_name(
+    alloc: Global,
+    places: &mut TextMap<usize>,
+    name: &str,
+    place: usize,
+) -> Result<(), AllocError>
+    ensures { OnOk result (places.new ≡ with_new places.old name.now place) }
+{
+    let key = Text::copy(alloc, name)?;
+    add_new(places, key, place)
 }
 
 /// The first place of each text's words.
@@ -121,6 +158,26 @@ fn places_of(alloc: Global, texts: &[StoreText]) -> Result<TextMap<usize>, Alloc
         add_place(alloc, &mut places, stored.body.as_str(), place)?;
     }
     Ok(places)
+}
+
+/// The first place of each text's name.
+fn names_of(alloc: Global, texts: &[StoreText]) -> Result<TextMap<usize>, AllocError>
+    ensures { IfOk result (λ places. FindsPlaces places (all_named texts.now)) }
+{
+    let mut places = TextMap::new(alloc);
+    'texts: for (place, stored) in texts.iter().enumerate() {
+        add_name(alloc, &mut places, stored.name.as_str(), place)?;
+    }
+    Ok(places)
+}
+
+impl TextLookup for LicenseStore {
+    ghost text_of = { text_of_store };
+
+    fn text(&self, name: &str) -> Option<&str> {
+        let stored = self.named(name)?;
+        Some(stored.body.as_str())
+    }
 }
 
 impl Identifier for LicenseStore {

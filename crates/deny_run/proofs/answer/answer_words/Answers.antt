@@ -13,7 +13,7 @@ use Rattle.deny_run.proofs.answer.answer_words.Goals as goal
 
 pub returns-in-Ok-Shown-clause-answered : goal.returns-in-Ok-Shown-clause-answered
 returns-in-Ok-Shown-clause-answered g c =
-    let given = run_arguments_of (g.C.Catalog.lists c.args.catalog.now) (g.I.Identifier.match_of c.args.identifier.now) c.args.words.now c.args.cwd.now in
+    let given = run_arguments_of (g.C.Catalog.lists c.args.catalog.now) (g.I.Identifier.match_of c.args.identifier.now) (g.I.TextLookup.text_of c.args.identifier.now) c.args.words.now c.args.cwd.now in
     let content = g.T.Tree.content c.args.tree.now in
     let count = g.T.Tree.fault_count c.args.tree.now in
     let calls = g.T.Tree.trace c.args.tree.now in
@@ -34,7 +34,7 @@ returns-in-Ok-Shown-clause-answered g c =
 
 pub returns-in-Ok-Usage-clause-answered : goal.returns-in-Ok-Usage-clause-answered
 returns-in-Ok-Usage-clause-answered g c =
-    let given = run_arguments_of (g.C.Catalog.lists c.args.catalog.now) (g.I.Identifier.match_of c.args.identifier.now) c.args.words.now c.args.cwd.now in
+    let given = run_arguments_of (g.C.Catalog.lists c.args.catalog.now) (g.I.Identifier.match_of c.args.identifier.now) (g.I.TextLookup.text_of c.args.identifier.now) c.args.words.now c.args.cwd.now in
     let content = g.T.Tree.content c.args.tree.now in
     let count = g.T.Tree.fault_count c.args.tree.now in
     let calls = g.T.Tree.trace c.args.tree.now in

@@ -10,7 +10,7 @@ use Rattle.deny_run.proofs.run.run.Goals as goal
 
 pub returns : goal.returns
 returns g c =
-    let given = run_arguments_of (g.C.Catalog.lists c.args.catalog.now) (g.I.Identifier.match_of c.args.identifier.now) c.args.words.now c.args.cwd.now in
+    let given = run_arguments_of (g.C.Catalog.lists c.args.catalog.now) (g.I.Identifier.match_of c.args.identifier.now) (g.I.TextLookup.text_of c.args.identifier.now) c.args.words.now c.args.cwd.now in
     let tree = tree_seen (g.T.Tree.content c.args.tree.now) (g.T.Tree.content c.answer_words-request.new.tree) (g.T.Tree.fault_count c.args.tree.now) (g.T.Tree.fault_count c.answer_words-request.new.tree)
     (g.T.Tree.trace c.args.tree.now) (g.T.Tree.trace c.answer_words-request.new.tree) in
     let out = sink_seen (g.O.Sink.written c.args.out.now) (g.O.Sink.written c.answer_words-request.new.out) (g.O.Sink.fault_count c.args.out.now) (g.O.Sink.fault_count c.answer_words-request.new.out) in

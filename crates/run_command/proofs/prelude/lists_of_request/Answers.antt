@@ -4,7 +4,8 @@ use Rattle.tree_core.proofs.MadeLemmas.{made_none}
 use Rattle.tree_core.specs.texts.Cause.{ReadCounts}
 use Rattle.run_found.specs.Error.{cause_of}
 use Rattle.run_found.specs.Hearing.{tree_seen}
-use Rattle.run_found.specs.own_names.Chosen.{lists_chosen, texts_chosen}
+use Rattle.run_found.specs.own_names.Chosen.{lists_chosen}
+use Rattle.run_found.specs.own_names.Found.{chosen_given}
 use Rattle.run_found.specs.own_names.Given.{lists_given}
 use Rattle.run_command.specs.Manifest.{LooksAtManifest}
 use Rattle.run_command.specs.Prelude.{lists_had, no_lists, no_manifest, unsupported}
@@ -47,6 +48,6 @@ returns-in-Ok-own_lists-clause-comes g c options is =
     let look = tree_seen (g.T.Tree.content c.args.tree.now) (g.T.Tree.content c.look_at_manifest.new.tree) (g.T.Tree.fault_count c.args.tree.now) (g.T.Tree.fault_count c.look_at_manifest.new.tree)
     (g.T.Tree.trace c.args.tree.now) (g.T.Tree.trace c.look_at_manifest.new.tree) in
     let looked = subst (λ (at : List ℕ). LooksAtManifest at look (Ok tt)) c.as_path.ensures c.in-Ok.ensures.looked in
-    let had = lists_given (lists_chosen g.C.Catalog.lists c.in-Ok-own_lists.found.catalog) (texts_chosen g.I.Identifier.match_of c.in-Ok-own_lists.found.identifier) in
+    let had = lists_given (lists_chosen g.C.Catalog.lists c.in-Ok-own_lists.found.catalog) (chosen_given g.I.Identifier.match_of g.I.TextLookup.text_of c.in-Ok-own_lists.found.identifier) in
     lists_had (is ∙ c.in-None.is) (g.T.Tree.content c.look_at_manifest.new.tree) (g.T.Tree.fault_count c.look_at_manifest.new.tree) (g.T.Tree.trace c.look_at_manifest.new.tree)
     looked had c.in-Ok-own_lists.ensures.found refl

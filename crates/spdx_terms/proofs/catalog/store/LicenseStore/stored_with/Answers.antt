@@ -15,7 +15,7 @@ returns-in_err-place c = λ text is.
     let test = λ (known : List ℕ). bytes_eq known c.args.words.now in
     let some : 0 < length c.args.words.now = grind arith in
     let view : c.self.inside.texts ≡ texts = cc in
-    let place : None ≡ position test (all_spelled texts) = c.in_err-place.ensures ∙ c.self.invariant c.args.words.now ∙ ap (λ known. position test (all_spelled known)) view in
+    let place : None ≡ position test (all_spelled texts) = c.in_err-place.ensures ∙ c.self.invariant.by_words c.args.words.now ∙ ap (λ known. position test (all_spelled known)) view in
     ap option_copied c.from_residual.ensures
     ∙ sym (stored_at texts text c.args.words.now is some ∙ none_behind texts _ (none_found test (all_spelled texts) place))
 
@@ -26,7 +26,7 @@ returns c = λ text is.
     let some : 0 < length c.args.words.now = grind arith in
     let view : c.self.inside.texts ≡ texts = cc in
     let at : ℕ = c.in_ok-place.field-0.now in
-    let place : Some at ≡ position test (all_spelled texts) = c.in_ok-place.ensures ∙ c.self.invariant c.args.words.now ∙ ap (λ known. position test (all_spelled known)) view in
+    let place : Some at ≡ position test (all_spelled texts) = c.in_ok-place.ensures ∙ c.self.invariant.by_words c.args.words.now ∙ ap (λ known. position test (all_spelled known)) view in
     let got : option_copied c.get-2.result ≡ slice_get texts at = item_at c.items.result.now at c.get-2.result c.get-2.ensures.lookup ∙ ap (λ items. slice_get items at) (cc) in
     got
     ∙ ap (λ n. slice_get texts n) (place_found test (all_spelled texts) at place).0

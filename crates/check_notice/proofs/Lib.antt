@@ -1,0 +1,4 @@
+pub mod LawLemmas
+pub mod NoticeLemmas
+pub mod NumberLemmas
+pub mod StepLemmas

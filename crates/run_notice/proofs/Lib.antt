@@ -1,0 +1,3 @@
+pub mod NoticeLemmas
+pub mod OwnLemmas
+pub mod WritingLemmas

@@ -1,0 +1,41 @@
+use Rattle.std.proofs.Common.{◌∷◌, [], ◌++◌, List, map, take, sym, ap, subst, ◌∙◌}
+use Rattle.std.proofs.lemmas.List.{take_more}
+use Rattle.graph_core.specs.Krate.{CrateRecord, record_of}
+use Rattle.graph_core.specs.selection.Listed.{record_behind}
+use Rattle.gather_license.specs.declared.own_texts.OwnTexts.{OwnTexts}
+use Rattle.gather_license.specs.files.Calls.{IsFront}
+use Rattle.gather_license.proofs.files.CallLemmas.{on_err}
+use Rattle.gather_core.proofs.GatheredLemmas.{map_push}
+use Rattle.gather_core.proofs.TurnCalls.{front_next}
+use Rattle.run_found.specs.Hearing.{TreeSeen, tree_seen}
+use Rattle.run_notice.specs.Own.{HaveOwnTexts}
+use Rattle.run_notice.proofs.OwnLemmas.{cut_behind, cut_next, have_more, have_none}
+use Rattle.run_notice.proofs.own.own_of_crates.Goals as goal
+
+pub crates-preserved : goal.crates-preserved
+crates-preserved g c =
+    let place = c.crates.krate-index in
+    let krates = c.args.krates.now in
+    let item = c.krate-item.result in
+    let so_far = map record_behind (take place krates) in
+    let tree = tree_seen (g.T.Tree.content c.args.tree.now) (g.T.Tree.content c.own_texts.new.tree) (g.T.Tree.fault_count c.args.tree.now) (g.T.Tree.fault_count c.own_texts.new.tree) (g.T.Tree.trace c.args.tree.now) (g.T.Tree.trace c.own_texts.new.tree) in
+    let more = ap (map record_behind) (take_more krates place item c.crates-test.true ∙ ap (λ one. take place krates ++ one ∷ []) (sym c.krate-item.is)) ∙ map_push record_behind (take place krates) item in
+    subst (λ (crates : List CrateRecord). HaveOwnTexts crates tree c.in_ok-push.own) (sym more)
+    (subst (HaveOwnTexts (so_far ++ record_behind item ∷ []) tree) (sym c.in_ok-push.ensures.ok) (have_more so_far (record_behind item) c.crates.own c.crates.invariant c.in_ok-texts.texts c.in_ok-texts.ensures.own))
+
+pub crates-init : goal.crates-init
+crates-init g c =
+    let told = g.T.Tree.content c.args.tree.now in
+    let count = g.T.Tree.fault_count c.args.tree.now in
+    let calls = g.T.Tree.trace c.args.tree.now in
+    subst (HaveOwnTexts [] (tree_seen told told count count calls calls)) (sym c.new-own.ensures) (have_none told count calls)
+
+pub returns-in_err-texts-clause-cut : goal.returns-in_err-texts-clause-cut
+returns-in_err-texts-clause-cut g c =
+    let place = c.crates.krate-index in
+    let krates = c.args.krates.now in
+    let item = c.krate-item.result in
+    let so_far = map record_behind (take place krates) in
+    on_err c.from_residual.result _
+    (cut_next so_far (record_behind item) c.crates.own c.crates.invariant (map record_behind krates)
+    (front_next record_behind krates place item so_far _ (take_more krates place item c.crates-test.true ∙ ap (λ one. take place krates ++ one ∷ []) (sym c.krate-item.is))) c.in_err-texts.ensures.no_memory)

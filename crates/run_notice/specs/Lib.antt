@@ -1,0 +1,3 @@
+pub mod Noticed
+pub mod Own
+pub mod Steps

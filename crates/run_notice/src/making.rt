@@ -1,0 +1,143 @@
+//! The notice of the crates that were judged.
+//! Called by `found_notice` of noticing; the reads may be listed in any order, no clause has it.
+ghost use Rattle.std.specs.Prelude.{◌≡◌, IfOk, None, map};
+ghost use Rattle.graph_core.specs.selection.Listed.{record_behind};
+ghost use Rattle.check_notice.specs.Notice.{AnswersNotice, noticed_of};
+ghost use Rattle.run_check.specs.Judged.{crates_judged};
+ghost use Rattle.run_found.specs.Hearing.{seen_between};
+ghost use Rattle.run_found.specs.own_names.Given.{texts_given};
+ghost use Rattle.run_notice.specs.Noticed.{sources_by, unaccepted_id};
+ghost use Rattle.run_notice.specs.Steps.{MakesNotice, RefusesUnaccepted, noticed_by};
+
+use crate::noticed::NoticedCrates;
+use crate::own::{own_of_crates, reads_of_own};
+use check_core::CrateReport;
+use check_notice::{Notice, NoticeError, NoticeSource, TextFinder, first_unaccepted, notice_of};
+use deny_text::{ListOf, Text};
+use gather_core::cut_threshold;
+use gather_license::OwnTexts;
+use graph_core::Krate;
+use run_check::{JudgedCrates, Report, reads_of_reports};
+use run_found::Error;
+use spdx_core::{Identifier, TextLookup};
+use std::alloc::{AllocError, Global};
+use tree_core::Tree;
+
+/// Crates as a notice looks at them, in order.
+type NoticeSources<'s> = ListOf<NoticeSource<'s>>;
+
+/// Crates, each with the report on it and the texts that it comes with.
+fn sources<'s>(
+    alloc: Global,
+    krates: &'s [&'s Krate],
+    reports: &'s [CrateReport],
+    own: &'s [OwnTexts],
+) -> Result<NoticeSources<'s>, AllocError>
+    ensures { IfOk result (λ sources. map noticed_of sources
+        ≡ noticed_by (map record_behind krates.now) reports.now own.now) }
+{
+    let mut sources = NoticeSources::new(alloc);
+    'crates: for ((krate, report), own) in krates.iter().zip(reports.iter()).zip(own.iter()) {
+        sources.push(NoticeSource { krate, report, own })?;
+    }
+    Ok(sources)
+}
+
+/// The notice of crates, each with the report on it and the texts that it comes with.
+fn notice_by<I: Identifier + TextLookup>(
+    alloc: Global,
+    krates: &[&Krate],
+    reports: &[CrateReport],
+    own: &[OwnTexts],
+    identifier: &I,
+    threshold: i64,
+) -> Result<Notice, NoticeError>
+    ensures { AnswersNotice
+        (sources_by (texts_given (I.match_of identifier.now) (I.text_of identifier.now)) threshold)
+        (noticed_by (map record_behind krates.now) reports.now own.now) result }
+{
+    let sources = sources(alloc, krates, reports, own)?;
+    let finder = TextFinder {
+        identifier,
+        threshold: cut_threshold(threshold),
+    };
+    notice_of(alloc, sources.items(), &finder)
+}
+
+/// The refusal of a crate that is rejected, or has no licence.
+fn not_accepted(alloc: Global, id: Text, judged: JudgedCrates) -> Error
+    ensures { RefusesUnaccepted id judged result }
+{
+    let Report { crates, .. } = judged.report;
+    match reads_of_reports(alloc, crates) {
+        Ok(reads) => Error::NotAccepted { id, reads },
+        Err(_) => Error::Memory,
+    }
+}
+
+/// The id of the first crate that is rejected, or has no licence.
+fn unaccepted_id(alloc: Global, reports: &[CrateReport]) -> Result<Option<Text>, AllocError>
+    ensures { IfOk result (λ id. id ≡ unaccepted_id reports.now) }
+{
+    match first_unaccepted(reports) {
+        Some(report) => {
+            let id = Text::copy(alloc, report.id.as_str())?;
+            Ok(Some(id))
+        }
+        None => Ok(None),
+    }
+}
+
+/// The notice of the crates that were judged, none of which is rejected or without a licence: the texts that they come
+/// with are read, crate after crate.
+fn notice_of_accepted<T: Tree, I: Identifier + TextLookup>(
+    alloc: Global,
+    judged: JudgedCrates,
+    identifier: &I,
+    tree: &mut T,
+) -> Result<NoticedCrates, Error>
+    requires { unaccepted_id judged.report.crates ≡ None }
+    ensures { MakesNotice (texts_given (I.match_of identifier.now) (I.text_of identifier.now)) judged
+        (seen_between T.content T.fault_count T.trace tree.old tree.new) result }
+{
+    let krates = judged.checked(alloc)?;
+    let own = own_of_crates(alloc, krates.items(), tree)?;
+    let made = notice_by(
+        alloc,
+        krates.items(),
+        judged.report.crates.items(),
+        own.items(),
+        identifier,
+        judged.report.policy.confidence_threshold,
+    );
+    let own = reads_of_own(alloc, krates.items(), own)?;
+    let Report { crates, .. } = judged.report;
+    let reads = reads_of_reports(alloc, crates)?;
+    match made {
+        Ok(notice) => Ok(NoticedCrates { notice, reads, own }),
+        Err(NoticeError::NoText { id, key }) => Err(Error::NoText {
+            id,
+            key,
+            reads,
+            own,
+        }),
+        Err(NoticeError::Memory) => Err(Error::Memory),
+    }
+}
+
+/// The notice of the crates that were judged. Where one is rejected or has no licence, that is the refusal, and no own
+/// text is read.
+pub(crate) fn notice_of_judged<T: Tree, I: Identifier + TextLookup>(
+    alloc: Global,
+    judged: JudgedCrates,
+    identifier: &I,
+    tree: &mut T,
+) -> Result<NoticedCrates, Error>
+    ensures { MakesNotice (texts_given (I.match_of identifier.now) (I.text_of identifier.now)) judged
+        (seen_between T.content T.fault_count T.trace tree.old tree.new) result }
+{
+    match unaccepted_id(alloc, judged.report.crates.items())? {
+        Some(id) => Err(not_accepted(alloc, id, judged)),
+        None => notice_of_accepted(alloc, judged, identifier, tree),
+    }
+}
