@@ -16,7 +16,7 @@ pub use lines::put_run;
 /// policies, of what is found, of what is read of each crate, of the calls of the tree, of licence families, of
 /// listings, of the sample, of own catalogues and texts, of verdict files, of policies by their version, of
 /// clarifications of the exceptions file, of bills, and of notices.
-const FILES: [&str; 16] = [
+const FILES: [&str; 17] = [
     "run/gate.txt",
     "run/command.txt",
     "run/refused.txt",
