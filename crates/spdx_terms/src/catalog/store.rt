@@ -107,7 +107,7 @@ fn key_of(alloc: Global, text: &str) -> Result<Text, AllocError>
     ensures { IfOk result (λ key. key ≡ words_with_spaces (words_of text.now)) }
 {
     let words = spelled_words(alloc, text)?;
-    match String::from_utf8(words.into_vec()) {
+    match String::from_utf8(words) {
         Ok(key) => Ok(Text::from(key)),
         Err(_) => unreachable!(),
     }

@@ -7,7 +7,6 @@ ghost use Rattle.std.specs.Str.{str_to_ascii_lowercase};
 ghost use Rattle.spdx_terms.specs.catalog.TextWords.{is_between, is_copyright, line_words, lower_of, runs_of};
 ghost use Rattle.spdx_terms.specs.catalog.TextWords.{words_with_spaces, words_of};
 
-use deny_text::Bytes;
 use std::alloc::{AllocError, Global};
 
 /// The place of the first letter or digit.
@@ -57,38 +56,46 @@ fn is_copyright(line: &[u8]) -> bool
         && (second.eq_ignore_ascii_case(b"c") || is_number(second))
 }
 
-/// Appends a run in lower case and a space.
-fn push_word(words: &mut Bytes, run: &[u8]) -> Result<(), AllocError>
-    ensures { OnOk result (words.new ≡ words.old ++ (str_to_ascii_lowercase run.now ++ 32 ∷ [])) }
+/// Appends a run as it is written and a space.
+fn push_run(words: &mut Vec<u8>, run: &[u8]) -> Result<(), AllocError>
+    ensures { OnOk result (words.new.items ≡ words.old.items ++ (run.now ++ 32 ∷ [])) }
 {
-    'run: for byte in run {
-        words.push(byte.to_ascii_lowercase())?;
-    }
-    words.push(b' ')
+    words.extend_from_slice(run)?;
+    words.push(b' ')?;
+    Ok(())
 }
 
-/// Appends the words of a line, with a space after each.
-fn push_line(words: &mut Bytes, line: &[u8]) -> Result<(), AllocError>
-    ensures { OnOk result (words.new ≡ words.old ++ words_with_spaces (line_words line.now)) }
+/// Appends the words of a line as they are written, with a space after each.
+fn push_line(words: &mut Vec<u8>, line: &[u8]) -> Result<(), AllocError>
+    ensures { OnOk result (str_to_ascii_lowercase words.new.items ≡ str_to_ascii_lowercase words.old.items ++ words_with_spaces (line_words line.now)) }
 {
     if is_copyright(line) {
         return Ok(());
     }
     let mut left = line;
     'left: while let Some((run, rest)) = next_run(left) {
-        push_word(words, run)?;
+        push_run(words, run)?;
         left = rest;
     }
     Ok(())
 }
 
-/// The words of a text, with a space after each.
-pub(crate) fn spelled_words(alloc: Global, text: &str) -> Result<Bytes, AllocError>
-    ensures { IfOk result (λ words. words ≡ words_with_spaces (words_of text.now)) }
+/// The words of a text as they are written, with a space after each.
+fn written_words(alloc: Global, text: &str) -> Result<Vec<u8>, AllocError>
+    ensures { IfOk result (λ words. str_to_ascii_lowercase words.items ≡ words_with_spaces (words_of text.now)) }
 {
-    let mut words = Bytes::new(alloc);
+    let mut words = Vec::new(alloc);
     'lines: for line in text.split('\n') {
         push_line(&mut words, line.as_bytes())?;
     }
+    Ok(words)
+}
+
+/// The words of a text in lower case, with a space after each.
+pub(crate) fn spelled_words(alloc: Global, text: &str) -> Result<Vec<u8>, AllocError>
+    ensures { IfOk result (λ words. words.items ≡ words_with_spaces (words_of text.now)) }
+{
+    let mut words = written_words(alloc, text)?;
+    words.as_mut_slice().make_ascii_lowercase();
     Ok(words)
 }

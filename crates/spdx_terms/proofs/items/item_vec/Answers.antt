@@ -1,4 +1,4 @@
-use Rattle.std.proofs.Common.{◌≡◌, ◌∙◌, sym, ap, subst, ◌++◌, [], ◌∷◌, append_assoc}
+use Rattle.std.proofs.Common.{◌∙◌, sym, ap, subst, ◌++◌, [], ◌∷◌, append_assoc}
 use Rattle.std.proofs.lemmas.Str.{IsCharBoundary-start}
 use Rattle.spdx_terms.specs.Items.{wanted_after, items_of}
 use Rattle.spdx_terms.specs.NextItem.{IsNext, StandsNext, items_behind}

@@ -1,11 +1,10 @@
-use Rattle.std.proofs.Common.{◌≡◌, ◌∙◌, sym, subst}
+use Rattle.std.proofs.Common.{sym, subst}
 use Rattle.std.specs.Prelude.{IsUtf8}
-use Rattle.spdx_terms.specs.catalog.TextWords.{words_with_spaces, words_of}
 use Rattle.spdx_terms.proofs.catalog.SpelledLemmas.{words_text}
 use Rattle.spdx_terms.proofs.catalog.store.key_of.Goals as goal
 
 -- the words are a text
 pub unreachable-requires : goal.unreachable-requires
 unreachable-requires c =
-    let is : c.into_vec.result.items ≡ words_with_spaces (words_of c.args.text.now) = c.into_vec.ensures ∙ c.in_ok-words.ensures in
+    let is = c.in_ok-words.ensures in
     let never = c.in-Err.ensures.succeeds (subst IsUtf8 (sym is) (words_text c.args.text.now)) in absurd (cc)
