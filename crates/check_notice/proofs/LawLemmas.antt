@@ -256,11 +256,11 @@ cited by crates place within =
     let texts = fold with_text [] (uses_of by crates) in
     let at = get_some texts place within in
     let number : number_in texts at.0 ≡ place + 1 = ap (λ n. n + 1) (at_first texts place at.0 (apart_all [] (uses_of by crates) tt) at.1) in
-    subst (IsCited (map (told_of by texts) crates)) number (crate_cites by texts at.0 crates (used (came_from [] (uses_of by crates) at.0 (at_has texts place at.0 at.1))))
+    subst (IsCited (map (told_of by texts) crates)) number (crate_cites by texts at.0 crates (used at.0 (came_from [] (uses_of by crates) at.0 (at_has texts place at.0 at.1))))
   where
-    used : {text : List ℕ} → (has_text [] text ≡ true) ⊎ (has_text (uses_of by crates) text ≡ true) → has_text (uses_of by crates) text ≡ true
-    used (inl never) = absurd (cc)
-    used (inr there) = there
+    used : (text : List ℕ) → (has_text [] text ≡ true) ⊎ (has_text (uses_of by crates) text ≡ true) → has_text (uses_of by crates) text ≡ true
+    used text (inl never) = absurd (cc)
+    used text (inr there) = there
 
 -- ---- the law
 

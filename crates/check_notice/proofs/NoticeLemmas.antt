@@ -29,6 +29,6 @@ notice_missing by crates first is = step (first_missing by crates) refl
     step : (missing : Option MissingText) → first_missing by crates ≡ missing → first_missing by crates ≡ Some first
     step None whole = let never : Ok (progress_with by [] [] (accepted_in crates)) ≡ Err first = sym (all_told by [] [] crates whole) ∙ is in absurd (cc)
     step (Some other) missing =
-        let same : Err {A = NoticeProgress} other ≡ Err first = sym (none_told by [] [] crates other missing) ∙ is in
+        let same : ◌≡◌ {A = Result NoticeProgress MissingText} (Err other) (Err first) = sym (none_told by [] [] crates other missing) ∙ is in
         let one : other ≡ first = cc in
         missing ∙ ap Some one

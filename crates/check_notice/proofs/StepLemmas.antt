@@ -141,7 +141,7 @@ module _ (by : TextSources) where
       Rest = (texts : List (List ℕ)) (told : List NoticeCrate) → first_missing by crates ≡ None → all_told_by by (record { numbers = texts; crates = told }) crates ≡ Ok (progress_with by texts told (accepted_in crates))
 
       cited : (found : Option LicenseReq) → find (lacks by one.own) (used_terms one) ≡ found → Rest → goes true ≡ ends true
-      cited (Some first) is rest = let never : Some (record { id = one.krate.id; key = key_of first }) ≡ None = sym (ap (missing_by one crates) is) ∙ whole in absurd (cc)
+      cited (Some first) is rest = let never : ◌≡◌ {A = Option MissingText} (Some (record { id = one.krate.id; key = key_of first })) None = sym (ap (missing_by one crates) is) ∙ whole in absurd (cc)
       cited None is rest =
           let now = with_cites texts [] (cites_of by one) in
           ap (λ (answer : Result Cited (List ℕ)). then_told (λ next. all_told_by by next crates) (told_cited (record { numbers = texts; crates = told }) one answer)) (all_cited by one.own texts [] (used_terms one) is)
