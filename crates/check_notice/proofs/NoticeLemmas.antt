@@ -1,8 +1,8 @@
 -- From what was told crate after crate to the notice.
-use Rattle.std.proofs.Common.{◌≡◌, ◌∙◌, ℕ, List, [], Option, Some, None, Result, Ok, Err, refl, sym, ap}
+use Rattle.std.proofs.Common.{◌≡◌, ◌∙◌, List, [], Option, Some, None, Result, Ok, Err, refl, sym, ap}
 use Rattle.check_notice.specs.declared.notice.Notice.{Notice}
 use Rattle.check_notice.specs.declared.notice.NoticeProgress.{NoticeProgress}
-use Rattle.check_notice.specs.Notice.{IsNotice, MissingText, NoticedCrate, accepted_in, first_missing, notice_of}
+use Rattle.check_notice.specs.Notice.{IsNotice, MissingText, NoticedCrate, accepted_in, first_missing}
 use Rattle.check_notice.specs.Sources.{TextSources}
 use Rattle.check_notice.specs.Steps.{all_told_by, nothing_told}
 use Rattle.check_notice.proofs.StepLemmas.{all_told, none_told, progress_with}

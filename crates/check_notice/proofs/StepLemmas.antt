@@ -14,10 +14,10 @@ use Rattle.check_notice.specs.declared.notice.KeyNumber.{KeyNumber}
 use Rattle.check_notice.specs.declared.notice.NoticeCrate.{NoticeCrate}
 use Rattle.check_notice.specs.declared.notice.NoticeProgress.{NoticeProgress}
 use Rattle.check_notice.specs.Keys.{key_of}
-use Rattle.check_notice.specs.Notice.{Cite, MissingText, NoticedCrate, accepted_in, cite_as, cite_of, cites_of, first_missing, is_accepted, missing_in, missing_of, numbered, text_in, told_as, told_of, used_by, used_terms}
+use Rattle.check_notice.specs.Notice.{Cite, MissingText, NoticedCrate, accepted_in, cite_as, cite_of, cites_of, first_missing, is_accepted, numbered, text_in, told_as, told_of, used_by, used_terms}
 use Rattle.check_notice.specs.Numbers.{number_in, with_text}
 use Rattle.check_notice.specs.Sources.{TextSources, text_for}
-use Rattle.check_notice.specs.Steps.{all_told_by, cite_found, cited_with, cites_by, nothing_cited, then_cites, then_told, told_by, told_cited, told_with}
+use Rattle.check_notice.specs.Steps.{all_told_by, cite_found, cites_by, then_cites, then_told, told_cited, told_with}
 use Rattle.check_notice.proofs.NumberLemmas.{are_there, has_with, number_stays, numbers_stay}
 
 -- ---- the terms of a crate

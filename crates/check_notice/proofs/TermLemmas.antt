@@ -1,5 +1,5 @@
 -- Terms that are appended, one after another.
-use Rattle.std.proofs.Common.{◌≡◌, ◌∙◌, ℕ, List, [], ◌∷◌, ◌++◌, map, Bor, Option, Some, None, Result, Ok, Err, OnOk, refl, sym, ap, append-nil, append_assoc}
+use Rattle.std.proofs.Common.{◌≡◌, ◌∙◌, ℕ, List, [], ◌∷◌, ◌++◌, map, Bor, Option, Some, None, Result, Ok, Err, OnOk, sym, ap, append-nil, append_assoc}
 use Rattle.std.specs.List.{cons_option}
 use Rattle.std.specs.Option.{option_map, option_to_list}
 use Rattle.std.specs.Prelude.{slice_get}
