@@ -4,7 +4,7 @@ ghost use Rattle.std.specs.Prelude.{◌≡◌, ◌++◌, IfOk, None, OnErr, OnOk
 ghost use Rattle.std.specs.Option.{option_copied};
 ghost use Rattle.graph_core.specs.Krate.{record_of};
 ghost use Rattle.graph_core.specs.selection.Listed.{record_behind};
-ghost use Rattle.check_notice.specs.Notice.{AnswersNotice, noticed_of};
+ghost use Rattle.check_notice.specs.Notice.{AnswersNotice, first_unaccepted, noticed_of};
 ghost use Rattle.run_check.specs.Judged.{crates_judged};
 ghost use Rattle.run_found.specs.Hearing.{seen_between};
 ghost use Rattle.run_found.specs.own_names.Given.{texts_given};
@@ -70,6 +70,7 @@ fn notice_by<I: Identifier + TextLookup>(
     identifier: &I,
     threshold: i64,
 ) -> Result<Notice, NoticeError>
+    requires { first_unaccepted (noticed_by (map record_behind krates.now) reports.now own.now) ≡ None }
     ensures { AnswersNotice
         (sources_by (texts_given (I.match_of identifier.now) (I.text_of identifier.now)) threshold)
         (noticed_by (map record_behind krates.now) reports.now own.now) result }
@@ -121,6 +122,7 @@ fn made_of<T: Tree, I: Identifier + TextLookup>(
     identifier: &I,
     tree: &mut T,
 ) -> Result<MadeNotice, AllocError>
+    requires { unaccepted_id judged.now.report.crates ≡ None }
     ensures made { IfOk result (λ made. MakesOwn judged.now
         (seen_between T.content T.fault_count T.trace tree.old tree.new)
         (IsMade (texts_given (I.match_of identifier.now) (I.text_of identifier.now)) judged.now made)) }
@@ -128,16 +130,12 @@ fn made_of<T: Tree, I: Identifier + TextLookup>(
         (seen_between T.content T.fault_count T.trace tree.old tree.new)) }
 {
     let krates = judged.checked(alloc)?;
-    let own = own_of_crates(alloc, krates.items(), tree)?;
-    let made = notice_by(
-        alloc,
-        krates.items(),
-        judged.report.crates.items(),
-        own.items(),
-        identifier,
-        judged.report.policy.confidence_threshold,
-    );
-    let reads = reads_of_own(alloc, krates.items(), own)?;
+    let listed = krates.items();
+    let own = own_of_crates(alloc, listed, tree)?;
+    let reports = judged.report.crates.items();
+    let threshold = judged.report.policy.confidence_threshold;
+    let made = notice_by(alloc, listed, reports, own.items(), identifier, threshold);
+    let reads = reads_of_own(alloc, listed, own)?;
     Ok(MadeNotice { made, own: reads })
 }
 
