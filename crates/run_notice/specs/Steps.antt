@@ -61,7 +61,8 @@ pub record LacksText (texts : TextsGiven) (judged : JudgedCrates) (id key : List
   pub own_reads_are : own_reads ≡ own_reads_told (crates_in own) (map own_of own)
 
 -- the notice of the crates by the texts that they come with, or why there is none; and the records of the reads
-pub record IsMade (texts : TextsGiven) (judged : JudgedCrates) (made : MadeNotice) (own : List ReadsOfCrate) : Type 0 where
+pub record IsMade (texts : TextsGiven) (judged : JudgedCrates) (made : MadeNotice) (own : List ReadsOfCrate)
+    : Type 0 where
   pub answers : AnswersNotice (judged_sources texts judged) (noticed_heard own judged.report.crates) made.made
   pub own_reads : made.own ≡ own_reads_told (crates_in own) (map own_of own)
 

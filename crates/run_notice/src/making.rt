@@ -87,7 +87,8 @@ fn notice_by<I: Identifier + TextLookup>(
 fn not_accepted(alloc: Global, id: Text, judged: JudgedCrates) -> Error
     ensures { RefusesUnaccepted id judged result }
 {
-    let Report { crates, .. } = judged.report;
+    let JudgedCrates { report, .. } = judged;
+    let Report { crates, .. } = report;
     match reads_of_reports(alloc, crates) {
         Ok(reads) => Error::NotAccepted { id, reads },
         Err(_) => Error::Memory,
@@ -151,7 +152,8 @@ fn notice_of_accepted<T: Tree, I: Identifier + TextLookup>(
         (seen_between T.content T.fault_count T.trace tree.old tree.new) result }
 {
     let MadeNotice { made, own } = made_of(alloc, &judged, identifier, tree)?;
-    let Report { crates, .. } = judged.report;
+    let JudgedCrates { report, .. } = judged;
+    let Report { crates, .. } = report;
     let reads = reads_of_reports(alloc, crates)?;
     match made {
         Ok(notice) => Ok(NoticedCrates { notice, reads, own }),
