@@ -37,8 +37,8 @@ returns c = λ krate at.
     let unled : c.unled.result ≡ unled_by include (led_by walks.all walks.without_dev walks.without_build place) =
     c.unled.ensures ∙ ap (unled_by include) c.led_of.ensures in
     let all : c.cause.result ≡ cause_by (is_excluded (take words choice.exclude) krate) (is_excluded (drop words choice.exclude) krate)
-        (is_unpublished_standing (standing_at (standings_in graph choice) place))
-        (unled_by include (led_by walks.all walks.without_dev walks.without_build place)) =
+    (is_unpublished_standing (standing_at (standings_in graph choice) place))
+    (unled_by include (led_by walks.all walks.without_dev walks.without_build place)) =
     c.cause.ensures
     ∙ (ap (λ b. cause_by b c.is_left_out-2.result c.is_unpublished.result c.unled.result) by_words
     ∙ (ap (λ b. cause_by (is_excluded (take words choice.exclude) krate) b c.is_unpublished.result c.unled.result) by_policy
