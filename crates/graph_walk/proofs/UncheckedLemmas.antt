@@ -1,5 +1,5 @@
 -- The cause that is told of a crate is its first, and one without a cause is selected.
-use Rattle.std.proofs.Common.{◌≡◌, ℕ, ◌<◌, ◌≤◌, ◌||◌, not, Bool, true, false, List, [], ◌∷◌, map, length, take, drop, slice_get, slice_index_or, IsTrue, is_some, if◌then◌else◌, Option, Some, None, refl, sym, ◌∙◌, ap, subst, arith}
+use Rattle.std.proofs.Common.{◌≡◌, ℕ, ◌<◌, ◌≤◌, ◌||◌, not, Bool, true, false, List, [], ◌∷◌, map, length, take, drop, slice_get, slice_index_or, is_some, if◌then◌else◌, Option, Some, None, refl, sym, ◌∙◌, ap, subst, arith}
 use Rattle.std.specs.List.{list_any}
 use Rattle.std.proofs.lemmas.List.{length-map, get_or-map}
 use Rattle.std.proofs.lemmas.Option.{get_or_from_slice_get, slice_get_within}
@@ -20,7 +20,7 @@ use Rattle.graph_walk.specs.declared.unchecked.Led.{Led}
 use Rattle.graph_walk.specs.declared.unchecked.Unchecked.{Unchecked}
 use Rattle.graph_walk.specs.declared.unchecked.Unchecked.TheVariants.{LeftOutByWords, LeftOutByPolicy, NeverPublished, OnlyDev, OnlyBuild, NotLedTo}
 use Rattle.graph_walk.specs.Shortest.{AreShortest, ShortestWalk, ids_on, walk_at}
-use Rattle.graph_walk.specs.Unchecked.{AreSelecting, HasCause, IsFirstCause, UncheckedIs, cause_by, leaves_out, led_by, number_of, unled_by}
+use Rattle.graph_walk.specs.Unchecked.{AreSelecting, HasCause, UncheckedIs, cause_by, leaves_out, led_by, number_of, unled_by}
 
 true-is-false : true ≡ false → ⊥
 true-is-false e = cc

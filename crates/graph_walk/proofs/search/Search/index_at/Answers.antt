@@ -1,5 +1,5 @@
 -- The index leads to what was found.
-use Rattle.std.proofs.Common.{◌≡◌, ◌<◌, ℕ, List, Option, length, slice_index_or, IfSome, sym, ◌∙◌, ap, subst}
+use Rattle.std.proofs.Common.{◌≡◌, ◌<◌, ℕ, List, Option, length, IfSome, sym, ◌∙◌, ap, subst}
 use Rattle.std.proofs.lemmas.List.{length-map}
 use Rattle.graph_walk.specs.declared.search.Found.{Found}
 use Rattle.graph_walk.specs.Search.{SearchView, found_walk, order_of}

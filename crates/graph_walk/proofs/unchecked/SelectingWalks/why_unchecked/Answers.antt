@@ -1,11 +1,9 @@
 -- Of what is known of the crate.
-use Rattle.std.proofs.Common.{◌≡◌, Bool, take, drop, map, Option, sym, ◌∙◌, ap, subst}
+use Rattle.std.proofs.Common.{◌≡◌, take, drop, map, sym, ◌∙◌, ap, subst}
 use Rattle.std.proofs.lemmas.List.{take-map, drop-map}
-use Rattle.graph_core.specs.Krate.{CrateRecord, record_of}
-use Rattle.graph_core.specs.declared.selection.standing.Standing.{Standing}
+use Rattle.graph_core.specs.Krate.{record_of}
 use Rattle.graph_core.specs.selection.Choice.{Choice, choice_of, exclude_spec_of, is_excluded}
 use Rattle.graph_core.specs.selection.Places.{is_unpublished_standing, standing_at, standings_in}
-use Rattle.graph_walk.specs.declared.unchecked.Unchecked.{Unchecked}
 use Rattle.graph_walk.specs.Unchecked.{UncheckedIs, cause_by, led_by, unled_by}
 use Rattle.graph_walk.proofs.UncheckedLemmas.{crate-is, told-is}
 use Rattle.graph_walk.proofs.unchecked.SelectingWalks.why_unchecked.Goals as goal
