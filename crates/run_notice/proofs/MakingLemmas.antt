@@ -1,8 +1,12 @@
 -- The notice of the crates that were judged.
-use Rattle.std.proofs.Common.{◌≡◌, ◌∙◌, ◌⊎◌, inl, inr, ℕ, true, false, cond, List, [], ◌∷◌, ◌++◌, find, length, map, slice_get, Option, Some, None, Result, Ok, Err, refl, sym, ap, subst, append-nil}
+use Rattle.std.proofs.Common.{◌≡◌, ◌∙◌, ◌⊎◌, inl, inr, ℕ, ◌+◌, ◌<◌, ◌≤◌, take, get_or, true, false, cond, List, [], ◌∷◌, ◌++◌, find, length, map, slice_get, Option, Some, None, Result, Ok, Err, refl, sym, ap, subst, append-nil}
+use Rattle.std.proofs.lemmas.List.{length-map, length-take-le, map-append, take_more}
+use Rattle.std.specs.Borrow.{Bor}
 use Rattle.std.specs.Option.{option_map}
 use Rattle.tree_core.proofs.MadeLemmas.{made_as}
 use Rattle.graph_core.specs.Krate.{CrateRecord}
+use Rattle.graph_core.specs.declared.krate.Krate.{Krate}
+use Rattle.graph_core.specs.selection.Listed.{record_behind}
 use Rattle.gather_license.specs.files.Calls.{IsFront}
 use Rattle.gather_core.specs.Calls.{ReadsOfCrate, calls_of_all}
 use Rattle.check_core.specs.declared.report.CrateReport.{CrateReport}
@@ -112,3 +116,13 @@ noticed_next (first ∷ crates) krate (report ∷ reports) [] = no_own (slice_ge
     no_own None = refl
     no_own (Some report) = refl
 noticed_next (first ∷ crates) krate (report ∷ reports) (one ∷ own) = ap (λ (rest : List NoticedCrate). noticed_as first report one.own.texts ∷ rest) (noticed_next crates krate reports own)
+
+-- the crates of lent ones, the first so many
+pub lent_next : (krates : List (Bor Krate)) (place : ℕ) (krate : Bor Krate) → place < length krates → krate ≡ get_or krates place krate
+    → map record_behind (take (place + 1) krates) ≡ map record_behind (take place krates) ++ record_behind krate ∷ []
+lent_next krates place krate within at =
+    ap (map record_behind) (take_more krates place krate within ∙ ap (λ (one : Bor Krate). take place krates ++ one ∷ []) (sym at))
+    ∙ map-append record_behind (take place krates) (krate ∷ [])
+
+pub lent_count : (krates : List (Bor Krate)) (place : ℕ) → place ≤ length krates → place ≡ length (map record_behind (take place krates))
+lent_count krates place within = sym (length-map (take place krates) record_behind ∙ length-take-le place krates within)
