@@ -24,11 +24,11 @@ crates-preserved g c =
     let krates = c.args.krates.now in
     let item = c.krate-item.result in
     let so_far = map record_behind (take place krates) in
-    let tree = tree_seen (g.T.Tree.content c.args.tree.now) (g.T.Tree.content c.own_texts-own.new.tree) (g.T.Tree.fault_count c.args.tree.now) (g.T.Tree.fault_count c.own_texts-own.new.tree)
-    (g.T.Tree.trace c.args.tree.now) (g.T.Tree.trace c.own_texts-own.new.tree) in
+    let tree = tree_seen (g.T.Tree.content c.args.tree.now) (g.T.Tree.content c.own_texts.new.tree) (g.T.Tree.fault_count c.args.tree.now) (g.T.Tree.fault_count c.own_texts.new.tree)
+    (g.T.Tree.trace c.args.tree.now) (g.T.Tree.trace c.own_texts.new.tree) in
     let more : map record_behind (take (place + 1) krates) ≡ so_far ++ record_behind item ∷ [] =
     ap (map record_behind) (take_more krates place item c.crates-test.true ∙ ap (λ one. take place krates ++ one ∷ []) (sym c.krate-item.is)) ∙ map_push record_behind (take place krates) item in
-    let pushed = c.in_ok-push.ensures.ok ∙ ap (λ id. c.crates.texts ++ record { id = id; own = c.in_ok-own.own } ∷ []) c.in_ok-id.ensures in
+    let pushed = c.in_ok-push.ensures.ok ∙ ap (λ id. c.crates.texts ++ record { id = id; own = c.in_ok-own.own } ∷ []) (c.in_ok-id.ensures ∙ c.as_str.ensures) in
     subst (λ (crates : List CrateRecord). HaveOwnTexts crates tree c.push.new.self) (sym more)
     (subst (HaveOwnTexts (so_far ++ record_behind item ∷ []) tree) (sym pushed) (have_more so_far (record_behind item) c.crates.texts c.crates.invariant c.in_ok-own.own c.in_ok-own.ensures.own))
 
