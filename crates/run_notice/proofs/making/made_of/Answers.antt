@@ -1,11 +1,12 @@
-use Rattle.std.proofs.Common.{◌≡◌, ◌∙◌, inr, List, map, [], ap, sym, append-nil, subst}
+use Rattle.std.proofs.Common.{◌≡◌, ◌∙◌, ℤ, inr, List, map, [], ap, rules, SFits, sym, append-nil, subst, w64}
+use Rattle.std.proofs.lemmas.Int.{to_z-of_z}
 use Rattle.graph_core.specs.selection.Listed.{record_behind}
 use Rattle.gather_license.proofs.files.CallLemmas.{on_err}
 use Rattle.check_notice.specs.Notice.{AnswersNotice}
 use Rattle.run_found.specs.Hearing.{seen_between}
 use Rattle.run_found.specs.own_names.Given.{texts_given}
 use Rattle.run_check.specs.Judged.{crates_judged}
-use Rattle.run_notice.specs.Noticed.{unaccepted_id}
+use Rattle.run_notice.specs.Noticed.{sources_by, unaccepted_id}
 use Rattle.run_notice.specs.Steps.{judged_sources, noticed_by}
 use Rattle.run_notice.proofs.MakingLemmas.{all_accepted, made_by}
 use Rattle.run_notice.proofs.OwnLemmas.{cut_behind}
@@ -30,7 +31,10 @@ returns-clause-made g c =
     let crates : listed ≡ crates_judged judged = ap (map record_behind) c.items-listed.ensures ∙ c.in_ok-krates.ensures in
     let reports : c.items-reports.result.now ≡ judged.report.crates = c.items-reports.ensures in
     let own : c.items.result.now ≡ c.in_ok-own.own = c.items.ensures in
-    let answers : AnswersNotice (judged_sources texts judged) (noticed_by listed c.items-reports.result.now c.items.result.now) c.notice_by-made.result = c.notice_by-made.ensures in
+    let threshold = judged.report.policy.confidence_threshold in
+    let fits : SFits w64 threshold = search rules in
+    let answers : AnswersNotice (judged_sources texts judged) (noticed_by listed c.items-reports.result.now c.items.result.now) c.notice_by-made.result =
+        subst (λ (cut : ℤ). AnswersNotice (sources_by texts cut) (noticed_by listed c.items-reports.result.now c.items.result.now) c.notice_by-made.result) (to_z-of_z w64 threshold fits) c.notice_by-made.ensures in
     made_by texts judged
     (seen_between g.T.Tree.content g.T.Tree.fault_count g.T.Tree.trace c.args.tree.now c.own_of_crates.new.tree)
     listed c.in_ok-own.own
