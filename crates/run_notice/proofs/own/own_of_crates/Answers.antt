@@ -6,7 +6,6 @@ use Rattle.gather_license.proofs.files.CallLemmas.{on_err}
 use Rattle.gather_core.proofs.GatheredLemmas.{map_push}
 use Rattle.gather_core.proofs.TurnCalls.{front_next}
 use Rattle.run_found.specs.Hearing.{tree_seen}
-use Rattle.run_notice.specs.declared.own.CrateTexts.{CrateTexts}
 use Rattle.run_notice.specs.Own.{HaveOwnTexts}
 use Rattle.run_notice.proofs.OwnLemmas.{cut_behind, cut_next, front_so_far, have_more, have_none}
 use Rattle.run_notice.proofs.own.own_of_crates.Goals as goal

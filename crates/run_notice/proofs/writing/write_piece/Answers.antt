@@ -1,4 +1,4 @@
-use Rattle.std.proofs.Common.{◌≡◌, ◌++◌, List, ℕ, sym, subst, ◌∙◌}
+use Rattle.std.proofs.Common.{List, ℕ, subst, ◌∙◌}
 use Rattle.tree_core.specs.Faults.{Gained, GainedPrefix}
 use Rattle.gather_license.proofs.files.CallLemmas.{on_err}
 use Rattle.run_notice.proofs.WritingLemmas.{gained_front}
