@@ -1,5 +1,5 @@
 -- The notice of the crates that were judged.
-use Rattle.std.proofs.Common.{◌≡◌, ◌∙◌, ◌⊎◌, inl, inr, ℕ, ◌+◌, ◌<◌, ◌≤◌, take, get_or, true, false, cond, List, [], ◌∷◌, ◌++◌, find, length, map, slice_get, Option, Some, None, Result, Ok, Err, refl, sym, ap, subst, append-nil}
+use Rattle.std.proofs.Common.{◌≡◌, ◌∙◌, inl, inr, ℕ, ◌+◌, ◌<◌, ◌≤◌, take, get_or, true, false, cond, List, [], ◌∷◌, ◌++◌, find, length, map, slice_get, Option, Some, None, Err, refl, sym, ap, subst, append-nil}
 use Rattle.std.proofs.lemmas.List.{length-map, length-take-le, map-append, take_more}
 use Rattle.std.specs.Borrow.{Bor}
 use Rattle.std.specs.Option.{option_map}
@@ -7,21 +7,17 @@ use Rattle.tree_core.proofs.MadeLemmas.{made_as}
 use Rattle.graph_core.specs.Krate.{CrateRecord}
 use Rattle.graph_core.specs.declared.krate.Krate.{Krate}
 use Rattle.graph_core.specs.selection.Listed.{record_behind}
-use Rattle.gather_license.specs.files.Calls.{IsFront}
 use Rattle.gather_core.specs.Calls.{ReadsOfCrate, calls_of_all}
 use Rattle.check_core.specs.declared.report.CrateReport.{CrateReport}
-use Rattle.check_notice.specs.declared.notice.NoticeError.TheVariants as notices
 use Rattle.check_notice.specs.Notice.{AnswersNotice, NoticedCrate, first_unaccepted, is_against, is_unaccepted, noticed_as}
 use Rattle.run_found.specs.declared.error.Error.{Error}
-use Rattle.run_found.specs.declared.error.Error.TheVariants.{Memory, NotAccepted, NoText}
+use Rattle.run_found.specs.declared.error.Error.TheVariants.{Memory, NotAccepted}
 use Rattle.run_found.specs.declared.reads.CrateRead.{CrateRead}
 use Rattle.run_found.specs.Hearing.{MadeOn, TreeSeen}
 use Rattle.run_found.specs.own_names.Given.{TextsGiven}
 use Rattle.run_check.specs.declared.judged.JudgedCrates.{JudgedCrates}
 use Rattle.run_check.specs.Judged.{crates_judged}
-use Rattle.run_check.specs.Reads.{reads_told}
 use Rattle.run_notice.specs.declared.making.MadeNotice.{MadeNotice}
-use Rattle.run_notice.specs.declared.noticed.NoticedCrates.{NoticedCrates}
 use Rattle.run_notice.specs.declared.own.CrateTexts.{CrateTexts}
 use Rattle.run_notice.specs.Noticed.{noticed_heard, unaccepted_id}
 use Rattle.run_notice.specs.Own.{AreOwnReads, HaveOwnTexts, crates_in, own_heard, own_of, own_read_told, read_kept}

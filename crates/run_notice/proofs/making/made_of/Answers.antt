@@ -1,4 +1,4 @@
-use Rattle.std.proofs.Common.{◌≡◌, ◌∙◌, ℤ, inr, List, map, [], ap, rules, SFits, sym, append-nil, subst, w64}
+use Rattle.std.proofs.Common.{◌≡◌, ◌∙◌, ℤ, inr, map, [], ap, rules, SFits, sym, append-nil, subst, w64}
 use Rattle.std.proofs.lemmas.Int.{to_z-of_z}
 use Rattle.graph_core.specs.selection.Listed.{record_behind}
 use Rattle.gather_license.proofs.files.CallLemmas.{on_err}
@@ -34,7 +34,7 @@ returns-clause-made g c =
     let threshold = judged.report.policy.confidence_threshold in
     let fits : SFits w64 threshold = search rules in
     let answers : AnswersNotice (judged_sources texts judged) (noticed_by listed c.items-reports.result.now c.items.result.now) c.notice_by-made.result =
-        subst (λ (cut : ℤ). AnswersNotice (sources_by texts cut) (noticed_by listed c.items-reports.result.now c.items.result.now) c.notice_by-made.result) (to_z-of_z w64 threshold fits) c.notice_by-made.ensures in
+    subst (λ (cut : ℤ). AnswersNotice (sources_by texts cut) (noticed_by listed c.items-reports.result.now c.items.result.now) c.notice_by-made.result) (to_z-of_z w64 threshold fits) c.notice_by-made.ensures in
     made_by texts judged
     (seen_between g.T.Tree.content g.T.Tree.fault_count g.T.Tree.trace c.args.tree.now c.own_of_crates.new.tree)
     listed c.in_ok-own.own

@@ -1,8 +1,7 @@
-use Rattle.std.proofs.Common.{◌≡◌, ◌∙◌, ◌<◌, ◌≤◌, ℕ, List, map, take, length, slice_get, ap, arith, sym, rules, ◌++◌}
+use Rattle.std.proofs.Common.{◌≡◌, ◌∙◌, ◌<◌, map, take, length, slice_get, ap, arith, sym, rules, ◌++◌}
 use Rattle.std.specs.Option.{option_copied}
 use Rattle.graph_core.specs.Krate.{record_of}
 use Rattle.graph_core.specs.selection.Listed.{record_behind}
-use Rattle.check_notice.specs.Notice.{noticed_of}
 use Rattle.check_notice.proofs.FindLemmas.{item_at}
 use Rattle.run_notice.specs.Steps.{noticed_by, source_at}
 use Rattle.run_notice.proofs.MakingLemmas.{lent_count, lent_next, noticed_next}
@@ -18,9 +17,9 @@ crates-preserved c =
     let within : place < length krates = search rules in
     let at : place ≡ length (map record_behind (take place krates)) = lent_count krates place (omega (arith, within)) in
     let report : option_copied c.get.result ≡ slice_get reports (length (map record_behind (take place krates))) =
-        item_at reports place c.get.result c.get.ensures.lookup ∙ ap (slice_get reports) at in
+    item_at reports place c.get.result c.get.ensures.lookup ∙ ap (slice_get reports) at in
     let texts : option_copied c.get-in-crates.result ≡ slice_get own (length (map record_behind (take place krates))) =
-        item_at own place c.get-in-crates.result c.get-in-crates.ensures.lookup ∙ ap (slice_get own) at in
+    item_at own place c.get-in-crates.result c.get-in-crates.ensures.lookup ∙ ap (slice_get own) at in
     c.in_ok-push_source.ensures
     ∙ ap (λ so_far. so_far ++ source_at (record_of krate.now) (option_copied c.get.result) (option_copied c.get-in-crates.result)) c.crates.invariant
     ∙ ap (λ found. noticed_by (map record_behind (take place krates)) reports own ++ source_at (record_of krate.now) found (option_copied c.get-in-crates.result)) report
