@@ -1,3 +1,0 @@
-pub mod Shortest
-pub mod Search
-pub mod Unchecked
