@@ -23,7 +23,7 @@ use Rattle.run_notice.specs.Noticed.{noticed_heard, unaccepted_id}
 use Rattle.run_notice.specs.Own.{AreOwnReads, HaveOwnTexts, crates_in, own_heard, own_of, own_read_told, read_kept}
 use Rattle.run_notice.specs.Steps.{IsMade, LacksOwn, MakesNotice, MakesOwn, RefusesUnaccepted, judged_sources, noticed_by, source_at}
 
--- by the texts that the answers tell, crates are noticed as they are heard
+-- by the texts that the answers give, crates are listed as they are read
 noticed_same : (own : List ReadsOfCrate) (reports : List CrateReport) → noticed_by (crates_in own) reports (map own_of own) ≡ noticed_heard own reports
 noticed_same [] reports = refl
 noticed_same (one ∷ own) [] = refl
