@@ -53,12 +53,12 @@ impl Model for DiagPrinter {
     ghost invariant = { λ printer. severity_of_filter printer.context.log_level ≡ Some printer.least };
 }
 
-/// Makes the indexes of the files that labels point into.
+/// Makes the indexes of the files that many labels point into.
 fn index_labels(labels: &[Label], files: &mut Files)
     ensures { files.new ≡ files.old }
 {
     'labels: for label in labels {
-        files.index(label.file_id);
+        files.count_label(label.file_id);
     }
 }
 

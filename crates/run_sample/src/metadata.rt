@@ -6,6 +6,7 @@ ghost use Rattle.run_sample.specs.Metadata.{comma_before, edge_text, license_tex
 ghost use Rattle.run_sample.specs.Metadata.{package_head, package_tail, package_text, sample_metadata};
 
 use std::alloc::{AllocError, Global};
+use std::fmt::Write;
 
 /// The field `license` of a crate, as JSON.
 fn license_text(remainder: u32) -> &'static str
