@@ -263,7 +263,8 @@ impl Files {
         Ok(self.file(id)?.name())
     }
 
-    /// The number of the file that is found by the path, and the path's key where there is memory for it.
+    /// The number of the file that is found by the path, and the path's key where there is memory for it: by that
+    /// `add_new` adds the file where there is none.
     pub fn looked_up(&self, path: &str) -> (Option<FileId>, Result<Text, AllocError>)
         ensures number { result.0 ≡ file_id_at self.now path.now }
         ensures key { IfOk result.1 (λ key. key ≡ key_of path.now) }

@@ -84,7 +84,8 @@ fn push_line(words: &mut Vec<u8>, line: &[u8]) -> Result<(), AllocError>
 fn written_words(alloc: Global, text: &str) -> Result<Vec<u8>, AllocError>
     ensures { IfOk result (λ words. str_to_ascii_lowercase words.items ≡ words_with_spaces (words_of text.now)) }
 {
-    let mut words = Vec::new(alloc);
+    // They take about as many bytes as the text.
+    let mut words = Vec::with_capacity(alloc, text.len())?;
     'lines: for line in text.split('\n') {
         push_line(&mut words, line.as_bytes())?;
     }
