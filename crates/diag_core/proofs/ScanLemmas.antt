@@ -108,11 +108,11 @@ goes_on_in_line text from (suc n) early within none =
     elim (cases_lt n from) [
       | inl lt ↦ ap (λ k. line_start text (line_of text k)) {x = suc n} {y = from} (omega arith)
       | inr ge ↦
-        let later : from ≤ n = omega arith in
-        let other : is_line_feed (get_or text n 0) ≡ false = not_true_false (is_line_feed (get_or text n 0)) (none n later (omega arith)) in
-        line_start_next text n 0 (omega arith)
-        ∙ ap (λ b. cond b (suc n) (line_start text (line_of text n))) other
-        ∙ goes_on_in_line text from n later (omega arith) (λ k low high. none k low (omega arith))
+          let later : from ≤ n = omega arith in
+          let other : is_line_feed (get_or text n 0) ≡ false = not_true_false (is_line_feed (get_or text n 0)) (none n later (omega arith)) in
+          line_start_next text n 0 (omega arith)
+          ∙ ap (λ b. cond b (suc n) (line_start text (line_of text n))) other
+          ∙ goes_on_in_line text from n later (omega arith) (λ k low high. none k low (omega arith))
     ]
 
 -- the bytes before a place
@@ -130,7 +130,7 @@ module _ (text : List ℕ) (n : ℕ) (within : n ≤ length text) (front : List 
       let feed_is : is_line_feed (get_or text feed 0) ≡ true = ap is_line_feed (sym (byte_at feed early)) ∙ is in
       let start : line_start text (line_of text (suc feed)) ≡ suc feed = line_start_next text feed 0 (omega arith) ∙ ap (λ b. cond b (suc feed) (line_start text (line_of text feed))) feed_is in
       let none : (k : ℕ) → suc feed ≤ k → k < n → ¬ (is_line_feed (get_or text k 0) ≡ true) =
-        λ k low high yes. last.after k (omega arith) (omega (arith, long)) (ap is_line_feed (byte_at k high) ∙ yes) in
+      λ k low high yes. last.after k (omega arith) (omega (arith, long)) (ap is_line_feed (byte_at k high) ∙ yes) in
       add-one feed ∙ sym (goes_on_in_line text (suc feed) n (omega arith) within none ∙ start)
 
   -- without a line feed before the place its line is the first

@@ -135,12 +135,7 @@ impl Files {
     }
 
     /// Adds a file by its path, which finds none so far, and by the key of the path.
-    pub fn add_new(
-        &mut self,
-        key: Text,
-        path: PathBuf,
-        source: Text,
-    ) -> Result<FileId, AllocError>
+    pub fn add_new(&mut self, key: Text, path: PathBuf, source: Text) -> Result<FileId, AllocError>
         requires key { key ≡ key_of path }
         requires unknown { file_id_at self.old path ≡ None }
         ensures number { IfOk result (λ id. id ≡ length self.old) }
