@@ -1,5 +1,5 @@
 -- Lines and columns, one byte after another.
-use Rattle.std.proofs.Common.{◌≡◌, add-one, inl, inr, ◌∙◌, refl, sym, ap, ap₂, ℕ, zero, suc, ◌+◌, ◌-◌, ◌<◌, ◌≤◌, Bool, true, false, cond, ◌&&◌, List, [], ◌∷◌, length, get_or, take, drop, length-take, drop-cons, Option, Some, None, arith}
+use Rattle.std.proofs.Common.{◌≡◌, add-one, inl, inr, ◌∙◌, refl, sym, ap, ap₂, ℕ, zero, suc, ◌+◌, ◌-◌, ◌<◌, ◌≤◌, Bool, true, false, cond, ◌&&◌, List, [], ◌∷◌, length, get_or, take, drop, drop-cons, Option, arith}
 use Rattle.memchr.specs.Find.{NoneAfter, Nowhere, Passes, is_byte}
 use Rattle.std.specs.Prelude.{slice_get, if◌then◌else◌, nat_lt}
 use Rattle.std.specs.List.{count_by}
