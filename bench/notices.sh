@@ -14,7 +14,7 @@ printf '[licenses]\nallow = ["MIT"]\n' > deny.toml
 
 # Metadata of that many crates, each with a field of so many terms, or none. Each crate leads to the next.
 metadata() {
-    awk -v folder="$work" -v n="$1" -v terms="$2" '
+    awk -v n="$1" -v terms="$2" -v folder="$work" '
         function id(i) { return sprintf("c%d 1.0.0", i) }
         BEGIN {
             field = terms ? "\"MIT" : "null"
