@@ -1,14 +1,15 @@
 -- Lines and columns, one byte after another.
-use Rattle.std.proofs.Common.{◌≡◌, ◌∙◌, refl, sym, ap, ap₂, ℕ, zero, suc, ◌+◌, ◌-◌, ◌<◌, ◌≤◌, Bool, true, false, cond, ◌&&◌, List, [], ◌∷◌, length, get_or, take, drop, length-take, drop-cons, Option, Some, None, arith}
+use Rattle.std.proofs.Common.{◌≡◌, add-one, inl, inr, ◌∙◌, refl, sym, ap, ap₂, ℕ, zero, suc, ◌+◌, ◌-◌, ◌<◌, ◌≤◌, Bool, true, false, cond, ◌&&◌, List, [], ◌∷◌, length, get_or, take, drop, drop-cons, Option, arith}
+use Rattle.memchr.specs.Find.{NoneAfter, Nowhere, Passes, is_byte}
 use Rattle.std.specs.Prelude.{slice_get, if◌then◌else◌, nat_lt}
-use Rattle.std.specs.List.{count_by, slice_range}
+use Rattle.std.specs.List.{count_by}
+use Rattle.std.proofs.lemmas.Bool.{cases_lt}
 use Rattle.std.proofs.lemmas.Bool.Decides.{nat_tests}
+use Rattle.std.proofs.lemmas.List.{get_or-take, length-take-le}
 use Rattle.std.proofs.lemmas.List.Sums.{count_by-le-length}
 use Rattle.diag_core.specs.declared.line_scan.LineSearch.{LineSearch}
-use Rattle.diag_core.specs.declared.position.Location.{Location}
-use Rattle.diag_core.specs.Lines.{location_after, search_after}
-use Rattle.diag_core.specs.Position.{is_line_feed, begins_character, line_of, line_starts, line_start, column_of, places_behind_line_feeds}
-use Rattle.diag_core.proofs.BlockLemmas.{count_split}
+use Rattle.diag_core.specs.Lines.{search_after}
+use Rattle.diag_core.specs.Position.{is_line_feed, line_of, line_starts, line_start, places_behind_line_feeds}
 use Rattle.diag_core.proofs.PositionLemmas.{count_by-cons, count_by-yes, count_by-no}
 
 -- so many items pass up to the next place
@@ -82,7 +83,7 @@ cond_within true high low le = omega arith
 cond_within false high low le = le
 
 -- a line starts at or before its places
-line_start_within : (text : List ℕ) (n : ℕ) → n ≤ length text → line_start text (line_of text n) ≤ n
+pub line_start_within : (text : List ℕ) (n : ℕ) → n ≤ length text → line_start text (line_of text n) ≤ n
 unfolding line_starts
 line_start_within text zero within = omega arith
 line_start_within text (suc n) within =
@@ -91,65 +92,55 @@ line_start_within text (suc n) within =
     let all = cond_within (is_line_feed (get_or text n 0)) (suc n) (line_start text (line_of text n)) before in
     omega (arith, next, all)
 
-module _ (text : List ℕ) (n d : ℕ) (within : n < length text) where
-  pub line_next : line_of text (suc n) ≡ line_of text n + cond {A = ℕ} (is_line_feed (get_or text n d)) 1 0
-  line_next = count_next is_line_feed text n d within
-
-  column_by : (feed : Bool) → is_line_feed (get_or text n d) ≡ feed → column_of text (suc n) ≡ cond feed 0 (column_of text n + cond {A = ℕ} (begins_character (get_or text n d)) 1 0)
-  column_by true is =
-      let start : line_start text (line_of text (suc n)) ≡ suc n = line_start_next text n d within ∙ ap (λ b. cond b (suc n) (line_start text (line_of text n))) is in
-      let none = count_split begins_character text (suc n) (suc n) (omega arith) (omega arith) in
-      ap (λ from. count_by begins_character (slice_range text from (suc n))) start ∙ omega (arith, none)
-  column_by false is =
-      let from = line_start text (line_of text n) in
-      let start : line_start text (line_of text (suc n)) ≡ from = line_start_next text n d within ∙ ap (λ b. cond b (suc n) from) is in
-      let early = line_start_within text n (omega arith) in
-      let long = count_split begins_character text from (suc n) (omega (arith, early)) (omega arith) in
-      let short = count_split begins_character text from n early (omega arith) in
-      let more = count_next begins_character text n d within in
-      ap (λ from. count_by begins_character (slice_range text from (suc n))) start ∙ omega (arith, long, short, more)
-
-  pub column_next : column_of text (suc n) ≡ cond (is_line_feed (get_or text n d)) 0 (column_of text n + cond {A = ℕ} (begins_character (get_or text n d)) 1 0)
-  column_next = column_by (is_line_feed (get_or text n d)) refl
-
--- there are no more line feeds than bytes, and no more lines and columns before a place
+-- there are no more line feeds than bytes
 pub feeds_within : (text : List ℕ) → count_by is_line_feed text ≤ length text
 feeds_within text = count_by-le-length is_line_feed text
 
-pub line_within : (text : List ℕ) (n : ℕ) → n ≤ length text → line_of text n ≤ n
-line_within text n within = omega (arith, count_by-le-length is_line_feed (take n text), length-take n text)
+not_true_false : (b : Bool) → ¬ (b ≡ true) → b ≡ false
+not_true_false true never = absurd (never refl)
+not_true_false false never = refl
 
-pub column_within : (text : List ℕ) (n : ℕ) → n ≤ length text → column_of text n ≤ n
-column_within text n within =
-    let early = line_start_within text n within in
-    let parts = count_split begins_character text (line_start text (line_of text n)) n early within in
-    omega (arith, parts, count_by-le-length begins_character (take n text), length-take n text)
+-- without a line feed from an earlier place on, the line is still that of the earlier place
+goes_on_in_line : (text : List ℕ) (from n : ℕ) → from ≤ n → n ≤ length text → ((k : ℕ) → from ≤ k → k < n → ¬ (is_line_feed (get_or text k 0) ≡ true))
+    → line_start text (line_of text n) ≡ line_start text (line_of text from)
+goes_on_in_line text from zero early within none = ap (λ k. line_start text (line_of text k)) {x = zero} {y = from} (omega arith)
+goes_on_in_line text from (suc n) early within none =
+    elim (cases_lt n from) [
+      | inl lt ↦ ap (λ k. line_start text (line_of text k)) {x = suc n} {y = from} (omega arith)
+      | inr ge ↦
+          let later : from ≤ n = omega arith in
+          let other : is_line_feed (get_or text n 0) ≡ false = not_true_false (is_line_feed (get_or text n 0)) (none n later (omega arith)) in
+          line_start_next text n 0 (omega arith)
+          ∙ ap (λ b. cond b (suc n) (line_start text (line_of text n))) other
+          ∙ goes_on_in_line text from n later (omega arith) (λ k low high. none k low (omega arith))
+    ]
 
-moved : (feed begins : Bool) (at : Location) (line column : ℕ) → line ≡ at.line + cond {A = ℕ} feed 1 0 → column ≡ cond feed 0 (at.column + cond {A = ℕ} begins 1 0)
-    → let new : Location = if feed then record { line = at.line + 1; column = 0 } else (if begins then record { line = at.line; column = at.column + 1 } else at) in (new.line ≡ line) × (new.column ≡ column)
-moved true begins at line column l c = (sym l, sym c)
-moved false true at line column l c = (omega (arith, l), sym c)
-moved false false at line column l c = (omega (arith, l), omega (arith, c))
+-- the bytes before a place
+module _ (text : List ℕ) (n : ℕ) (within : n ≤ length text) (front : List ℕ) (is_front : front ≡ take n text) where
+  long : length front ≡ n
+  long = ap length is_front ∙ length-take-le n text within
 
--- a place leads to that of the next byte
-pub behind_next : (text : List ℕ) (n d : ℕ) (at : Location) → n < length text → at.line ≡ line_of text n → at.column ≡ column_of text n
-    → ((location_after at (get_or text n d)).line ≡ line_of text (suc n)) × ((location_after at (get_or text n d)).column ≡ column_of text (suc n))
-behind_next text n d at within line column =
-    let byte = get_or text n d in
-    moved (is_line_feed byte) (begins_character byte) at _ _
-    (line_next text n d within ∙ ap (λ k. k + cond {A = ℕ} (is_line_feed byte) 1 0) (sym line))
-    (column_next text n d within ∙ ap (λ k. cond (is_line_feed byte) 0 (k + cond {A = ℕ} (begins_character byte) 1 0)) (sym column))
+  byte_at : (k : ℕ) → k < n → get_or front k 0 ≡ get_or text k 0
+  byte_at k lt = ap (λ (bytes : List ℕ). get_or bytes k 0) is_front ∙ get_or-take n text k 0 lt
+
+  -- behind the last line feed before the place its line starts
+  pub start_behind : (feed : ℕ) → NoneAfter (Passes (is_byte 10) front) 0 (length front) feed → Passes (is_byte 10) front feed → feed + 1 ≡ line_start text (line_of text n)
+  start_behind feed last is =
+      let early : feed < n = omega (arith, last.high, long) in
+      let feed_is : is_line_feed (get_or text feed 0) ≡ true = ap is_line_feed (sym (byte_at feed early)) ∙ is in
+      let start : line_start text (line_of text (suc feed)) ≡ suc feed = line_start_next text feed 0 (omega arith) ∙ ap (λ b. cond b (suc feed) (line_start text (line_of text feed))) feed_is in
+      let none : (k : ℕ) → suc feed ≤ k → k < n → ¬ (is_line_feed (get_or text k 0) ≡ true) =
+      λ k low high yes. last.after k (omega arith) (omega (arith, long)) (ap is_line_feed (byte_at k high) ∙ yes) in
+      add-one feed ∙ sym (goes_on_in_line text (suc feed) n (omega arith) within none ∙ start)
+
+  -- without a line feed before the place its line is the first
+  pub start_of_first : Nowhere (Passes (is_byte 10) front) 0 (length front) → 0 ≡ line_start text (line_of text n)
+  unfolding line_starts
+  start_of_first nowhere =
+      sym (goes_on_in_line text 0 n (omega arith) within (λ k low high yes. nowhere k low (omega (arith, long)) (ap is_line_feed (byte_at k high) ∙ yes)))
 
 positive : (k : ℕ) → nat_lt 0 (suc k) ≡ true
 positive k = grind (arith, nat_tests)
-
--- the same, counted as the code does
-pub behind_more : (text : List ℕ) (n d : ℕ) (at : Location) → n < length text → at.line ≡ line_of text n → at.column ≡ column_of text n
-    → ((location_after at (get_or text n d)).line ≡ line_of text (n + 1)) × ((location_after at (get_or text n d)).column ≡ column_of text (n + 1))
-behind_more text n d at within line column =
-    let one : n + 1 ≡ suc n = omega arith in
-    let next = behind_next text n d at within line column in
-    (next.0 ∙ ap (line_of text) (sym one), next.1 ∙ ap (column_of text) (sym one))
 
 goes_on : (start left n : ℕ) (rest : List ℕ) (feed : Bool) (wanted : Option ℕ)
     → slice_get (start ∷ cond feed (suc n ∷ places_behind_line_feeds (suc n) rest) (places_behind_line_feeds (suc n) rest)) left ≡ wanted

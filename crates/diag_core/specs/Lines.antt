@@ -1,8 +1,7 @@
--- What a search in the starts of the lines finds, and how a place moves on by a byte.
+-- What a search in the starts of the lines finds, and how a search for a start moves on by a byte.
 use Rattle.std.specs.Prelude.{◌≡◌, ℕ, ◌+◌, ◌-◌, ◌<◌, ◌≤◌, ◌&&◌, nat_lt, List, if◌then◌else◌}
 use Rattle.diag_core.specs.declared.line_scan.LineSearch.{LineSearch}
-use Rattle.diag_core.specs.declared.position.Location.{Location}
-use Rattle.diag_core.specs.Position.{line_of, line_count, line_start, is_line_feed, begins_character}
+use Rattle.diag_core.specs.Position.{line_of, line_count, line_start, is_line_feed}
 
 -- so many lines start at or before the place: its own line is the last of them
 pub record FoundLine (text : List ℕ) (place count : ℕ) : Type 0 where
@@ -10,12 +9,6 @@ pub record FoundLine (text : List ℕ) (place count : ℕ) : Type 0 where
   pub within : count ≤ line_count text
   pub line : line_of text place + 1 ≡ count
   pub start : line_start text (count - 1) ≤ place
-
--- behind a line feed a line begins; behind another byte that begins a character, the next column
-abbrev pub location_after : Location → ℕ → Location
-location_after at byte =
-    if is_line_feed byte then record { line = at.line + 1; column = 0 }
-    else (if begins_character byte then record { line = at.line; column = at.column + 1 } else at)
 
 -- a line that is still to come starts behind a line feed
 abbrev pub search_after : LineSearch → ℕ → ℕ → LineSearch

@@ -13,7 +13,7 @@ pub(crate) fn begins_character(byte: u8) -> bool
 }
 
 /// How many characters begin in the bytes: where all are ASCII, one in each.
-fn character_count(bytes: &[u8]) -> usize
+pub(crate) fn character_count(bytes: &[u8]) -> usize
     ensures { result ≡ count_by begins bytes.now }
 {
     if bytes.is_ascii() {

@@ -80,6 +80,14 @@ fn make_index_at(files: &mut Vec<SourceFile>, id: FileId, alloc: Global)
     files[id].make_index(alloc);
 }
 
+/// Counts a label that points into a file, which is seen as it was.
+fn count_label_at(files: &mut Vec<SourceFile>, id: FileId, alloc: Global)
+    requires { id < length files.old.items }
+    ensures { files.new.items ≡ files.old.items }
+{
+    files[id].count_label(alloc);
+}
+
 /// The place of the licence field of a file, which is seen as it was.
 fn license_span_at(files: &mut Vec<SourceFile>, id: FileId) -> Option<Span>
     requires { id < length files.old.items }
@@ -122,13 +130,26 @@ impl Files {
         if there.is_some() {
             return Err(AddError::PathTaken(path, source));
         }
-        let key = key?;
+        let id = self.add_new(key?, path, source)?;
+        Ok(id)
+    }
+
+    /// Adds a file by its path, which finds none so far, and by the key of the path.
+    pub fn add_new(&mut self, key: Text, path: PathBuf, source: Text) -> Result<FileId, AllocError>
+        requires key { key ≡ key_of path }
+        requires unknown { file_id_at self.old path ≡ None }
+        ensures number { IfOk result (λ id. id ≡ length self.old) }
+        ensures ok { OnOk result (self.new
+            ≡ self.old ++ record { name = path; source = source; has_path = true } ∷ []) }
+        ensures fits { OnOk result (length source < 2 ^ 64) }
+        ensures err { OnErr result (self.new ≡ self.old) }
+    {
         let id = append(&mut self.files, FileName::Path(path), source)?;
         match self.ids.insert(key, id) {
             Ok(_) => Ok(id),
             Err(_) => {
                 self.files.truncate(id);
-                Err(AddError::Memory)
+                Err(AllocError)
             }
         }
     }
@@ -184,6 +205,16 @@ impl Files {
         }
     }
 
+    /// Says that a label points into a file. The index of its lines is made once many do, where there is memory for
+    /// it: a few places are found as fast without one.
+    pub fn count_label(&mut self, id: FileId)
+        ensures { self.new ≡ self.old }
+    {
+        if id < self.files.len() {
+            count_label_at(&mut self.files, id, self.alloc);
+        }
+    }
+
     /// The place of the licence field of a file, as in a manifest; none where there is no such file. A file is
     /// searched once.
     pub fn license_span(&mut self, id: FileId) -> Option<Span>
@@ -227,8 +258,9 @@ impl Files {
         Ok(self.file(id)?.name())
     }
 
-    /// The number of the file that is found by the path, and the path's key where there is memory for it.
-    fn looked_up(&self, path: &str) -> (Option<FileId>, Result<Text, AllocError>)
+    /// The number of the file that is found by the path, and the path's key where there is memory for it: by that
+    /// `add_new` adds the file where there is none.
+    pub fn looked_up(&self, path: &str) -> (Option<FileId>, Result<Text, AllocError>)
         ensures number { result.0 ≡ file_id_at self.now path.now }
         ensures key { IfOk result.1 (λ key. key ≡ key_of path.now) }
     {

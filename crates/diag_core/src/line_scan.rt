@@ -1,46 +1,37 @@
-//! Lines and columns of a text without an index: all that is before a place is gone over.
+//! Lines and columns of a text without an index: all that is before a place is searched for line feeds.
 ghost use Rattle.std.specs.Prelude.{◌≡◌, ◌<◌, ◌≤◌, ◌+◌, ◌^◌, ◌∷◌, [], length, count_by, slice_get};
-ghost use Rattle.diag_core.specs.Position.{line_of, line_end, line_range_of, column_of, is_line_feed};
+ghost use Rattle.diag_core.specs.Position.{line_of, line_start, line_end, line_range_of, column_of, is_line_feed};
 ghost use Rattle.diag_core.specs.Position.{line_starts};
-ghost use Rattle.diag_core.specs.Lines.{location_after, search_after};
+ghost use Rattle.diag_core.specs.Lines.{search_after};
 
-use crate::characters::begins_character;
+use crate::characters::character_count;
 use crate::position::{FilesErr, Location};
 use deny_text::Span;
+use memchr::{memchr_iter, memrchr};
 
-/// Where the byte behind a place is.
-fn behind(at: Location, byte: u8) -> Location
-    requires line { at.line + 1 < 2 ^ 64 }
-    requires column { at.column + 1 < 2 ^ 64 }
-    ensures { result ≡ location_after at byte }
+/// Where the line of a place starts: behind the last line feed before the place.
+fn start_before(bytes: &[u8], end: usize) -> usize
+    requires { end ≤ length bytes.now }
+    ensures { result ≡ line_start bytes.now (line_of bytes.now end) }
 {
-    if byte == b'\n' {
-        Location {
-            line: at.line + 1,
-            column: 0,
-        }
-    } else if begins_character(byte) {
-        Location {
-            line: at.line,
-            column: at.column + 1,
-        }
-    } else {
-        at
+    match memrchr(b'\n', &bytes[..end]) {
+        Some(feed) => feed + 1,
+        None => 0,
     }
 }
 
-/// The line and the column of a place, byte by byte.
-#[tactic(auto, using(crate::proofs::ScanLemmas::line_within, crate::proofs::ScanLemmas::column_within))]
+/// The line and the column of a place: the line feeds before it are counted, and the characters of its line.
 fn location_in(bytes: &[u8], end: usize) -> Location
     requires { end ≤ length bytes.now }
     ensures line { result.line ≡ line_of bytes.now end }
     ensures column { result.column ≡ column_of bytes.now end }
 {
-    let mut at = Location { line: 0, column: 0 };
-    'places: for place in 0..end {
-        at = behind(at, bytes[place]);
+    let line = line_feeds(&bytes[..end]);
+    let start = start_before(bytes, end);
+    Location {
+        line,
+        column: character_count(&bytes[start..end]),
     }
-    at
 }
 
 /// The line and the column of a place.
@@ -56,7 +47,7 @@ pub(crate) fn location(text: &str, place: usize) -> Location
 fn line_feeds(bytes: &[u8]) -> usize
     ensures { result ≡ count_by is_line_feed bytes.now }
 {
-    bytes.iter().filter(|byte| **byte == b'\n').count()
+    memchr_iter(b'\n', bytes).count()
 }
 
 /// The line of a place. A place past the end counts as the end.

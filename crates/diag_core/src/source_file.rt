@@ -16,6 +16,10 @@ use deny_text::{PathBuf, Span, Text};
 use std::alloc::Global;
 use std::marker::Model;
 
+/// So many labels are placed without an index: each takes a search of what is before it, which is less work than an
+/// index of the whole file.
+const FEW: u8 = 8;
+
 /// What a file is called.
 #[derive(Drop)]
 pub(crate) enum FileName {
@@ -32,6 +36,8 @@ pub(crate) struct SourceFile {
     source: Text,
     /// Without it places are found by going over the text.
     index: Option<LineIndex>,
+    /// How many labels were said to point into it while it had no index.
+    labels: u8,
     /// Where its licence field is, once that was searched for.
     license: Option<Option<Span>>,
 }
@@ -67,6 +73,7 @@ impl SourceFile {
             name,
             source,
             index: None,
+            labels: 0,
             license: None,
         }
     }
@@ -76,6 +83,7 @@ impl SourceFile {
         ensures { self.new ≡ with_source source self.old }
     {
         self.index = None;
+        self.labels = 0;
         self.license = None;
         self.source = source;
     }
@@ -89,6 +97,17 @@ impl SourceFile {
         }
         if let Ok(index) = LineIndex::new(alloc, self.source.as_str()) {
             self.index = Some(index);
+        }
+    }
+
+    /// Counts a label that points into it. With the first that is more than a few the index is made.
+    pub(crate) fn count_label(&mut self, alloc: Global)
+        ensures { self.new ≡ self.old }
+    {
+        if self.labels < FEW {
+            self.labels += 1;
+        } else {
+            self.make_index(alloc);
         }
     }
 

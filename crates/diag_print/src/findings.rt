@@ -185,7 +185,7 @@ fn print_each<S: Sink>(
     flush(&mut pending, sink, begun)
 }
 
-/// Makes the indexes of the files that the findings of a pack point into.
+/// Makes the indexes of the files that many labels of the findings of a pack point into.
 fn index_pack(printer: &DiagPrinter, pack: &Pack, files: &mut Files)
     ensures { files.new ≡ files.old }
 {
@@ -203,8 +203,8 @@ fn index_each(printer: &DiagPrinter, packs: &[Pack], files: &mut Files)
     }
 }
 
-/// Makes the indexes of the files that findings of packs point into, of those at or above the context's level.
-/// The files are seen as they were, and `print_packs` finds the places in them fast.
+/// Makes the indexes of the files that many labels of findings of packs point into, of those at or above the
+/// context's level. The files are seen as they were, and `print_packs` finds the places in them fast.
 pub fn index_packs(context: LogContext, packs: &[Pack], files: &mut Files)
     ensures { files.new ≡ files.old }
 {

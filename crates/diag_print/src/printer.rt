@@ -53,12 +53,12 @@ impl Model for DiagPrinter {
     ghost invariant = { λ printer. severity_of_filter printer.context.log_level ≡ Some printer.least };
 }
 
-/// Makes the indexes of the files that labels point into.
-fn index_labels(labels: &[Label], files: &mut Files)
+/// Counts labels at the files that they point into.
+fn count_labels(labels: &[Label], files: &mut Files)
     ensures { files.new ≡ files.old }
 {
     'labels: for label in labels {
-        files.index(label.file_id);
+        files.count_label(label.file_id);
     }
 }
 
@@ -98,13 +98,13 @@ impl DiagPrinter {
         severity >= self.least
     }
 
-    /// Makes the indexes of the files that the labels of a finding point into, where it is at or above the
-    /// level: their places are found fast then. The files are seen as they were.
+    /// Counts the labels of a finding at the files that they point into, where it is at or above the level: a
+    /// file gets its index once these are many. The files are seen as they were.
     pub fn index(&self, diag: &Diagnostic, files: &mut Files)
         ensures { files.new ≡ files.old }
     {
         if self.hears(diag.severity) {
-            index_labels(diag.labels.items(), files);
+            count_labels(diag.labels.items(), files);
         }
     }
 

@@ -1,11 +1,12 @@
 //! The metadata of the sample.
-//! Called by `put_texts` of `tree`; pieces may be appended without `format!`, each byte is in a clause.
+//! Called by `put_texts` of `tree`; each byte is in a clause.
 ghost use Rattle.std.specs.Prelude.{◌≡◌, ◌≤◌, ◌<◌, ◌+◌, ◌*◌, ◌++◌, string_bytes, IfOk, OnOk};
 ghost use Rattle.std.specs.List.{flat_map};
 ghost use Rattle.run_sample.specs.Metadata.{comma_before, edge_text, license_text, node_text, numbers};
 ghost use Rattle.run_sample.specs.Metadata.{package_head, package_tail, package_text, sample_metadata};
 
 use std::alloc::{AllocError, Global};
+use std::fmt::Write;
 
 /// The field `license` of a crate, as JSON.
 fn license_text(remainder: u32) -> &'static str
@@ -27,82 +28,74 @@ fn comma_before(crate_number: u32) -> &'static str
 }
 
 /// Appends the name, the version and the id of a crate.
-fn push_head(out: &mut String, alloc: Global, i: u32) -> Result<(), AllocError>
+fn push_head(out: &mut String, i: u32) -> Result<(), AllocError>
     ensures { OnOk result (string_bytes out.new ≡ string_bytes out.old ++ package_head i) }
 {
     let comma = comma_before(i);
-    let head = format!(in alloc;
+    write!(
+        out,
         "{comma}{{\"name\":\"c{i}\",\"version\":\"1.0.{i}\",\"id\":\"c{i}\","
-    )?;
-    out.push_str(head.as_str())
+    )
 }
 
 /// Appends the manifest and the field of a crate.
-fn push_tail(out: &mut String, alloc: Global, i: u32, license: &str) -> Result<(), AllocError>
+fn push_tail(out: &mut String, i: u32, license: &str) -> Result<(), AllocError>
     ensures { OnOk result (string_bytes out.new ≡ string_bytes out.old ++ package_tail i license.now) }
 {
-    let tail = format!(in alloc;
+    write!(
+        out,
         "\"manifest_path\":\"/s/c{i}/Cargo.toml\",\"license\":{license}}}"
-    )?;
-    out.push_str(tail.as_str())
+    )
 }
 
 /// Appends a crate.
-fn push_package(out: &mut String, alloc: Global, i: u32) -> Result<(), AllocError>
+fn push_package(out: &mut String, i: u32) -> Result<(), AllocError>
     ensures { OnOk result (string_bytes out.new ≡ string_bytes out.old ++ package_text i) }
 {
-    push_head(out, alloc, i)?;
-    push_tail(out, alloc, i, license_text(i % 4))
+    push_head(out, i)?;
+    push_tail(out, i, license_text(i % 4))
 }
 
 /// Appends an edge to a crate, behind a text, where there is such a crate.
-fn push_edge(
-    out: &mut String,
-    alloc: Global,
-    count: u32,
-    before: &str,
-    to: u64,
-) -> Result<(), AllocError>
+fn push_edge(out: &mut String, count: u32, before: &str, to: u64) -> Result<(), AllocError>
     ensures { OnOk result (string_bytes out.new ≡ string_bytes out.old ++ edge_text count before.now to) }
 {
     if count as u64 <= to {
         return Ok(());
     }
-    let text = format!(in alloc; "{before}{{\"pkg\":\"c{to}\"}}")?;
-    out.push_str(text.as_str())
+    write!(out, "{before}{{\"pkg\":\"c{to}\"}}")
 }
 
 /// Appends the edges of a crate.
-fn push_node(out: &mut String, alloc: Global, count: u32, i: u32) -> Result<(), AllocError>
+fn push_node(out: &mut String, count: u32, i: u32) -> Result<(), AllocError>
     ensures { OnOk result (string_bytes out.new ≡ string_bytes out.old ++ node_text count i) }
 {
     let comma = comma_before(i);
-    let head = format!(in alloc; "{comma}{{\"id\":\"c{i}\",\"deps\":[")?;
-    out.push_str(head.as_str())?;
+    write!(out, "{comma}{{\"id\":\"c{i}\",\"deps\":[")?;
     let twice = 2 * (i as u64);
-    push_edge(out, alloc, count, "", twice + 1)?;
-    push_edge(out, alloc, count, ",", twice + 2)?;
+    push_edge(out, count, "", twice + 1)?;
+    push_edge(out, count, ",", twice + 2)?;
     out.push_str("]}")
 }
 
 /// Appends all crates.
-fn push_packages(out: &mut String, alloc: Global, count: u32) -> Result<(), AllocError>
+fn push_packages(out: &mut String, count: u32) -> Result<(), AllocError>
     ensures { OnOk result
         (string_bytes out.new ≡ string_bytes out.old ++ flat_map package_text (numbers count)) }
 {
     'crates: for i in 0..count {
-        push_package(out, alloc, i)?;
+        push_package(out, i)?;
     }
     Ok(())
 }
 
 /// Appends the edges of all crates.
-fn push_nodes(out: &mut String, alloc: Global, count: u32) -> Result<(), AllocError>
+fn push_nodes(out: &mut String, count: u32) -> Result<(), AllocError>
     ensures { OnOk result
         (string_bytes out.new ≡ string_bytes out.old ++ flat_map (node_text count) (numbers count)) }
 {
     'crates: for i in 0..count {
-        push_node(out, alloc, count, i)?;
+        push_node(out, count, i)?;
     }
     Ok(())
 }
@@ -113,11 +106,11 @@ pub(crate) fn sample_metadata(alloc: Global, count: u32) -> Result<String, Alloc
 {
     let mut out = String::new(alloc);
     out.push_str("{\"packages\":[")?;
-    push_packages(&mut out, alloc, count)?;
+    push_packages(&mut out, count)?;
     out.push_str(
         "],\"workspace_members\":[\"c0\"],\"workspace_root\":\"/s\",\"resolve\":{\"root\":\"c0\",\"nodes\":[",
     )?;
-    push_nodes(&mut out, alloc, count)?;
+    push_nodes(&mut out, count)?;
     out.push_str("]}}")?;
     Ok(out)
 }

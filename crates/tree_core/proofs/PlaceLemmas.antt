@@ -1,5 +1,5 @@
 -- Places: equal where they tie, and their prefixes.
-use Rattle.std.proofs.Common.{◌≡◌, ◌≢◌, ℕ, ◌+◌, ◌-◌, ◌<◌, ◌≤◌, ◌⊎◌, true, false, List, [], ◌∷◌, ◌++◌, length, take, get_or, refl, sym, ap, ◌∙◌, subst, inl, inr, arith}
+use Rattle.std.proofs.Common.{◌≡◌, ◌≢◌, ℕ, ◌+◌, ◌-◌, ◌<◌, ◌≤◌, ◌⊎◌, true, false, List, [], ◌∷◌, ◌++◌, length, take, get_or, slice_get, Some, refl, sym, ap, ◌∙◌, subst, inl, inr, arith}
 use Rattle.std.specs.Ordering.{nat_cmp, is_eq, eq_by_cmp, ordering_then}
 use Rattle.std.specs.declared.cmp.Ordering.{Ordering}
 use Rattle.std.specs.declared.cmp.Ordering.TheVariants.{Less, Equal, Greater}
@@ -7,6 +7,7 @@ use Rattle.std.specs.Cmp.{tied_itself}
 use Rattle.std.specs.Cmp.Lexicographic.{slice_cmp, lists_total, nat_list_cmp_total}
 use Rattle.std.specs.FinMap.{nat_cmp-IsAntisymmetric, slice_cmp-IsAntisymmetric, IsAntisymmetric}
 use Rattle.std.proofs.lemmas.Bool.{cases_lt}
+use Rattle.std.proofs.lemmas.Option.{get_or_from_slice_get}
 use Rattle.std.proofs.lemmas.List.{take-take, length-take-le, length-take, length-append, take_all, take_at, take_more}
 use Rattle.tree_core.specs.Content.{Place, place_above, names_cmp, place_cmp, place_cmp_total}
 use Rattle.tree_core.specs.TreeState.{IsPlaceFront}
@@ -16,7 +17,7 @@ then_equal Less p e = cc
 then_equal Equal p e = e
 then_equal Greater p e = cc
 
-names_cmp-IsAntisymmetric : IsAntisymmetric names_cmp
+pub names_cmp-IsAntisymmetric : IsAntisymmetric names_cmp
 names_cmp-IsAntisymmetric = slice_cmp-IsAntisymmetric (slice_cmp-IsAntisymmetric nat_cmp-IsAntisymmetric)
 
 pub place_cmp-IsAntisymmetric : IsAntisymmetric place_cmp
@@ -127,3 +128,20 @@ not_right_in place folder differs name e =
     let ties : is_eq (names_cmp folder folder) ≡ true = ap is_eq (names_tie folder) in
     let wrong : is_eq (names_cmp folder folder) ≡ false = subst (λ (x : Place). is_eq (names_cmp x folder) ≡ false) front differs in
     cc
+
+-- where there is an item, the list is not empty
+pub some_item : (xs : Place) (n : ℕ) (a : List ℕ) → slice_get xs n ≡ Some a → 0 < length xs
+some_item [] n a e = cc
+some_item (x ∷ xs) n a e = omega arith
+
+last_at : (place : Place) (a : List ℕ) → slice_get place (length place - 1) ≡ Some a → place ≡ take (length place - 1) place ++ a ∷ []
+last_at place a e =
+    last_name place a (some_item place (length place - 1) a e)
+    ∙ ap (λ (name : List ℕ). take (length place - 1) place ++ name ∷ []) (get_or_from_slice_get place (length place - 1) a a e)
+
+-- the last names decide between places of one folder
+pub last_decides : (x y : Place) (a b : List ℕ) → place_above x ≡ place_above y → slice_get x (length x - 1) ≡ Some a → slice_get y (length y - 1) ≡ Some b → names_cmp x y ≡ slice_cmp nat_cmp a b
+last_decides x y a b same atx aty =
+    let front : Place = take (length x - 1) x in
+    let ey : y ≡ front ++ b ∷ [] = last_at y b aty ∙ ap (λ (above : Place). above ++ b ∷ []) (sym same) in
+    ap (λ (z : Place). names_cmp z y) (last_at x a atx) ∙ ap (λ (z : Place). names_cmp (front ++ a ∷ []) z) ey ∙ names_cmp-siblings front a b

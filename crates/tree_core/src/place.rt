@@ -5,7 +5,7 @@ ghost use Rattle.std.proofs.Common.{rules};
 ghost use Rattle.std.specs.Ordering.{eq_by_cmp};
 ghost use Rattle.std.specs.Cmp.{eq_by_cmp_equiv, partial_equiv_from_equiv, partial_order_from_total};
 ghost use Rattle.std.specs.Cmp.Rules.{comparing};
-ghost use Rattle.tree_core.specs.Content.{Place, place_above, place_cmp, place_cmp_total, step, resolve};
+ghost use Rattle.tree_core.specs.Content.{Place, names_cmp, place_above, place_cmp, place_cmp_total, step, resolve};
 
 use deny_text::Text;
 use deny_text::path::components;
@@ -145,11 +145,24 @@ fn copy_names(alloc: Global, names: &[Text]) -> Result<Vec<Text>, AllocError>
     Ok(copies)
 }
 
+/// Of places in one folder the last names decide; the root comes before all others.
+fn compare_last(left: &[Text], right: &[Text]) -> Ordering
+    requires { place_above left.now ≡ place_above right.now }
+    ensures { result ≡ names_cmp left.now right.now }
+{
+    match (left.last(), right.last()) {
+        (None, None) => Ordering::Equal,
+        (None, Some(_)) => Ordering::Less,
+        (Some(_), None) => Ordering::Greater,
+        (Some(left), Some(right)) => left.cmp(right),
+    }
+}
+
 fn compare(left: &Place, right: &Place) -> Ordering
     ensures { result ≡ place_cmp left.now right.now }
 {
     match left.names_above().cmp(right.names_above()) {
-        Ordering::Equal => left.names().cmp(right.names()),
+        Ordering::Equal => compare_last(left.names(), right.names()),
         order => order,
     }
 }

@@ -14,6 +14,7 @@ use gather_core::findings::LicenseExprInfo;
 use spdx_core::certificates::Hit;
 use spdx_core::{Expression, ExpressionReq};
 use std::alloc::{AllocError, Global};
+use std::fmt::Write;
 
 /// What is said of a term, by what allows it.
 fn said_of(hit: Option<Hit>) -> &'static str
@@ -68,12 +69,16 @@ fn push_terms(
     Ok(())
 }
 
+/// The bytes that the message of a whole expression has room for from the start.
+const MESSAGE_ROOM: usize = 64;
+
 fn whole_label(alloc: Global, nfo: &LicenseExprInfo, words: &str) -> Result<Label, AllocError>
     requires { PlaceFits nfo.now (length words.now) }
     ensures { IfOk result (λ label. label ≡ spec.whole_label nfo.now words.now) }
 {
     let source = source_text(alloc, &nfo.source)?;
-    let message = format!(in alloc; "license expression retrieved via {source}")?;
+    let mut message = String::with_capacity(alloc, MESSAGE_ROOM)?;
+    write!(message, "license expression retrieved via {source}")?;
     let whole = Span {
         start: 0,
         end: words.len(),

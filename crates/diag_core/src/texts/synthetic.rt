@@ -1,5 +1,5 @@
 //! A text that is written in place of a manifest, with the places of what a finding points at.
-ghost use Rattle.std.specs.Prelude.{◌≡◌, All, OnOk, OnErr};
+ghost use Rattle.std.specs.Prelude.{◌≡◌, All, IfOk, OnOk, OnErr};
 ghost use Rattle.diag_core.specs.texts.Pieces.{bit_of};
 ghost use Rattle.deny_text.specs.Spans.{LiesBetween};
 ghost use Rattle.deny_text.specs.Fronts.{StandsInFront};
@@ -44,6 +44,16 @@ impl Synthetic {
             text: String::new(alloc),
             spans: Vec::new(alloc),
         }
+    }
+
+    /// The empty text, with room for so many bytes.
+    pub fn with_room(alloc: Global, room: usize) -> Result<Synthetic, AllocError>
+        ensures { IfOk result (λ synthetic. synthetic ≡ nothing_kept) }
+    {
+        Ok(Synthetic {
+            text: String::with_capacity(alloc, room)?,
+            spans: Vec::new(alloc),
+        })
     }
 
     /// Appends a piece. Where memory is wanted nothing is appended.

@@ -14,6 +14,7 @@ use diag_core::{Coord, Diag, Diagnostic, DiagnosticCode, FileId, Label, Severity
 use graph_core::Krate;
 use spdx_core::ParseError;
 use std::alloc::{AllocError, Global};
+use std::fmt::Write;
 
 /// Findings in order.
 pub type Diags = ListOf<Diag>;
@@ -98,10 +99,15 @@ fn empty_field(alloc: Global, at: Coord) -> Result<Diag, AllocError>
     )
 }
 
+/// The bytes that a message has room for from the start.
+const MESSAGE_ROOM: usize = 128;
+
 fn no_field(alloc: Global, krate: &Krate) -> Result<Diag, AllocError>
     ensures { IfOk result (λ finding. finding ≡ spec.no_field (record_of krate.now)) }
 {
-    let message = format!(in alloc;
+    let mut message = String::with_capacity(alloc, MESSAGE_ROOM)?;
+    write!(
+        message,
         "license expression was not specified in manifest for crate '{krate}'"
     )?;
     warning(alloc, Code::NoLicenseField, &message, None)

@@ -22,6 +22,9 @@ use graph_core::Krate;
 use std::alloc::{AllocError, Global};
 use tree_core::file_reads::BadRead;
 
+/// The bytes that the text has room for from the start, which most take.
+const MANIFEST_ROOM: usize = 256;
+
 /// Why there is no text, or no listing.
 fn words_of(error: BadRead) -> &'static str
     ensures { result.now ≡ spec.bad_read_text error }
@@ -167,7 +170,7 @@ fn write_crate(
     ensures { IfOk result (λ synthetic. synthetic
         ≡ crate_kept (record_of krate.now) folder.now (option_copied joined.entry) (seen_view seen.entry)) }
 {
-    let mut synthetic = Synthetic::new(alloc);
+    let mut synthetic = Synthetic::with_room(alloc, MANIFEST_ROOM)?;
     write_head(alloc, &mut synthetic, krate)?;
     write_joined(&mut synthetic, joined)?;
     write_seen(alloc, &mut synthetic, folder, seen)?;

@@ -1,11 +1,12 @@
 //! The location of a field, by the file table or by reading the manifest.
-ghost use Rattle.std.specs.Prelude.{◌≡◌, ◌⊎◌, ◌++◌, ℕ, List, [], ◌∷◌, length, IfOk, IfSome, OnOk, OnErr};
+ghost use Rattle.std.specs.Prelude.{◌≡◌, ◌⊎◌, ◌++◌, ℕ, List, [], ◌∷◌, length, IfOk, IfSome, OnOk, OnErr, None};
 ghost use Rattle.std.specs.Option.{option_and_then, option_map};
 ghost use Rattle.tree_core.specs.Call as call;
 ghost use Rattle.tree_core.specs.Hearing.{MadeSome};
 ghost use Rattle.tree_core.specs.file_reads.Answered.{IsFileRead, call_of};
 ghost use Rattle.tree_core.specs.file_reads.Views.{heard_file};
-ghost use Rattle.diag_core.specs.File.{source_of_file};
+ghost use Rattle.deny_text.specs.Path.{key_of};
+ghost use Rattle.diag_core.specs.File.{file_id_at, source_of_file};
 ghost use Rattle.gather_license.specs.location.Calls.{IsLocatedBy, StarvesLocating};
 ghost use Rattle.gather_license.specs.location.Location as spec;
 ghost use Rattle.gather_license.specs.location.Location.{CutsOut, PointsAt, coord_at, files_with_manifest};
@@ -73,13 +74,17 @@ fn read_manifest<T: Tree>(
     read_file(alloc, tree, "", path.as_path())
 }
 
-/// Puts a manifest into the table where the place of the field counts, and tells the location.
+/// Puts a manifest into the table where the place of the field counts, and tells the location. The key is that of its
+/// path, which finds no file.
 fn join_where_counted(
     files: &mut Files,
+    key: Result<Text, AllocError>,
     path: PathBuf,
     text: Text,
     span: Option<Span>,
 ) -> Result<Option<Coord>, AllocError>
+    requires key { IfOk key (λ key. key ≡ key_of path) }
+    requires unknown { file_id_at files.old path ≡ None }
     ensures location { IfOk result (λ location. location ≡ option_map (coord_at (length files.old)) span) }
     ensures files { OnOk result (files.new ≡ joined_by path files.old text span) }
     ensures points { (field : List ℕ) → IfSome span (λ place. CutsOut text place field)
@@ -89,9 +94,9 @@ fn join_where_counted(
     let Some(span) = span else {
         return Ok(None);
     };
-    match files.add(path, text) {
+    let key = key?;
+    match files.add_new(key, path, text) {
         Ok(file) => Ok(Some(Coord { file, span })),
-        // The callers ask first whether a file has the path.
         Err(_) => Err(AllocError),
     }
 }
@@ -100,10 +105,13 @@ fn join_where_counted(
 fn locate_heard(
     alloc: Global,
     files: &mut Files,
+    key: Result<Text, AllocError>,
     path: &PathBuf,
     field: &str,
     heard: FileHeard,
 ) -> Result<LocatedField, AllocError>
+    requires key { IfOk key (λ key. key ≡ key_of path.now) }
+    requires unknown { file_id_at files.old path.now ≡ None }
     ensures located { IfOk result (λ located.
         located ≡ in_heard path.now field.now files.old (heard_file heard)) }
     ensures files { OnOk result (
@@ -117,7 +125,7 @@ fn locate_heard(
         Ok(text) => {
             let span = span_in(text.as_str(), field);
             let name = PathBuf::copy(alloc, path.as_path())?;
-            let location = join_where_counted(files, name, text, span)?;
+            let location = join_where_counted(files, key, name, text, span)?;
             Ok(LocatedField {
                 location,
                 read: Some(record),
@@ -151,11 +159,12 @@ pub fn locate<T: Tree>(
         PointsAt files.new at field.now)) }
     ensures err { OnErr result (files.new ≡ files.old) }
 {
-    match files.id_for_path(path.as_path()) {
+    let (there, key) = files.looked_up(path.as_path());
+    match there {
         Some(id) => Ok(locate_in(files, id, field)),
         None => {
             let heard = read_manifest(alloc, tree, path)?;
-            let located = locate_heard(alloc, files, path, field, heard)?;
+            let located = locate_heard(alloc, files, key, path, field, heard)?;
             Ok(located)
         }
     }

@@ -1,11 +1,20 @@
 -- The runs of a line, from the first one on.
-use Rattle.std.proofs.Common.{◌≡◌, ◌∙◌, ℕ, suc, ◌+◌, ◌-◌, ◌<◌, Bool, true, false, List, [], ◌∷◌, take, drop, filter, refl, ap, sym, length, arith}
+use Rattle.std.proofs.Common.{◌≡◌, ◌∙◌, ℕ, suc, ◌+◌, ◌-◌, ◌<◌, Bool, true, false, ◌||◌, List, [], ◌∷◌, take, drop, filter, refl, ap, sym, length, arith}
 use Rattle.std.proofs.Math.Numerals.{one-add}
 use Rattle.std.proofs.Math.Seq.{drop-length}
 use Rattle.std.proofs.lemmas.List.{length-drop}
-use Rattle.std.specs.Char.{is_ascii_alphanumeric}
+use Rattle.std.specs.Char.{is_ascii_alphanumeric, is_ascii_digit, is_ascii_lowercase, is_ascii_uppercase}
 use Rattle.std.specs.List.{slice_split, onto_first, position_or_len}
 use Rattle.spdx_terms.specs.catalog.TextWords.{has_some, is_between, runs_of}
+
+-- a small letter is a letter or a digit
+pub small_letter : (byte : ℕ) → is_ascii_lowercase byte ≡ true → true ≡ is_ascii_alphanumeric byte
+small_letter byte is = by (is_ascii_digit byte) (is_ascii_uppercase byte)
+  where
+    by : (a b : Bool) → true ≡ ((a || b) || is_ascii_lowercase byte)
+    by true b = refl
+    by false true = refl
+    by false false = sym is
 
 -- what is before the first letter or digit holds no run
 skip_at : (x : ℕ) (xs : List ℕ) (b : Bool) → is_ascii_alphanumeric x ≡ b → runs_of xs ≡ runs_of (drop (position_or_len is_ascii_alphanumeric xs) xs) → runs_of (x ∷ xs) ≡ runs_of (drop (position_or_len is_ascii_alphanumeric (x ∷ xs)) (x ∷ xs))

@@ -9,18 +9,29 @@ ghost use Rattle.spdx_terms.specs.catalog.TextWords.{words_with_spaces, words_of
 
 use std::alloc::{AllocError, Global};
 
+/// Whether a byte is a letter or a digit. Most are small letters, which are asked for first.
+#[tactic(auto, using(crate::proofs::catalog::RunLemmas::small_letter))]
+fn is_letter_or_digit(byte: u8) -> bool
+    ensures { result ≡ is_ascii_alphanumeric byte }
+{
+    if byte.is_ascii_lowercase() {
+        return true;
+    }
+    byte.is_ascii_alphanumeric()
+}
+
 /// The place of the first letter or digit.
 fn run_start(line: &[u8]) -> Option<usize>
     ensures { result ≡ position is_ascii_alphanumeric line.now }
 {
-    line.iter().position(|byte| byte.is_ascii_alphanumeric())
+    line.iter().position(|byte| is_letter_or_digit(*byte))
 }
 
 /// The place of the first byte that is neither a letter nor a digit.
 fn run_end(line: &[u8]) -> Option<usize>
     ensures { result ≡ position is_between line.now }
 {
-    line.iter().position(|byte| !byte.is_ascii_alphanumeric())
+    line.iter().position(|byte| !is_letter_or_digit(*byte))
 }
 
 /// The first run of ASCII letters and digits in a line, and what follows it.
@@ -84,7 +95,8 @@ fn push_line(words: &mut Vec<u8>, line: &[u8]) -> Result<(), AllocError>
 fn written_words(alloc: Global, text: &str) -> Result<Vec<u8>, AllocError>
     ensures { IfOk result (λ words. str_to_ascii_lowercase words.items ≡ words_with_spaces (words_of text.now)) }
 {
-    let mut words = Vec::new(alloc);
+    // They take about as many bytes as the text.
+    let mut words = Vec::with_capacity(alloc, text.len())?;
     'lines: for line in text.split('\n') {
         push_line(&mut words, line.as_bytes())?;
     }

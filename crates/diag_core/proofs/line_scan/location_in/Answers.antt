@@ -1,15 +1,15 @@
-use Rattle.std.proofs.Common.{◌<◌, ◌∙◌, ap, length, refl, arith}
-use Rattle.diag_core.specs.declared.position.Location.{Location}
-use Rattle.diag_core.specs.Position.{line_starts}
-use Rattle.diag_core.proofs.ScanLemmas.{behind_more}
+use Rattle.std.proofs.Common.{◌∙◌, ap, arith}
+use Rattle.std.specs.List.{count_by, slice_range}
+use Rattle.diag_core.specs.Position.{begins_character}
+use Rattle.diag_core.proofs.ScanLemmas.{line_start_within}
 use Rattle.diag_core.proofs.line_scan.location_in.Goals as goal
 
-pub places-init : goal.places-init
-unfolding line_starts
-places-init c = record { line = refl; column = refl }
+pub slice_bounds-character_count-count : goal.slice_bounds-character_count-count
+slice_bounds-character_count-count c = omega (arith, line_start_within c.args.bytes.now c.args.end c.requires, c.start_before-start.ensures)
 
-pub places-preserved : goal.places-preserved
-places-preserved c =
-    let within : c.places.place < length c.args.bytes.now = omega (arith, c.requires, c.places-test.true) in
-    let next = behind_more c.args.bytes.now c.places.place 0 c.places.at within c.places.invariant.line c.places.invariant.column in
-    record { line = ap (λ (at : Location). at.line) c.behind-at.ensures ∙ next.0; column = ap (λ (at : Location). at.column) c.behind-at.ensures ∙ next.1 }
+pub slice_bounds-character_count-start : goal.slice_bounds-character_count-start
+slice_bounds-character_count-start c = omega (arith, line_start_within c.args.bytes.now c.args.end c.requires, c.start_before-start.ensures)
+
+pub returns-clause-column : goal.returns-clause-column
+returns-clause-column c =
+    c.character_count.ensures ∙ ap (λ from. count_by begins_character (slice_range c.args.bytes.now from c.args.end)) c.start_before-start.ensures

@@ -11,5 +11,5 @@ returns c =
     let krate = record_of c.args.krate.now in
     crate_written krate c.args.folder.now (option_copied c.args.joined) (seen_view c.args.seen)
     c.write_head.new.synthetic c.write_joined.new.synthetic c.write_seen.new.synthetic
-    (c.in_ok-write_head.ensures ∙ ap (λ (kept : PlacedText). written_all kept (head_pieces krate)) c.new-synthetic.ensures)
+    (c.in_ok-write_head.ensures ∙ ap (λ (kept : PlacedText). written_all kept (head_pieces krate)) c.in_ok-synthetic.ensures)
     c.in_ok-write_joined.ensures c.in_ok-write_seen.ensures

@@ -1,5 +1,5 @@
 use Rattle.std.proofs.Common.{◌≡◌}
-use Rattle.diag_print.proofs.printer.index_labels.Given as goal
+use Rattle.diag_print.proofs.printer.count_labels.Given as goal
 
 -- the files are seen as they were
 abbrev pub invariant-labels : goal.invariant-labels
