@@ -1,9 +1,9 @@
-mod Rising
-mod WalkLemmas
-mod PutLemmas
-mod LeftLemmas
+pub mod Rising
+pub mod WalkLemmas
+pub mod PutLemmas
+pub mod LeftLemmas
 mod FollowLemmas
-mod GraphPlaces
+pub mod GraphPlaces
 mod UnderWay
 mod TurnLemmas
 mod RootLemmas

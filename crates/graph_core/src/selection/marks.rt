@@ -12,7 +12,7 @@ use crate::{DepKind, Edge, Kinds, Metadata};
 use std::alloc::{AllocError, Global};
 
 /// All kinds but the one named.
-fn other_kinds(named: Option<DepKind>) -> Kinds
+pub fn other_kinds(named: Option<DepKind>) -> Kinds
     ensures { result ≡ spec.other_kinds named }
 {
     match named {
@@ -41,7 +41,7 @@ fn other_kinds(named: Option<DepKind>) -> Kinds
 
 /// The kinds that count at the edges out of a crate: dev at those of members alone, and not where it is
 /// excluded.
-fn counting_at(exclude_dev: bool, kinds: Kinds, standing: Standing) -> Kinds
+pub fn counting_at(exclude_dev: bool, kinds: Kinds, standing: Standing) -> Kinds
     ensures { result ≡ spec.counting_at exclude_dev kinds standing }
 {
     Kinds {
@@ -57,7 +57,8 @@ fn meet(kinds: Kinds, other: Kinds) -> bool
     (kinds.normal && other.normal) || (kinds.dev && other.dev) || (kinds.build && other.build)
 }
 
-fn standing_at(standings: &[Standing], place: usize) -> Standing
+/// The standing of the crate at a place.
+pub fn standing_at(standings: &[Standing], place: usize) -> Standing
     requires { place < length standings.now }
     ensures { result ≡ spec.standing_at standings.now place }
 {
@@ -65,7 +66,7 @@ fn standing_at(standings: &[Standing], place: usize) -> Standing
 }
 
 /// Whether a walk may take an edge, where these kinds count.
-fn passes(standings: &[Standing], counting: Kinds, edge: &Edge) -> bool
+pub fn passes(standings: &[Standing], counting: Kinds, edge: &Edge) -> bool
     requires { edge.now.to < length standings.now }
     ensures { result ≡ spec.passes standings.now counting edge.now }
 {

@@ -16,19 +16,21 @@ use crate::{Krate, Metadata};
 use deny_text::Texts;
 use std::alloc::{AllocError, Global};
 
+/// What is said of a crate before any walk.
 #[derive(Clone, Copy)]
-pub(crate) struct Standing {
-    pub(crate) member: bool,
+pub struct Standing {
+    pub member: bool,
     /// It would be a root, were nothing left out.
-    pub(crate) base: bool,
+    pub base: bool,
     /// A spec leaves it out.
-    pub(crate) excluded: bool,
+    pub excluded: bool,
     /// It is left out of the roots as a member that is published nowhere.
-    pub(crate) unpublished: bool,
+    pub unpublished: bool,
 }
 
 impl Standing {
-    pub(crate) fn is_root(self) -> bool
+    /// Whether walks begin at it.
+    pub fn is_root(self) -> bool
         ensures { result ≡ spec.is_root_standing self }
     {
         self.base && !self.excluded && !self.unpublished
@@ -126,7 +128,7 @@ fn standing_of(
 }
 
 /// The standing of each crate, in the order of the metadata.
-pub(crate) fn standings_of(
+pub fn standings_of(
     alloc: Global,
     metadata: &Metadata,
     selection: &Selection,
