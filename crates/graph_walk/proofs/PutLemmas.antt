@@ -137,7 +137,7 @@ module _ (graph : Graph) (choice : Choice) (named : Option DepKind) (behind : Li
         },
       )
 
-  abbrev HasFound : List ℕ → SearchView → Type 0
+  abbrev pub HasFound : List ℕ → SearchView → Type 0
   HasFound places after = AllByRecursion (IsFound after.best behind) places
 
   found-keeps : (best later : List (Option (List ℕ))) (place : ℕ)

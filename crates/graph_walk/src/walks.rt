@@ -1,5 +1,5 @@
 //! The shortest walks to crates, by one search in breadth.
-ghost use Rattle.std.specs.Prelude.{◌≡◌, ◌<◌, [], ◌++◌, length, reverse, slice_index_or, option_map, All, IfOk, OnOk};
+ghost use Rattle.std.specs.Prelude.{◌≡◌, ◌<◌, [], ◌++◌, length, reverse, is_some, slice_index_or, option_map, All, IfOk, OnOk};
 ghost use Rattle.graph_core.specs.Metadata.{AreRising, LeadWithin, ids_of};
 ghost use Rattle.graph_core.specs.selection.Choice.{choice_of};
 ghost use Rattle.graph_core.specs.selection.Places.{counting_at as counting_in, standing_at as standing_in, standings_in};
@@ -173,6 +173,14 @@ fn walk_from(alloc: Global, search: &Search, at: usize) -> Result<Vec<usize>, Al
 }
 
 impl ShortestWalks {
+    /// Whether a walk leads to the crate at a place.
+    pub fn leads_to(&self, place: usize) -> bool
+        requires { place < length self.now }
+        ensures { result ≡ is_some (walk_at self.now place) }
+    {
+        self.search.index_at(place).is_some()
+    }
+
     /// The crates that the shortest walk to the crate at a place visits, from its root on, by their places;
     /// none where no walk leads to it.
     pub fn walk_to(&self, alloc: Global, place: usize) -> Result<Option<Vec<usize>>, AllocError>

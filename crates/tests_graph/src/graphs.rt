@@ -7,9 +7,10 @@
 use crate::given;
 use graph_core::selection::{
     BuildError, DepKind, ExcludeSpec, ExcludeSpecs, Include, KrateRefs, Krates, Metadata, Selection,
+    standings_of,
 };
 use graph_metadata::{Krate, MetaError, records};
-use graph_walk::{ShortestWalks, shortest_walks};
+use graph_walk::{SelectingWalks, ShortestWalks, Unchecked, shortest_walks};
 use std::alloc::{AllocError, Global};
 use tests_files::{AnswerText, Case};
 
@@ -246,11 +247,72 @@ fn put_graph_walks(alloc: Global, out: &mut AnswerText, case: &Case<'_>, setting
     }
 }
 
+fn unchecked_letter(cause: Option<Unchecked>) -> &'static str {
+    match cause {
+        None => "+",
+        Some(Unchecked::LeftOutByWords) => "w",
+        Some(Unchecked::LeftOutByPolicy) => "p",
+        Some(Unchecked::NeverPublished) => "n",
+        Some(Unchecked::OnlyDev) => "d",
+        Some(Unchecked::OnlyBuild) => "b",
+        Some(Unchecked::NotLedTo) => "-",
+    }
+}
+
+/// Puts a letter for each crate that says why it is not checked, or `+` where it is: without dev and build dependencies, with
+/// build, with dev, and with both.
+fn put_unchecked(
+    alloc: Global,
+    out: &mut AnswerText,
+    metadata: &Metadata,
+    exclude: &str,
+    policy: &str,
+    setting: &str,
+) -> Result<(), AllocError> {
+    let mut selection = selection_of(alloc, exclude, setting)?;
+    let words = selection.exclude.len();
+    for word in policy.split_whitespace() {
+        if let Some(spec) = ExcludeSpec::read(alloc, word)? {
+            selection.exclude.push(spec)?;
+        }
+    }
+    let standings = standings_of(alloc, metadata, &selection)?;
+    let walks = SelectingWalks::of(alloc, metadata, &selection)?;
+    let mut front = "";
+    for (dev, build) in [(false, false), (false, true), (true, false), (true, true)] {
+        out.put(front);
+        for place in 0..metadata.len() {
+            let include = Include { dev, build };
+            let cause = walks.why_unchecked(metadata, &selection, &standings, words, include, place);
+            out.put(unchecked_letter(cause));
+        }
+        front = " | ";
+    }
+    Ok(())
+}
+
+/// Puts why crates of the graph of a case are not checked, with the setting that is named behind `unchecked`.
+fn put_graph_unchecked(alloc: Global, out: &mut AnswerText, case: &Case<'_>, setting: &str) {
+    match &graph_of(alloc, case) {
+        Ok(metadata) => {
+            let (words, policy) = (case.word("exclude"), case.word("policy-exclude"));
+            if put_unchecked(alloc, out, metadata, words, policy, setting).is_err() {
+                out.want_memory();
+            }
+        }
+        Err(error) => write!(out, "{error:?}"),
+    }
+}
+
 /// Puts what a key tells of the graph of a case.
 pub fn put_graph(alloc: Global, out: &mut AnswerText, case: &Case<'_>, key: &str) {
     if let Some(setting) = key.strip_prefix("walks") {
         let setting = setting.strip_prefix('-').unwrap_or("");
         return put_graph_walks(alloc, out, case, setting);
+    }
+    if let Some(setting) = key.strip_prefix("unchecked") {
+        let setting = setting.strip_prefix('-').unwrap_or("");
+        return put_graph_unchecked(alloc, out, case, setting);
     }
     match graph_of(alloc, case) {
         Ok(metadata) => match &reached(alloc, metadata, case.word("exclude"), key) {

@@ -44,9 +44,11 @@ impl Cases for RowFile {
     fn is_given(&self, key: &str) -> bool {
         match self.file {
             "graph/records.txt" => is_among(key, &["metadata", "sources"]),
-            "graph/graphs.txt" | "graph/walks.txt" => {
-                is_among(key, &["graph", "members", "root", "exclude"])
-            }
+            "graph/graphs.txt" => is_among(key, &["graph", "members", "root", "exclude"]),
+            "graph/walks.txt" => is_among(
+                key,
+                &["graph", "members", "root", "exclude", "policy-exclude"],
+            ),
             _ => is_among(
                 key,
                 &[
@@ -70,6 +72,9 @@ impl Cases for RowFile {
                 graphs::put_graph(alloc, out, case, key)
             }
             "walks" | "walks-exclude-dev" | "walks-workspace" | "walks-exclude-unpublished" => {
+                graphs::put_graph(alloc, out, case, key)
+            }
+            "unchecked" | "unchecked-exclude-dev" | "unchecked-exclude-unpublished" => {
                 graphs::put_graph(alloc, out, case, key)
             }
             _ => return KeyAnswer::NoSuchKey,
