@@ -270,7 +270,7 @@ fn put_unchecked(
     setting: &str,
 ) -> Result<(), AllocError> {
     let mut selection = selection_of(alloc, exclude, setting)?;
-    let words = selection.exclude.len();
+    let words = selection.exclude.items().len();
     for word in policy.split_whitespace() {
         if let Some(spec) = ExcludeSpec::read(alloc, word)? {
             selection.exclude.push(spec)?;
