@@ -137,10 +137,10 @@ pub fn shortest_walks(
 {
     let standings = standings_of(alloc, metadata, selection)?;
     let kinds = other_kinds(named);
-    let exclude_dev = selection.exclude_dev;
     let mut search = from_roots(alloc, &standings)?;
     let mut next = 0;
     'walks: while next < search.len() {
+        let exclude_dev = selection.exclude_dev;
         follow(&mut search, alloc, metadata, &standings, exclude_dev, kinds, next)?;
         next += 1;
     }
@@ -148,12 +148,12 @@ pub fn shortest_walks(
 }
 
 /// The walk to one of those that were found, from its end back to its root.
-fn walk_back(alloc: Global, search: &Search, at: usize) -> Result<Vec<usize>, AllocError>
-    requires { at < length search.now.order }
-    ensures { IfOk result (λ walk. walk.items ≡ slice_index_or search.now.order at []) }
+fn walk_back(alloc: Global, search: &Search, last: usize) -> Result<Vec<usize>, AllocError>
+    requires { last < length search.now.order }
+    ensures { IfOk result (λ walk. walk.items ≡ slice_index_or search.now.order last []) }
 {
     let mut walk = Vec::new(alloc);
-    let mut next = Some(at);
+    let mut next = Some(last);
     'back: while let Some(at) = next {
         let found = search.found_at(at);
         walk.push(found.place)?;
