@@ -36,7 +36,9 @@ pub type TermAnswers = ListOf<TermAnswer>;
 #[derive(Drop)]
 pub enum VerdictAnswer {
     /// The terms that it rests on.
-    Accepted { choice: TermPlaces },
+    Accepted {
+        choice: TermPlaces,
+    },
     Rejected {
         /// The terms that are not allowed of the choice with the fewest such.
         allow: TermPlaces,

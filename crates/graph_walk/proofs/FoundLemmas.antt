@@ -41,7 +41,7 @@ behind-keeps start order (Some at) earlier keeps = sym (keeps at earlier)
 fold-at : (found : List Found) (start : List (List ℕ)) (at : ℕ) (other : Found) → at < length found
     → IfSome (slice_index_or found at other).by (λ by. by < length start + at)
     → slice_index_or (fold with_found start found) (length start + at) []
-        ≡ walk_of (fold with_found start found) (slice_index_or found at other)
+    ≡ walk_of (fold with_found start found) (slice_index_or found at other)
 fold-at [] start at other below earlier = absurd (omega arith)
 fold-at (one ∷ found) start zero other below earlier =
     let more : length (start ++ walk_of start one ∷ []) ≡ length start + 1 = length-append start (walk_of start one ∷ []) in

@@ -162,7 +162,7 @@ module _ (graph : Graph) (choice : Choice) (named : Option DepKind) (behind : Li
       let one : IsPut places seen (put place behind seen) × IsFound (put place behind seen).best behind place =
       put-by seen place places (best_at seen.best place) refl walks earlier ascend.0 ready.0 in
       let all : IsPut [] (put place behind seen) (put_all behind places (put place behind seen))
-          × HasFound places (put_all behind places (put place behind seen)) =
+      × HasFound places (put_all behind places (put place behind seen)) =
       put-all places (put place behind seen) one.0.walks one.0.earlier ascend.1 ready.1 in (
         record {
           walks = all.0.walks;

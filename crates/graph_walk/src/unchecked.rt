@@ -95,7 +95,12 @@ fn unled(include: Include, led: Led) -> Option<Unchecked>
     }
 }
 
-fn cause(words: bool, policy: bool, unpublished: bool, unled: Option<Unchecked>) -> Option<Unchecked>
+fn cause(
+    words: bool,
+    policy: bool,
+    unpublished: bool,
+    unled: Option<Unchecked>,
+) -> Option<Unchecked>
     ensures { result ≡ spec.cause_by words policy unpublished unled }
 {
     match unled {

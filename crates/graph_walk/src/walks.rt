@@ -141,7 +141,15 @@ pub fn shortest_walks(
     let mut next = 0;
     'walks: while next < search.len() {
         let exclude_dev = selection.exclude_dev;
-        follow(&mut search, alloc, metadata, &standings, exclude_dev, kinds, next)?;
+        follow(
+            &mut search,
+            alloc,
+            metadata,
+            &standings,
+            exclude_dev,
+            kinds,
+            next,
+        )?;
         next += 1;
     }
     Ok(ShortestWalks { search })

@@ -6,8 +6,8 @@
 //! alone, where there is no such list.
 use crate::given;
 use graph_core::selection::{
-    BuildError, DepKind, ExcludeSpec, ExcludeSpecs, Include, KrateRefs, Krates, Metadata, Selection,
-    standings_of,
+    BuildError, DepKind, ExcludeSpec, ExcludeSpecs, Include, KrateRefs, Krates, Metadata,
+    Selection, standings_of,
 };
 use graph_metadata::{Krate, MetaError, records};
 use graph_walk::{SelectingWalks, ShortestWalks, Unchecked, shortest_walks};
@@ -193,7 +193,13 @@ fn put_selected(alloc: Global, out: &mut AnswerText, krates: &Krates) {
 }
 
 /// Puts the ids of the crates of a walk, or a dash where there is none.
-fn put_walk(alloc: Global, out: &mut AnswerText, crates: &[Krate], walks: &ShortestWalks, place: usize) {
+fn put_walk(
+    alloc: Global,
+    out: &mut AnswerText,
+    crates: &[Krate],
+    walks: &ShortestWalks,
+    place: usize,
+) {
     match &walks.walk_to(alloc, place) {
         Ok(Some(places)) => {
             for place in places {
@@ -283,7 +289,9 @@ fn put_unchecked(
         out.put(front);
         for place in 0..metadata.len() {
             let include = Include { dev, build };
-            let cause = walks.why_unchecked(metadata, &selection, &standings, words, include, place);
+            let cause = walks.why_unchecked(
+                metadata, &selection, &standings, words, include, place,
+            );
             out.put(unchecked_letter(cause));
         }
         front = " | ";
