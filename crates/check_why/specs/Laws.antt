@@ -9,11 +9,11 @@ use Rattle.policy_core.specs.valid.Satisfied.{satisfies}
 use Rattle.check_core.specs.evaluate.Evaluation.{is_allowed, term_hits}
 use Rattle.check_why.specs.Answer.{failing}
 
--- some licensee that is allowed satisfies the term at a place
-abbrev pub AllowsTerm : List LicenseReq → List ExpressionReq → ℕ → Type 0
-AllowsTerm allowed terms place =
-    (term : ExpressionReq) → slice_get terms place ≡ Some term
-    → Any (λ licensee. satisfies licensee term.req ≡ true) allowed
+-- the term at a place is there, and some licensee that is allowed satisfies it
+pub record AllowsTerm (allowed : List LicenseReq) (terms : List ExpressionReq) (place : ℕ) : Type 0 where
+  pub term : ExpressionReq
+  pub stands : slice_get terms place ≡ Some term
+  pub satisfied : Any (λ licensee. satisfies licensee term.req ≡ true) allowed
 
 -- a policy that allows all that another does, with the same exceptions, and the terms at some places
 pub record AllowsAlso (policy more : Policy) (terms : List ExpressionReq) (places : List ℕ) : Type 0 where

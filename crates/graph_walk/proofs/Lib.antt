@@ -8,4 +8,5 @@ mod TurnLemmas
 mod LeastLemmas
 mod OneLemmas
 mod FoundLemmas
+mod UncheckedLemmas
 mod Examples
