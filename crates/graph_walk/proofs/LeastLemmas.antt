@@ -124,7 +124,7 @@ module _ (graph : Graph) (choice : Choice) (named : Option DepKind) (rising : Ar
     listed : IsListed graph choice named seen.best walk
     listed = subst (IsListed graph choice named seen.best) kept.is (over.walks.listed kept.at kept.below)
 
-    reached : Reached graph choice named (id_of_node graph place)
+    abbrev reached : Reached graph choice named (id_of_node graph place)
     reached = record {
       root = listed.walked.reached.root;
       begins = listed.walked.reached.begins;
