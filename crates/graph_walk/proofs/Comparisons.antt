@@ -22,25 +22,25 @@ then-tied o p e = ap (λ first. ordering_then first p) e
 
 module _ {A : Type 0} (cmp : A → A → Ordering) where
   -- what is before another of its length stays before it, whatever comes behind
-  pub less-append : (as bs cs ds : List A) → length as ≡ length bs → slice_cmp cmp as bs ≡ Less
-      → slice_cmp cmp (as ++ cs) (bs ++ ds) ≡ Less
-  less-append [] [] cs ds long less = absurd (let wrong : Equal ≡ Less = less in cc)
-  less-append [] (b ∷ bs) cs ds long less = absurd (omega arith)
-  less-append (a ∷ as) [] cs ds long less = absurd (omega arith)
-  less-append (a ∷ as) (b ∷ bs) cs ds long less =
-      let rest : length as ≡ length bs = omega arith in
-      then-less (cmp a b) (slice_cmp cmp as bs) (slice_cmp cmp (as ++ cs) (bs ++ ds))
-      (λ e. less-append as bs cs ds rest e) less
+  pub less-append : (us vs ws xs : List A) → length us ≡ length vs → slice_cmp cmp us vs ≡ Less
+      → slice_cmp cmp (us ++ ws) (vs ++ xs) ≡ Less
+  less-append [] [] ws xs long less = absurd (let wrong : Equal ≡ Less = less in cc)
+  less-append [] (b ∷ vs) ws xs long less = absurd (omega arith)
+  less-append (a ∷ us) [] ws xs long less = absurd (omega arith)
+  less-append (a ∷ us) (b ∷ vs) ws xs long less =
+      let rest : length us ≡ length vs = omega arith in
+      then-less (cmp a b) (slice_cmp cmp us vs) (slice_cmp cmp (us ++ ws) (vs ++ xs))
+      (λ e. less-append us vs ws xs rest e) less
 
-  pub same-append : ((a : A) → cmp a a ≡ Equal) → (as cs ds : List A)
-      → slice_cmp cmp (as ++ cs) (as ++ ds) ≡ slice_cmp cmp cs ds
-  same-append tied [] cs ds = refl
-  same-append tied (a ∷ as) cs ds =
-      then-tied (cmp a a) (slice_cmp cmp (as ++ cs) (as ++ ds)) (tied a) ∙ same-append tied as cs ds
+  pub same-append : ((a : A) → cmp a a ≡ Equal) → (us ws xs : List A)
+      → slice_cmp cmp (us ++ ws) (us ++ xs) ≡ slice_cmp cmp ws xs
+  same-append tied [] ws xs = refl
+  same-append tied (a ∷ us) ws xs =
+      then-tied (cmp a a) (slice_cmp cmp (us ++ ws) (us ++ xs)) (tied a) ∙ same-append tied us ws xs
 
-  pub same-equal : ((a : A) → cmp a a ≡ Equal) → (as : List A) → slice_cmp cmp as as ≡ Equal
+  pub same-equal : ((a : A) → cmp a a ≡ Equal) → (us : List A) → slice_cmp cmp us us ≡ Equal
   same-equal tied [] = refl
-  same-equal tied (a ∷ as) = then-tied (cmp a a) (slice_cmp cmp as as) (tied a) ∙ same-equal tied as
+  same-equal tied (a ∷ us) = then-tied (cmp a a) (slice_cmp cmp us us) (tied a) ∙ same-equal tied us
 
 -- ---- ids
 
