@@ -1,0 +1,14 @@
+//! What `why` says of a crate: its verdict, what that rests on, who needs it, and what was read.
+#![tactic(auto)]
+
+pub mod answer;
+pub mod laws;
+mod lines;
+mod object;
+
+pub use answer::{
+    Asking, CrateAnswer, CrateTitle, CrateTitles, LicenseAnswer, ReadAnswer, ReadAnswers, ReadSaid,
+    TermAnswer, TermAnswers, TermHit, Unmatched, UnmetAnswer, UnmetAnswers, VerdictAnswer,
+};
+pub use lines::{push_lines, push_unchecked_lines};
+pub use object::{push_object, push_unchecked_object};
