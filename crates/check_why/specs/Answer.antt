@@ -18,7 +18,7 @@ use Rattle.gather_core.specs.declared.findings.license.LicenseInfo.{LicenseInfo}
 use Rattle.gather_core.specs.declared.findings.license.LicenseInfo.TheVariants as info
 use Rattle.check_core.specs.Turns.{GatheredCrate, expression_of}
 use Rattle.check_core.specs.evaluate.Evaluation.{term_hits}
-use Rattle.check_core.specs.findings.Places.{all_of, span_in_file}
+use Rattle.check_core.specs.Reports.{place_of}
 use Rattle.check_core.specs.findings.Sources.{source_text}
 use Rattle.check_why.specs.declared.answer.CrateAnswer.{CrateAnswer}
 use Rattle.check_why.specs.declared.answer.CrateTitle.{CrateTitle}
@@ -26,7 +26,7 @@ use Rattle.check_why.specs.declared.answer.LicenseAnswer.{LicenseAnswer}
 use Rattle.check_why.specs.declared.answer.TermAnswer.{TermAnswer}
 use Rattle.check_why.specs.declared.answer.VerdictAnswer.{VerdictAnswer}
 use Rattle.check_why.specs.declared.answer.VerdictAnswer.TheVariants as answer
-use Rattle.check_why.specs.Place.{place_at, term_answers}
+use Rattle.check_why.specs.Place.{begin_of, place_at, term_answers}
 use Rattle.check_why.specs.Reads.{read_answers}
 use Rattle.check_why.specs.Unmet.{unmet_answers}
 
@@ -35,14 +35,14 @@ title_of krate = record { id = krate.id; name = krate.name; version = parts_text
 
 -- ---- the expression
 
--- with what it was retrieved via, and where it begins: both as the label of the whole expression has them
+-- with what it was retrieved via, as the label of the whole expression has it, and where it begins
 abbrev pub license_answer : List File → LicenseInfo → Option LicenseAnswer
 license_answer files info.Unlicensed = None
 license_answer files (info.SpdxExpression expression nfo) =
     Some (record {
       text = expression.text;
       source = source_text nfo.source;
-      place = place_at files nfo.file_id (span_in_file nfo (all_of expression.text));
+      place = place_at files nfo.file_id (begin_of (place_of nfo));
     })
 
 -- ---- the verdict
@@ -62,12 +62,17 @@ verdict_answer hits Unlicensed = answer.Unlicensed
 verdict_answer hits (Accepted choice by) = answer.Accepted choice
 verdict_answer hits (Rejected least blocks) = answer.Rejected (failing hits least) blocks
 
--- the terms of a crate that is not passed over
-abbrev pub terms_for : List File → ValidConfig → List ℕ → Option ExpressionView → Verdict → List TermAnswer
-terms_for files policy counted expression Skipped = []
-terms_for files policy counted None verdict = []
-terms_for files policy counted (Some expression) verdict =
-    term_answers files policy expression.terms (term_hits (policy_of policy) counted expression.terms)
+-- the terms of an expression, each by its own hit
+abbrev pub terms_in : List File → ValidConfig → Option ExpressionView → List (Option Hit) → List TermAnswer
+terms_in files policy None hits = []
+terms_in files policy (Some expression) hits = term_answers files policy expression.terms hits
+
+-- of a crate that is not passed over
+abbrev pub terms_by : List File → ValidConfig → Option ExpressionView → Verdict → List (Option Hit) → List TermAnswer
+terms_by files policy expression Skipped hits = []
+terms_by files policy expression Unlicensed hits = terms_in files policy expression hits
+terms_by files policy expression (Accepted choice by) hits = terms_in files policy expression hits
+terms_by files policy expression (Rejected least blocks) hits = terms_in files policy expression hits
 
 -- ---- all of it
 
@@ -89,7 +94,8 @@ answer_of files scanner policy one = record {
   title = title_of one.gathered.krate;
   verdict = verdict_answer (hits_for policy one.gathered.exceptions (expression_of one.gathered.info)) one.verdict;
   license = license_answer files one.gathered.info;
-  terms = terms_for files policy one.gathered.exceptions (expression_of one.gathered.info) one.verdict;
+  terms = terms_by files policy (expression_of one.gathered.info) one.verdict
+      (hits_for policy one.gathered.exceptions (expression_of one.gathered.info));
   needed_by = titles_of one.needed_by;
   reads = read_answers scanner one.known_reads one.reads;
   unmet = unmet_answers files policy one.gathered.krate one.known_reads;

@@ -4,4 +4,6 @@ pub mod Unmet
 pub mod Answer
 pub mod Lines
 pub mod Object
+pub mod Kept
+pub mod Made
 pub mod Laws

@@ -1,5 +1,5 @@
 -- Places in files, and where the policy allows a term, by what the findings of the check say of places.
-use Rattle.std.specs.Prelude.{ℕ, List, [], ◌∷◌, Option, Some, None, slice_get}
+use Rattle.std.specs.Prelude.{ℕ, List, [], ◌∷◌, All, Option, Some, None, slice_get}
 use Rattle.std.specs.Option.{option_map_or}
 use Rattle.deny_text.specs.declared.span.Span.{Span}
 use Rattle.spdx_terms.specs.declared.term.ExpressionReq.{ExpressionReq}
@@ -10,9 +10,11 @@ use Rattle.diag_core.specs.declared.label.LabelStyle.TheVariants.{Primary}
 use Rattle.diag_core.specs.File.{File}
 use Rattle.diag_core.specs.Label.{label_at}
 use Rattle.diag_print.specs.Human.{place_text}
+use Rattle.diag_print.specs.Places.{LabelIsInside}
 use Rattle.policy_parts.specs.declared.entries.licensee.Licensee.{Licensee}
 use Rattle.policy_core.specs.declared.valid.policy.ValidConfig.{ValidConfig}
 use Rattle.policy_core.specs.declared.valid.policy.ValidException.{ValidException}
+use Rattle.check_core.specs.declared.report.ExpressionPlace.{ExpressionPlace}
 use Rattle.check_why.specs.declared.answer.TermAnswer.{TermAnswer}
 use Rattle.check_why.specs.declared.answer.TermHit.{TermHit}
 use Rattle.check_why.specs.declared.answer.TermHit.TheVariants as hit
@@ -20,6 +22,23 @@ use Rattle.check_why.specs.declared.answer.TermHit.TheVariants as hit
 -- where a place of a file begins, as a label there prints it: the file, the line and the column
 abbrev pub place_at : List File → ℕ → Span → List ℕ
 place_at files file span = place_text files (label_at Primary file span [])
+
+-- the first byte of an expression, or the string that it was written as, where that has escapes
+abbrev pub begin_by : ℕ → Option Span → Span
+begin_by offset None = record { start = offset; end = offset }
+begin_by offset (Some whole) = whole
+
+abbrev pub begin_of : ExpressionPlace → Span
+begin_of place = begin_by place.offset place.whole
+
+-- a place lies in its file, between characters
+abbrev pub PlaceIsInside : List File → ℕ → Span → Type 0
+PlaceIsInside files file span = LabelIsInside files (label_at Primary file span [])
+
+-- so do those of licensees
+abbrev pub LicenseesAreInside : List File → ℕ → List Licensee → Type 0
+LicenseesAreInside files file licensees =
+    All (λ (licensee : Licensee). PlaceIsInside files file licensee.0.span) licensees
 
 -- where a licensee of a list is; the empty text behind the end
 abbrev pub licensee_place : List File → ℕ → List Licensee → ℕ → List ℕ
@@ -40,10 +59,12 @@ term_hit files policy (Some (Allowed entry)) =
 term_hit files policy (Some (Exception exception entry)) =
     hit.Excepted (excepted_place files policy.exceptions exception entry)
 
--- the terms in order, each by its own hit; a term behind the end of the hits has none
+abbrev pub term_answer : List File → ValidConfig → ExpressionReq → Option Hit → TermAnswer
+term_answer files policy term one = record { text = req_text term.req; hit = term_hit files policy one }
+
+-- the terms in order, each by its own hit
 abbrev pub term_answers : List File → ValidConfig → List ExpressionReq → List (Option Hit) → List TermAnswer
 term_answers files policy [] hits = []
-term_answers files policy (term ∷ terms) [] =
-    record { text = req_text term.req; hit = hit.NotAllowed } ∷ term_answers files policy terms []
+term_answers files policy (term ∷ terms) [] = []
 term_answers files policy (term ∷ terms) (one ∷ hits) =
-    record { text = req_text term.req; hit = term_hit files policy one } ∷ term_answers files policy terms hits
+    term_answer files policy term one ∷ term_answers files policy terms hits

@@ -64,10 +64,10 @@ unmet_of known_reads one =
 
 -- ---- all of them
 
-abbrev pub clarification_files : List File → ℕ → ValidClarification → AskingFiles
-clarification_files files policy one = record {
+abbrev pub clarification_files : List File → ValidClarification → AskingFiles
+clarification_files files one = record {
   asking = Clarification;
-  place = place_at files policy one.spec.span;
+  place = place_at files one.file_id one.spec.span;
   files = map named_of one.license_files;
 }
 
@@ -87,7 +87,7 @@ unmet_until known_reads (one ∷ more) =
 abbrev pub clarifications_unmet : List File → ValidConfig → CrateRecord → FolderReads → List UnmetAnswer
 clarifications_unmet files policy krate known_reads =
     unmet_until known_reads
-    (map (clarification_files files policy.file_id)
+    (map (clarification_files files)
     (filter (λ (one : ValidClarification). spec_matches one.spec krate) policy.clarifications))
 
 -- files of exceptions are looked at under version 3 alone

@@ -13,6 +13,7 @@ pub mod settle;
 pub mod settling;
 
 pub use clarification::{ClarificationRef, FileRef, HeldClarification};
+pub use expression::{KeptFile, KeptFiles, KeptText, TextKept, kept_files};
 pub use own_texts::{OwnText, OwnTextItems, OwnTexts, own_texts};
 pub use scan::Scan;
 pub use settle::{Coords, SettledLicense, folder, settle_license};

@@ -19,7 +19,7 @@ use Rattle.run_check.proofs.check.settle_and_judge.Goals as goal
 pub returns-clause-checked : goal.returns-clause-checked
 returns-clause-checked g c =
     let policy = c.args.policy in
-    let own = scanner_of_policy (g.C.Catalog.lists c.args.catalog.now) (g.I.Identifier.match_of c.args.identifier.now) policy in
+    let own = scanner_of_policy c.args.keeps (g.C.Catalog.lists c.args.catalog.now) (g.I.Identifier.match_of c.args.identifier.now) policy in
     let nfos = c.in_ok-summary.summary.nfos in
     let last = c.licenses_found.new.files in
     let tree = tree_seen (g.T.Tree.content c.args.tree.now) (g.T.Tree.content c.licenses_found.new.tree) (g.T.Tree.fault_count c.args.tree.now) (g.T.Tree.fault_count c.licenses_found.new.tree)
@@ -36,7 +36,7 @@ returns-clause-checked g c =
 pub returns-clause-cut : goal.returns-clause-cut
 returns-clause-cut g c =
     let policy = c.args.policy in
-    let own = scanner_of_policy (g.C.Catalog.lists c.args.catalog.now) (g.I.Identifier.match_of c.args.identifier.now) policy in
+    let own = scanner_of_policy c.args.keeps (g.C.Catalog.lists c.args.catalog.now) (g.I.Identifier.match_of c.args.identifier.now) policy in
     let tree = tree_seen (g.T.Tree.content c.args.tree.now) (g.T.Tree.content c.licenses_found.new.tree) (g.T.Tree.fault_count c.args.tree.now) (g.T.Tree.fault_count c.licenses_found.new.tree)
     (g.T.Tree.trace c.args.tree.now) (g.T.Tree.trace c.licenses_found.new.tree) in
     on_err c.judge_and_report.result _

@@ -20,7 +20,7 @@ pub returns-clause-gathered : goal.returns-clause-gathered
 returns-clause-gathered g c graph choice chosen =
     let policy = c.args.policy.now in
     let lists = g.C.Catalog.lists c.args.catalog.now in
-    let own = scanner_of_policy lists (g.I.Identifier.match_of c.args.identifier.now) policy in
+    let own = scanner_of_policy c.args.keeps lists (g.I.Identifier.match_of c.args.identifier.now) policy in
     let nfos = c.in_ok-summary.summary.nfos in
     let last = c.gather.new.files in
     let fits : SFits w64 policy.confidence_threshold = search rules in
@@ -41,7 +41,7 @@ pub returns-in_err-summary-clause-cut : goal.returns-in_err-summary-clause-cut
 returns-in_err-summary-clause-cut g c =
     let policy = c.args.policy.now in
     let lists = g.C.Catalog.lists c.args.catalog.now in
-    let own = scanner_of_policy lists (g.I.Identifier.match_of c.args.identifier.now) policy in
+    let own = scanner_of_policy c.args.keeps lists (g.I.Identifier.match_of c.args.identifier.now) policy in
     let fits : SFits w64 policy.confidence_threshold = search rules in
     let cut = simp to_z-of_z at c.with_confidence_threshold-gatherer.ensures in
     let same : ◌≡◌ {A = Scanner} (scanner_of_gatherer lists g.I.Identifier.match_of c.with_confidence_threshold-gatherer.result) own =
