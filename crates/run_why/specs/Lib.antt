@@ -1,2 +1,4 @@
 pub mod Named
+pub mod Given
 pub mod Why
+pub mod Steps

@@ -1,6 +1,7 @@
 -- What `why` prints: of each crate that it is asked for the answer of the check, or why the crate is not checked.
 use Rattle.std.specs.Prelude.{◌≡◌, ◌⊎◌, ℕ, List, [], ◌∷◌, length, find, slice_get, bytes_eq}
-use Rattle.std.specs.Prelude.{Option, Some, None, if◌then◌else◌}
+use Rattle.std.specs.Prelude.{Option, Some, None, Result, Ok, Err, if◌then◌else◌}
+use Rattle.tree_core.specs.Faults.{Gained, GainedPrefix}
 use Rattle.std.specs.List.{AllZip, filter_map, flat_map}
 use Rattle.spdx_core.specs.declared.certificates.verdict.Verdict.{Verdict}
 use Rattle.diag_core.specs.File.{File}
@@ -25,21 +26,22 @@ use Rattle.check_why.specs.Lines.{answer_lines, unchecked_lines}
 use Rattle.check_why.specs.Object.{answer_object, unchecked_object}
 use Rattle.run_found.specs.Hearing.{RequestHearing, TreeSeen}
 use Rattle.run_found.specs.Selection.{PolicyAndCrates, included_in}
-use Rattle.run_found.specs.Written.{SinkSeen}
+use Rattle.run_found.specs.declared.error.Error.{Error}
+use Rattle.run_found.specs.declared.error.Error.TheVariants.{NoSuchCrate}
+use Rattle.run_found.specs.declared.reads.CrateRead.{CrateRead}
+use Rattle.run_found.specs.Written.{IsSilent, SinkSeen}
 use Rattle.run_command.specs.Found.{choice_in, scanner_of_given, turns_in}
-use Rattle.run_command.specs.Given.{CommandArguments}
 use Rattle.run_command.specs.Settled.{HearsSo}
-use Rattle.run_command.specs.Stops.{Asks}
+use Rattle.run_command.specs.Stops.{Asks, Stops}
+use Rattle.run_command.specs.Written.{IsWriteFault}
 use Rattle.run_check.specs.declared.report.Report.{Report}
 use Rattle.run_check.specs.Found.{gathered_in}
 use Rattle.run_check.specs.Headline.{is_against}
+use Rattle.run_check.specs.Reads.{reads_told}
 use Rattle.run_check.specs.Report.{IsReport, verdicts_in}
+use Rattle.run_why.specs.declared.whying.WhyFound.{WhyFound}
+use Rattle.run_why.specs.Given.{WhyArguments}
 use Rattle.run_why.specs.Named.{first_unknown, named_among}
-
--- what each command is given, and the words that name crates
-pub record WhyArguments : Type 0 where
-  pub command : CommandArguments
-  pub words : List (List ℕ)
 
 -- ---- in the format that is asked for
 
@@ -139,11 +141,6 @@ basis_of given hearing asked report = record {
 
 -- ---- what is written
 
--- what is found: the report of the check, and the text of each crate
-pub record WhyFound : Type 0 where
-  pub report : Report
-  pub texts : List (List ℕ)
-
 -- What was read asks for a check with this report; no word names no crate; and each crate that is asked for has its
 -- text, in the order of ids.
 pub record IsWhy (given : WhyArguments) (found : WhyFound) (hearing : RequestHearing) : Type 0 where
@@ -168,3 +165,32 @@ pub record IsNoSuchCrate (given : WhyArguments) (word : List ℕ) (hearing : Req
 
 abbrev pub StopsAtWord : WhyArguments → TreeSeen → SinkSeen → List ℕ → Type 0
 StopsAtWord given tree err word = HearsSo given.command tree err (IsNoSuchCrate given word)
+
+-- ---- the command
+
+-- what is told is found, or a word names no crate, or the command was refused before it did its own
+abbrev pub FindsWhy : WhyArguments → TreeSeen → SinkSeen → Result WhyFound Error → Type 0
+FindsWhy given tree err (Ok found) = HearsSo given.command tree err (IsWhy given found)
+FindsWhy given tree err (Err (NoSuchCrate word)) = StopsAtWord given tree err word
+FindsWhy given tree err (Err error) = Stops given.command tree err error
+
+-- a prefix of what is told was written, behind which a write was refused
+pub record CutsWhy (given : WhyArguments) (tree : TreeSeen) (err out : SinkSeen) (error : Error) : Type 0 where
+  pub found : WhyFound
+  pub hears : HearsSo given.command tree err (IsWhy given found)
+  pub refused : IsWriteFault out.before out.after error
+  pub front : GainedPrefix out.old out.new (why_text found)
+
+-- What is told is written, and the reads of the crates are reported. A refusal leaves nothing on `out`, or it is that of
+-- the write.
+pub record TellsAll (given : WhyArguments) (tree : TreeSeen) (err out : SinkSeen) (reads : List CrateRead)
+    : Type 0 where
+  pub found : WhyFound
+  pub hears : HearsSo given.command tree err (IsWhy given found)
+  pub written : Gained out.old out.new (why_text found)
+  pub reads_are : reads ≡ reads_told found.report.crates
+
+abbrev pub Tells : WhyArguments → TreeSeen → SinkSeen → SinkSeen → Result (List CrateRead) Error → Type 0
+Tells given tree err out (Ok reads) = TellsAll given tree err out reads
+Tells given tree err out (Err error) =
+    (FindsWhy given tree err (Err error) × IsSilent out) ⊎ CutsWhy given tree err out error
