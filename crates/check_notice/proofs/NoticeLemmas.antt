@@ -7,7 +7,7 @@ use Rattle.check_notice.specs.Sources.{TextSources}
 use Rattle.check_notice.specs.Steps.{all_told_by, nothing_told}
 use Rattle.check_notice.proofs.StepLemmas.{all_told, none_told, progress_with}
 
-notice_in : NoticeProgress → Notice
+abbrev notice_in : NoticeProgress → Notice
 notice_in progress = record { crates = progress.crates; texts = progress.numbers }
 
 -- all crates were told

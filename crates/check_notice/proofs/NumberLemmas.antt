@@ -13,36 +13,45 @@ use Rattle.check_notice.specs.Numbers.{number_in, with_text}
 -- what some item passes, some item of a longer list does
 pub any-front : {A : Type 0} (p : A → Bool) (xs ys : List A) → list_any p xs ≡ true → list_any p (xs ++ ys) ≡ true
 any-front p [] ys some = absurd (cc)
-any-front p (x ∷ xs) ys some = by (p x) refl
+any-front p (x ∷ xs) ys some = by (p x) refl (any-front p xs ys)
   where
-    by : (b : Bool) → p x ≡ b → list_any p (x ∷ (xs ++ ys)) ≡ true
-    by true here = ap (λ b. b || list_any p (xs ++ ys)) here
-    by false here = ap (λ b. b || list_any p (xs ++ ys)) here ∙ any-front p xs ys (sym (ap (λ b. b || list_any p xs) here) ∙ some)
+    by : (b : Bool) → p x ≡ b → (list_any p xs ≡ true → list_any p (xs ++ ys) ≡ true) → list_any p (x ∷ (xs ++ ys)) ≡ true
+    by true here rest = ap (λ b. b || list_any p (xs ++ ys)) here
+    by false here rest = ap (λ b. b || list_any p (xs ++ ys)) here ∙ rest (sym (ap (λ b. b || list_any p xs) here) ∙ some)
 
 pub any-last : {A : Type 0} (p : A → Bool) (xs : List A) (y : A) → p y ≡ true → list_any p (xs ++ y ∷ []) ≡ true
 any-last p [] y here = ap (λ b. b || false) here
-any-last p (x ∷ xs) y here = by (p x) refl
+any-last p (x ∷ xs) y here = by (p x) refl (any-last p xs y here)
   where
-    by : (b : Bool) → p x ≡ b → list_any p (x ∷ (xs ++ y ∷ [])) ≡ true
-    by true first = ap (λ b. b || list_any p (xs ++ y ∷ [])) first
-    by false first = ap (λ b. b || list_any p (xs ++ y ∷ [])) first ∙ any-last p xs y here
+    by : (b : Bool) → p x ≡ b → list_any p (xs ++ y ∷ []) ≡ true → list_any p (x ∷ (xs ++ y ∷ [])) ≡ true
+    by true first rest = ap (λ b. b || list_any p (xs ++ y ∷ [])) first
+    by false first rest = ap (λ b. b || list_any p (xs ++ y ∷ [])) first ∙ rest
 
 -- the first place of what is there stays
 pub position-front : {A : Type 0} (p : A → Bool) (xs ys : List A) → list_any p xs ≡ true → position_or_len p (xs ++ ys) ≡ position_or_len p xs
 position-front p [] ys some = absurd (cc)
-position-front p (x ∷ xs) ys some = by (p x) refl
+position-front p (x ∷ xs) ys some = by (p x) refl (position-front p xs ys)
   where
-    by : (b : Bool) → p x ≡ b → position_or_len p (x ∷ (xs ++ ys)) ≡ position_or_len p (x ∷ xs)
-    by true here = ap (λ b. cond (not b) (1 + position_or_len p (xs ++ ys)) 0) here ∙ sym (ap (λ b. cond (not b) (1 + position_or_len p xs) 0) here)
-    by false here =
+    by : (b : Bool) → p x ≡ b → (list_any p xs ≡ true → position_or_len p (xs ++ ys) ≡ position_or_len p xs) → position_or_len p (x ∷ (xs ++ ys)) ≡ position_or_len p (x ∷ xs)
+    by true here rest = ap (λ b. cond (not b) (1 + position_or_len p (xs ++ ys)) 0) here ∙ sym (ap (λ b. cond (not b) (1 + position_or_len p xs) 0) here)
+    by false here rest =
         ap (λ b. cond (not b) (1 + position_or_len p (xs ++ ys)) 0) here
-        ∙ ap (λ n. 1 + n) (position-front p xs ys (sym (ap (λ b. b || list_any p xs) here) ∙ some))
+        ∙ ap (λ n. 1 + n) (rest (sym (ap (λ b. b || list_any p xs) here) ∙ some))
         ∙ sym (ap (λ b. cond (not b) (1 + position_or_len p xs) 0) here)
 
 -- ---- texts
 
 pub same_text : (text : List ℕ) → bytes_eq text text ≡ true
 same_text text = (bytes_eq-Decides text text).1 refl
+
+pub swapped : (a b : List ℕ) → bytes_eq a b ≡ bytes_eq b a
+swapped a b = by (bytes_eq a b) (bytes_eq b a) (bytes_eq-Decides a b) (bytes_eq-Decides b a)
+  where
+    by : (r s : Bool) → (r ≡ true → a ≡ b) × (a ≡ b → r ≡ true) → (s ≡ true → b ≡ a) × (b ≡ a → s ≡ true) → r ≡ s
+    by true true p q = refl
+    by true false p q = sym (q.1 (sym (p.0 refl)))
+    by false true p q = p.1 (sym (q.0 refl))
+    by false false p q = refl
 
 pub has_with : (texts : List (List ℕ)) (text : List ℕ) → has_text (with_text texts text) text ≡ true
 has_with texts text = by (has_text texts text) refl
@@ -80,7 +89,7 @@ number_stays texts more text there =
 -- ---- cites
 
 -- the texts that are cited are there
-pub AreThere : List (List ℕ) → List Cite → Type 0
+abbrev pub AreThere : List (List ℕ) → List Cite → Type 0
 AreThere texts [] = Unit {0}
 AreThere texts (cite ∷ cites) = (has_text texts cite.text ≡ true) × AreThere texts cites
 

@@ -2,7 +2,7 @@
 use Rattle.std.specs.Prelude.{◌≡◌, ◌≤◌, ◌<◌, ◌-◌, ◌+◌, ℕ, List, length, slice_get, Some, None, Any}
 use Rattle.std.specs.List.{AllZip}
 use Rattle.spdx_terms.specs.declared.term.LicenseReq.{LicenseReq}
-use Rattle.gather_license.specs.declared.own_texts.OwnText.{OwnText}
+use Rattle.gather_license.specs.declared.texts.OwnText.{OwnText}
 use Rattle.check_notice.specs.declared.notice.KeyNumber.{KeyNumber}
 use Rattle.check_notice.specs.declared.notice.Notice.{Notice}
 use Rattle.check_notice.specs.declared.notice.NoticeCrate.{NoticeCrate}

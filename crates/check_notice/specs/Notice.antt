@@ -10,7 +10,7 @@ use Rattle.spdx_core.specs.Reading.{ExpressionView}
 use Rattle.spdx_core.specs.declared.certificates.verdict.Verdict.{Verdict}
 use Rattle.spdx_core.specs.declared.certificates.verdict.Verdict.TheVariants.{Skipped, Unlicensed, Accepted, Rejected}
 use Rattle.graph_core.specs.Krate.{CrateRecord, record_of}
-use Rattle.gather_license.specs.declared.own_texts.OwnText.{OwnText}
+use Rattle.gather_license.specs.declared.texts.OwnText.{OwnText}
 use Rattle.check_core.specs.declared.report.CrateReport.{CrateReport}
 use Rattle.check_notice.specs.declared.notice.KeyNumber.{KeyNumber}
 use Rattle.check_notice.specs.declared.notice.Notice.{Notice}

@@ -7,7 +7,7 @@ use Rattle.spdx_terms.specs.declared.catalog.identifier.Match.{Match}
 use Rattle.spdx_terms.specs.declared.term.LicenseItem.{LicenseItem}
 use Rattle.spdx_terms.specs.declared.term.LicenseItem.TheVariants.{Spdx, Reference}
 use Rattle.spdx_terms.specs.declared.term.LicenseReq.{LicenseReq}
-use Rattle.gather_license.specs.declared.own_texts.OwnText.{OwnText}
+use Rattle.gather_license.specs.declared.texts.OwnText.{OwnText}
 use Rattle.check_notice.specs.declared.sources.TextFinder.{TextFinder}
 use Rattle.check_notice.specs.Keys.{key_of}
 

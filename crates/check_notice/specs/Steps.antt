@@ -2,7 +2,7 @@
 use Rattle.std.specs.Prelude.{◌≡◌, ℕ, List, [], ◌∷◌, ◌++◌, Option, Some, None, Result, Ok, Err, if◌then◌else◌}
 use Rattle.std.specs.Borrow.{Bor}
 use Rattle.spdx_terms.specs.declared.term.LicenseReq.{LicenseReq}
-use Rattle.gather_license.specs.declared.own_texts.OwnText.{OwnText}
+use Rattle.gather_license.specs.declared.texts.OwnText.{OwnText}
 use Rattle.check_notice.specs.declared.cites.CiteError.{CiteError}
 use Rattle.check_notice.specs.declared.cites.CiteError.TheVariants as cites
 use Rattle.check_notice.specs.declared.cites.Cited.{Cited}

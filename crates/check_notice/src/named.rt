@@ -1,7 +1,7 @@
 //! The licences of the texts that a crate comes with.
 ghost use Rattle.std.specs.Prelude.{◌≡◌, ℕ, List, Option, IfOk, find, map, position};
 ghost use Rattle.std.specs.Option.{option_copied, option_map};
-ghost use Rattle.gather_license.specs.declared.own_texts.OwnText.{OwnText};
+ghost use Rattle.gather_license.specs.declared.texts.OwnText.{OwnText};
 ghost use Rattle.check_notice.specs.Sources as spec;
 ghost use Rattle.check_notice.specs.Sources.{TextSources, finder_sources, is_named, name_of, own_text_by, own_text_in};
 

@@ -80,15 +80,23 @@ fn line_byte(byte: u8) -> u8
     if byte == b'\n' { b' ' } else { byte }
 }
 
+/// The bytes of a text, with a blank in the place of each LF.
+fn line_bytes(alloc: Global, text: &str) -> Result<Bytes, AllocError>
+    ensures { IfOk result (λ line. line ≡ in_line text.now) }
+{
+    let mut line = Bytes::new(alloc);
+    'bytes: for byte in text.as_bytes() {
+        line.push(line_byte(*byte))?;
+    }
+    Ok(line)
+}
+
 /// A text with a blank in the place of each LF.
 fn in_line(alloc: Global, text: &str) -> Result<Text, AllocError>
     ensures { IfOk result (λ line. line ≡ in_line text.now) }
 {
-    let mut bytes = Bytes::new(alloc);
-    'bytes: for byte in text.as_bytes() {
-        bytes.push(line_byte(*byte))?;
-    }
-    match String::from_utf8(bytes.into_vec()) {
+    let line = line_bytes(alloc, text)?;
+    match String::from_utf8(line.into_vec()) {
         Ok(line) => Ok(Text::from(line)),
         Err(_) => unreachable!(),
     }

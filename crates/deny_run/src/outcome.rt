@@ -41,8 +41,9 @@ pub enum RunEnd {
 pub struct Outcome {
     /// The exit status of the program: 0 after a report in which nothing is an error, after a verdict file that is
     /// right, after a bill that has not changed, after a listing, a sample, a verdict file, a bill, a notice or what
-    /// verdicts rest on that was written, after help and after the version; 4 after a report in which something is an error, after a verdict file that is
-    /// not right, and after a bill that has changed; 2 after words that are not taken; 1 after a refusal.
+    /// verdicts rest on that was written, after help and after the version; 4 after a report in which something is an
+    /// error, after a verdict file that is not right, and after a bill that has changed; 2 after words that are not
+    /// taken; 1 after a refusal.
     pub status: u8,
     /// What the words ask for, where they were taken and ask for something; in a refusal too.
     pub request: Option<Request>,

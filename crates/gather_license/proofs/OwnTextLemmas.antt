@@ -2,7 +2,7 @@
 use Rattle.std.proofs.Common.{◌≡◌, ◌∙◌, ℕ, List, [], ◌++◌, Option, Some, None, ap, refl, append-nil, append_assoc}
 use Rattle.std.specs.List.{cons_option, filter_map}
 use Rattle.std.specs.Option.{option_to_list}
-use Rattle.deny_text.specs.declared.span.Span.{Span}
+use Rattle.diag_core.specs.declared.label.Coord.{Coord}
 use Rattle.graph_core.specs.Krate.{CrateRecord}
 use Rattle.tree_core.specs.declared.file_reads.bad_read.BadRead.{BadRead}
 use Rattle.tree_core.specs.declared.file_reads.bad_read.BadRead.TheVariants as bad
@@ -29,7 +29,7 @@ pub one_more_text : {B : Type 0} (front rest : List B) (found : Option B) → fr
 one_more_text front rest None = ap (λ all. all ++ rest) (append-nil front)
 one_more_text front rest (Some text) = append_assoc front (option_to_list (Some text)) rest
 
-pub texts_looked : (krate : CrateRecord) (pack : PackView) (held : Option HeldClarification) (missing : List Span) (known_reads : FolderReads)
+pub texts_looked : (krate : CrateRecord) (pack : PackView) (held : Option HeldClarification) (missing : List Coord) (known_reads : FolderReads)
     → IsLooked krate [] pack held missing → paths_of pack.files ≡ in_path_order (paths_read pack.reads) → Agrees known_reads pack
     → filter_map text_in pack.files ≡ own_texts_of krate known_reads
 texts_looked krate pack held missing known_reads is sorted agrees =

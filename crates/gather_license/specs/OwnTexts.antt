@@ -10,8 +10,8 @@ use Rattle.graph_core.specs.Krate.{CrateRecord}
 use Rattle.gather_license.specs.files.KnownReads.{FolderReads, known_reads_by}
 use Rattle.gather_license.specs.files.Pack.{pack_paths}
 use Rattle.gather_license.specs.Priority.{files_heard, folder_of, records_with}
-use Rattle.gather_license.specs.declared.own_texts.OwnText.{OwnText}
-use Rattle.gather_license.specs.declared.own_texts.OwnTexts.{OwnTexts}
+use Rattle.gather_license.specs.declared.texts.OwnText.{OwnText}
+use Rattle.gather_license.specs.declared.texts.OwnTexts.{OwnTexts}
 
 -- a file that is read as a text, with that in its normal form
 abbrev pub text_by : List ℕ → ReadResult → Option OwnText

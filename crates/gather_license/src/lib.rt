@@ -7,14 +7,14 @@ pub mod expression;
 pub mod files;
 pub mod location;
 mod notes;
-pub mod own_texts;
 pub mod scan;
 pub mod settle;
 pub mod settling;
+pub mod texts;
 
 pub use clarification::{ClarificationRef, FileRef, HeldClarification};
 pub use expression::{KeptFile, KeptFiles, KeptText, TextKept, kept_files};
-pub use own_texts::{OwnText, OwnTextItems, OwnTexts, own_texts};
 pub use scan::Scan;
 pub use settle::{Coords, SettledLicense, folder, settle_license};
 pub use settling::{FilesSeen, JoinedNames, LicenseBasis};
+pub use texts::{OwnText, OwnTextItems, OwnTexts, own_texts};

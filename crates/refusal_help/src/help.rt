@@ -8,7 +8,7 @@ ghost use Rattle.refusal_help.specs.Help.{line_and_column, place_text, resolve_h
 ghost use Rattle.refusal_help.specs.Help.{catalog_words, line_help, store_help, store_place, syntax_help};
 ghost use Rattle.refusal_help.specs.Help.{accepted_help, missing_help, named_help, text_place};
 ghost use Rattle.refusal_help.specs.Help.{file_of, name_help, policy_help, shape_help, twice_help, unknown_help};
-ghost use Rattle.refusal_help.specs.Words.{read_words};
+ghost use Rattle.refusal_help.specs.Words.{manifest_words, read_words};
 
 use crate::again::Again;
 use crate::place::place_in;
@@ -56,6 +56,22 @@ fn push_advice(text: &mut String, words: &str) -> Result<(), AllocError>
     text.push_str("  = ")?;
     push_flat(text, words)?;
     text.push_str("\n")
+}
+
+/// What is so of a path that names no manifest.
+fn push_manifest(text: &mut String, path: &PathBuf) -> Result<(), AllocError>
+    ensures { OnOk result (string_bytes text.new
+        ≡ string_bytes text.old ++ at_file path.now (manifest_words path.now)) }
+{
+    push_file(text, path.as_path(), manifest_words(path.as_path()))
+}
+
+/// What is so of a manifest after a failed look at it.
+fn push_unseen(text: &mut String, path: &PathBuf) -> Result<(), AllocError>
+    ensures { OnOk result (string_bytes text.new
+        ≡ string_bytes text.old ++ at_file path.now (codes "could not be looked at")) }
+{
+    push_file(text, path.as_path(), "could not be looked at")
 }
 
 /// A file at a line and a column, which count from 0 here and from 1 in the text.
@@ -422,16 +438,8 @@ fn push_help(
     let metadata = &request.krate_ctx.metadata_path;
     match error {
         Error::NotCarried(what) => push_advice(text, what_words(*what)),
-        Error::ManifestPath(path) => {
-            push_file(text, path.as_path(), manifest_words(path.as_path()))
-        }
-        Error::ManifestRead { .. } => {
-            push_file(
-                text,
-                request.krate_ctx.manifest_path.as_path(),
-                "could not be looked at",
-            )
-        }
+        Error::ManifestPath(path) => push_manifest(text, path),
+        Error::ManifestRead { .. } => push_unseen(text, &request.krate_ctx.manifest_path),
         Error::CatalogRead(fault) => push_read(alloc, text, &request.catalog, *fault),
         Error::CatalogSyntax { line } => push_line(alloc, text, &request.catalog, *line),
         Error::StoreRead(fault) => push_store(alloc, text, &request.store, fault),

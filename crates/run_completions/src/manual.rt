@@ -18,6 +18,7 @@ cargo\\-deny \\- checks the licences of a project\\(aqs crates against a policy
 \\fBcargo deny\\fR [\\fIoptions\\fR] \\fBrecord\\fR
 \\fBcargo deny\\fR [\\fIoptions\\fR] \\fBverify\\fR \\fIfile\\fR
 \\fBcargo deny\\fR [\\fIoptions\\fR] \\fBbill\\fR \\fIoptions\\fR
+\\fBcargo deny\\fR [\\fIoptions\\fR] \\fBnotice\\fR
 \\fBcargo deny\\fR [\\fIoptions\\fR] \\fBsample\\fR \\fInumber\\fR
 .fi
 .SH DESCRIPTION
@@ -41,6 +42,8 @@ writes the verdicts, with what shows them, to standard output, and
 says whether the verdicts of such a file are right.
 .B bill
 writes an SPDX 2.3 document of the crates to standard output, or says whether one has changed.
+.B notice
+writes to standard output which licence each accepted crate is used under, and each licence text once.
 .B sample
 reads no file. No command uses the network, starts a program or writes a file.
 .PP

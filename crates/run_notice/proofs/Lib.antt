@@ -1,3 +1,4 @@
+pub mod MakingLemmas
 pub mod NoticeLemmas
 pub mod OwnLemmas
 pub mod WritingLemmas

@@ -5,10 +5,12 @@ use Rattle.std.proofs.lemmas.List.{map-append}
 use Rattle.std.proofs.lemmas.List.Elements.{All-nil, All-push}
 use Rattle.tree_core.specs.Call.{Call}
 use Rattle.tree_core.specs.Content.{Content}
+use Rattle.tree_core.specs.declared.reads.ReadRecord.{ReadRecord}
 use Rattle.tree_core.specs.file_reads.Read.{AreReads, call_lost, calls_in}
 use Rattle.tree_core.proofs.MadeLemmas.{made_as, made_joined, made_none}
 use Rattle.graph_core.specs.Krate.{CrateRecord}
-use Rattle.gather_license.specs.declared.own_texts.OwnTexts.{OwnTexts}
+use Rattle.gather_license.specs.declared.texts.OwnText.{OwnText}
+use Rattle.gather_license.specs.declared.texts.OwnTexts.{OwnTexts}
 use Rattle.gather_license.specs.files.Calls.{IsFront, StarvesAmong}
 use Rattle.gather_license.specs.OwnTexts.{HasOwnTexts, own_records_of}
 use Rattle.gather_license.specs.Priority.{folder_of}
@@ -47,7 +49,7 @@ module _ {told mid tells : Option Content} {before middle after : ℕ} {old betw
     where
       same_own : (own : OwnTexts) (has : HasOwnTexts mid tells middle after between new krate own) → own ≡ own_of (record { krate = krate; reads = has.reads })
       same_own own has =
-          ap (λ (texts : _). record { texts = texts; reads = own.reads }) has.texts ∙ ap (λ (reads : _). record { texts = (own_of (record { krate = krate; reads = has.reads })).texts; reads = reads }) (sym has.recorded_are)
+          ap (λ (texts : List OwnText). record { texts = texts; reads = own.reads }) has.texts ∙ ap (λ (reads : List ReadRecord). record { texts = (own_of (record { krate = krate; reads = has.reads })).texts; reads = reads }) (sym has.recorded_are)
 
   -- memory was wanting in the reads of the next crate
   pub cut_next : (all : List CrateRecord) → IsFront (crates ++ krate ∷ []) all → StarvesAmong mid tells middle after between new (folder_of krate) (own_records_of krate)

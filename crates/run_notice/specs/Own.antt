@@ -5,8 +5,8 @@ use Rattle.tree_core.specs.Call.{Call}
 use Rattle.tree_core.specs.declared.reads.ReadRecord.{ReadRecord}
 use Rattle.tree_core.specs.file_reads.Read.{AnsweredRead, AreReads, call_lost, calls_in, records_of_reads}
 use Rattle.graph_core.specs.Krate.{CrateRecord}
-use Rattle.gather_license.specs.declared.own_texts.OwnText.{OwnText}
-use Rattle.gather_license.specs.declared.own_texts.OwnTexts.{OwnTexts}
+use Rattle.gather_license.specs.declared.texts.OwnText.{OwnText}
+use Rattle.gather_license.specs.declared.texts.OwnTexts.{OwnTexts}
 use Rattle.gather_license.specs.files.Calls.{IsFront}
 use Rattle.gather_license.specs.files.KnownReads.{known_reads_by}
 use Rattle.gather_license.specs.OwnTexts.{own_records_of, own_texts_of}

@@ -2,10 +2,10 @@
 use Rattle.std.specs.Prelude.{◌≡◌, ◌⊎◌, ℕ, ◌+◌, List, [], ◌∷◌, ◌++◌, map, Some, None, Result, Ok, Err}
 use Rattle.tree_core.specs.Faults.{Gained, GainedPrefix}
 use Rattle.graph_core.specs.Krate.{CrateRecord}
-use Rattle.gather_license.specs.declared.own_texts.OwnTexts.{OwnTexts}
+use Rattle.gather_license.specs.declared.texts.OwnTexts.{OwnTexts}
 use Rattle.gather_core.specs.Calls.{ReadsOfCrate, calls_of_all}
 use Rattle.check_core.specs.declared.report.CrateReport.{CrateReport}
-use Rattle.check_notice.specs.Notice.{IsNotice, NoticedCrate, first_missing, noticed_as}
+use Rattle.check_notice.specs.Notice.{AnswersNotice, IsNotice, NoticedCrate, first_missing, noticed_as}
 use Rattle.check_notice.specs.Sources.{TextSources}
 use Rattle.check_notice.specs.Written.{text_head}
 use Rattle.run_found.specs.declared.error.Error.{Error}
@@ -18,6 +18,7 @@ use Rattle.run_command.specs.Written.{IsWriteFault}
 use Rattle.run_check.specs.declared.judged.JudgedCrates.{JudgedCrates}
 use Rattle.run_check.specs.Judged.{crates_judged}
 use Rattle.run_check.specs.Reads.{reads_told}
+use Rattle.run_notice.specs.declared.making.MadeNotice.{MadeNotice}
 use Rattle.run_notice.specs.declared.noticed.NoticedCrates.{NoticedCrates}
 use Rattle.run_notice.specs.Noticed.{noticed_heard, sources_by, unaccepted_id}
 use Rattle.run_notice.specs.Own.{AreOwnReads, IsOwnCut, crates_in, own_of, own_reads_told}
@@ -56,6 +57,15 @@ pub record LacksText (texts : TextsGiven) (judged : JudgedCrates) (id key : List
       ≡ Some (record { id = id; key = key })
   pub reads_are : reads ≡ reads_told judged.report.crates
   pub own_reads_are : own_reads ≡ own_reads_told (crates_in own) (map own_of own)
+
+-- the notice of the crates by the texts that they come with, or why there is none; and the records of the reads
+pub record IsMade (texts : TextsGiven) (judged : JudgedCrates) (made : MadeNotice) (own : List ReadsOfCrate) : Type 0 where
+  pub answers : AnswersNotice (judged_sources texts judged) (noticed_heard own judged.report.crates) made.made
+  pub own_reads : made.own ≡ own_reads_told (crates_in own) (map own_of own)
+
+-- memory was wanting before a crate's own read, or among these
+abbrev pub LacksOwn : JudgedCrates → TreeSeen → Type 0
+LacksOwn judged tree = MadeOn tree [] ⊎ IsOwnCut (crates_judged judged) tree
 
 -- a crate is rejected or has no licence, and no call was made
 pub record IsUnaccepted (judged : JudgedCrates) (tree : TreeSeen) (id : List ℕ) (reads : List CrateRead) : Type 0 where

@@ -1,13 +1,13 @@
 //! The notice of the crates that were judged.
 //! Called by `found_notice` of noticing; the reads may be listed in any order, no clause has it.
-ghost use Rattle.std.specs.Prelude.{◌≡◌, IfOk, None, map};
+ghost use Rattle.std.specs.Prelude.{◌≡◌, IfOk, None, OnErr, map};
 ghost use Rattle.graph_core.specs.selection.Listed.{record_behind};
 ghost use Rattle.check_notice.specs.Notice.{AnswersNotice, noticed_of};
 ghost use Rattle.run_check.specs.Judged.{crates_judged};
 ghost use Rattle.run_found.specs.Hearing.{seen_between};
 ghost use Rattle.run_found.specs.own_names.Given.{texts_given};
 ghost use Rattle.run_notice.specs.Noticed.{sources_by, unaccepted_id};
-ghost use Rattle.run_notice.specs.Steps.{MakesNotice, RefusesUnaccepted, noticed_by};
+ghost use Rattle.run_notice.specs.Steps.{IsMade, LacksOwn, MakesNotice, MakesOwn, RefusesUnaccepted, noticed_by};
 
 use crate::noticed::NoticedCrates;
 use crate::own::{own_of_crates, reads_of_own};
@@ -18,7 +18,7 @@ use gather_core::cut_threshold;
 use gather_license::OwnTexts;
 use graph_core::Krate;
 use run_check::{JudgedCrates, Report, reads_of_reports};
-use run_found::Error;
+use run_found::{CrateReads, Error};
 use spdx_core::{Identifier, TextLookup};
 use std::alloc::{AllocError, Global};
 use tree_core::Tree;
@@ -88,17 +88,26 @@ fn unaccepted_id(alloc: Global, reports: &[CrateReport]) -> Result<Option<Text>,
     }
 }
 
-/// The notice of the crates that were judged, none of which is rejected or without a licence: the texts that they come
-/// with are read, crate after crate.
-fn notice_of_accepted<T: Tree, I: Identifier + TextLookup>(
+/// The notice of crates, or why there is none, and the reads for the texts that they come with.
+#[derive(Drop)]
+pub(crate) struct MadeNotice {
+    pub(crate) made: Result<Notice, NoticeError>,
+    pub(crate) own: CrateReads,
+}
+
+/// The notice of the crates that were judged, or why there is none: the texts that they come with are read, crate after
+/// crate.
+fn made_of<T: Tree, I: Identifier + TextLookup>(
     alloc: Global,
-    judged: JudgedCrates,
+    judged: &JudgedCrates,
     identifier: &I,
     tree: &mut T,
-) -> Result<NoticedCrates, Error>
-    requires { unaccepted_id judged.report.crates ≡ None }
-    ensures { MakesNotice (texts_given (I.match_of identifier.now) (I.text_of identifier.now)) judged
-        (seen_between T.content T.fault_count T.trace tree.old tree.new) result }
+) -> Result<MadeNotice, AllocError>
+    ensures made { IfOk result (λ made. MakesOwn judged.now
+        (seen_between T.content T.fault_count T.trace tree.old tree.new)
+        (IsMade (texts_given (I.match_of identifier.now) (I.text_of identifier.now)) judged.now made)) }
+    ensures cut { OnErr result (LacksOwn judged.now
+        (seen_between T.content T.fault_count T.trace tree.old tree.new)) }
 {
     let krates = judged.checked(alloc)?;
     let own = own_of_crates(alloc, krates.items(), tree)?;
@@ -110,7 +119,22 @@ fn notice_of_accepted<T: Tree, I: Identifier + TextLookup>(
         identifier,
         judged.report.policy.confidence_threshold,
     );
-    let own = reads_of_own(alloc, krates.items(), own)?;
+    let reads = reads_of_own(alloc, krates.items(), own)?;
+    Ok(MadeNotice { made, own: reads })
+}
+
+/// The notice of the crates that were judged, none of which is rejected or without a licence.
+fn notice_of_accepted<T: Tree, I: Identifier + TextLookup>(
+    alloc: Global,
+    judged: JudgedCrates,
+    identifier: &I,
+    tree: &mut T,
+) -> Result<NoticedCrates, Error>
+    requires { unaccepted_id judged.report.crates ≡ None }
+    ensures { MakesNotice (texts_given (I.match_of identifier.now) (I.text_of identifier.now)) judged
+        (seen_between T.content T.fault_count T.trace tree.old tree.new) result }
+{
+    let MadeNotice { made, own } = made_of(alloc, &judged, identifier, tree)?;
     let Report { crates, .. } = judged.report;
     let reads = reads_of_reports(alloc, crates)?;
     match made {

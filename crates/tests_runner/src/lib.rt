@@ -15,8 +15,7 @@ pub use lines::put_run;
 /// Files of cases: of the first path and failures, of what words ask for and how they are refused, of metadata, of
 /// policies, of what is found, of what is read of each crate, of the calls of the tree, of licence families, of
 /// listings, of the sample, of own catalogues and texts, of verdict files, of policies by their version, of
-/// clarifications of the exceptions file, of bills, of notices, and of
-/// what verdicts rest on.
+/// clarifications of the exceptions file, of bills, of notices, and of what verdicts rest on.
 const FILES: [&str; 18] = [
     "run/gate.txt",
     "run/command.txt",

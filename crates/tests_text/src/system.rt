@@ -54,6 +54,15 @@ impl PathState {
             PathState::Fails(kind) => Err(io::Error::from(kind)),
         }
     }
+
+    /// Why no folder can be opened there, where none can.
+    fn no_folder(self) -> Option<ErrorKind> {
+        match self {
+            PathState::Folder => None,
+            PathState::File(_) | PathState::Link => Some(ErrorKind::NotADirectory),
+            PathState::Fails(kind) => Some(kind),
+        }
+    }
 }
 
 /// What words say of a system: a file of the text `hello`, or a folder with one entry, and how the calls on them end.
@@ -191,7 +200,10 @@ impl<'w> System for &MadeUp<'w> {
     fn open_folder(&self, path: &str) -> io::Result<OpenedBytes<'w>> {
         self.note("list", path);
         let is_there = path.strip_suffix('/').unwrap_or("") == self.says.path;
-        self.says.opened(is_there, self.says.name.as_bytes(), b"\0")
+        match self.says.there.no_folder() {
+            Some(kind) if is_there => Err(io::Error::from(kind)),
+            _ => self.says.opened(is_there, self.says.name.as_bytes(), b"\0"),
+        }
     }
 
     fn look(&self, path: &str) -> io::Result<Metadata> {

@@ -32,7 +32,7 @@ use std::marker::Model;
 const LIMIT: usize = 67_108_864;
 
 /// The most bytes that one read asks for, where more came than was reported: each asks for twice as many as the one
-/// before.
+/// before, where that gave more than a sixteenth of it.
 const PIECE: usize = 65_536;
 
 /// How many bytes the read asks for that is to meet a file's end.
@@ -188,6 +188,7 @@ fn failure(error: &io::Error) -> TreeError
 fn looked(answer: io::Result<Metadata>) -> Result<Option<Metadata>, TreeError>
     ensures there { IfOk answer (λ found. result ≡ Ok (Some found)) }
     ensures absent { IfErr answer (λ error. (result ≡ Ok None) ↔ (error_kind error ≡ ErrorKind.NotFound)) }
+    ensures nothing { IfErr answer (λ error. IfOk result (λ found. found ≡ None)) }
     ensures memory { IfErr answer
         (λ error. (result ≡ Err TreeError.Memory) ↔ (error_kind error ≡ ErrorKind.OutOfMemory)) }
     ensures no_absent { IfErr result (λ error. error ≢ TreeError.Absent) }
@@ -340,18 +341,19 @@ fn read_to_limit<F: Read>(
             return Err(TreeError::Failed);
         }
         bytes.extend_from_slice(&piece[..count])?;
-        piece = grown(alloc, piece)?;
+        piece = grown(alloc, piece, count)?;
     }
     Err(TreeError::Failed)
 }
 
-/// A piece twice as large, unless it is as large as any.
-fn grown(alloc: Global, piece: Vec<u8>) -> Result<Vec<u8>, AllocError>
+/// A piece twice as large, unless it is as large as any or hardly anything of it was filled: a folder's names take at
+/// least a twelfth of the bytes in which the system tells them.
+fn grown(alloc: Global, piece: Vec<u8>, count: usize) -> Result<Vec<u8>, AllocError>
     requires { 0 < vec_len piece }
     ensures { IfOk result (λ piece. 0 < vec_len piece) }
 {
     let length = piece.len();
-    if length < PIECE {
+    if length < PIECE && length / 16 < count {
         Vec::from_elem(alloc, 0u8, length + length)
     } else {
         Ok(piece)
@@ -417,15 +419,33 @@ fn listable(found: &Option<Metadata>) -> Result<(), TreeError>
     }
 }
 
+/// What is listed at a path. A folder is opened at once; what is there is looked at only where that fails.
 fn list_folder<S: System>(system: &S, alloc: Global, path: &str) -> Result<FolderEntries, TreeError>
     ensures { IfOk result IsInNameOrder }
 {
-    let found = looked(system.look(path))?;
-    listable(&found)?;
     // With a slash behind it a path leads through a link at its end.
     let through = join(alloc, path, "")?;
-    let mut folder = opened(system.open_folder(through.as_path()))?;
-    list_opened(system, alloc, path, &mut folder)
+    match system.open_folder(through.as_path()) {
+        Ok(mut folder) => list_opened(system, alloc, path, &mut folder),
+        Err(error) => Err(unlisted(system.look(path), &error)),
+    }
+}
+
+/// Why a path is not listed that could not be opened as a folder, by what the system answered to a look at it.
+fn unlisted(answer: io::Result<Metadata>, error: &io::Error) -> TreeError
+    ensures there { IfOk answer (λ found. (result ≡ TreeError.WrongKind) ↔ (¬ (IsDir (file_type found)))) }
+    ensures absent { IfErr answer
+        (λ missed. (result ≡ TreeError.Absent) ↔ (error_kind missed ≡ ErrorKind.NotFound)) }
+    ensures memory { IfErr answer
+        (λ missed. (result ≡ TreeError.Memory) ↔ (error_kind missed ≡ ErrorKind.OutOfMemory)) }
+{
+    match looked(answer) {
+        Ok(found) => match listable(&found) {
+            Ok(()) => refusal(error),
+            Err(kind) => kind,
+        },
+        Err(missed) => missed,
+    }
 }
 
 /// The entries of a folder that was opened: one for each name that the system tells.

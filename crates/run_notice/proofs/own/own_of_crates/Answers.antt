@@ -1,8 +1,8 @@
-use Rattle.std.proofs.Common.{◌∷◌, [], ◌++◌, List, map, take, sym, ap, subst, ◌∙◌}
+use Rattle.std.proofs.Common.{◌∷◌, [], ◌++◌, List, map, take, refl, sym, ap, subst, ◌∙◌}
 use Rattle.std.proofs.lemmas.List.{take_more}
 use Rattle.graph_core.specs.Krate.{CrateRecord, record_of}
 use Rattle.graph_core.specs.selection.Listed.{record_behind}
-use Rattle.gather_license.specs.declared.own_texts.OwnTexts.{OwnTexts}
+use Rattle.gather_license.specs.declared.texts.OwnTexts.{OwnTexts}
 use Rattle.gather_license.specs.files.Calls.{IsFront}
 use Rattle.gather_license.proofs.files.CallLemmas.{on_err}
 use Rattle.gather_core.proofs.GatheredLemmas.{map_push}
@@ -38,4 +38,4 @@ returns-in_err-texts-clause-cut g c =
     let so_far = map record_behind (take place krates) in
     on_err c.from_residual.result _
     (cut_next so_far (record_behind item) c.crates.own c.crates.invariant (map record_behind krates)
-    (front_next record_behind krates place item so_far _ (take_more krates place item c.crates-test.true ∙ ap (λ one. take place krates ++ one ∷ []) (sym c.krate-item.is))) c.in_err-texts.ensures.no_memory)
+    (front_next record_behind krates place item so_far refl (take_more krates place item c.crates-test.true ∙ ap (λ one. take place krates ++ one ∷ []) (sym c.krate-item.is))) c.in_err-texts.ensures.no_memory)

@@ -2,7 +2,7 @@
 use Rattle.std.proofs.Common.{◌≡◌, ◌++◌, length}
 use Rattle.std.specs.List.{filter_map}
 use Rattle.gather_license.specs.OwnTexts.{text_in}
-use Rattle.gather_license.proofs.own_texts.texts_in.Given as goal
+use Rattle.gather_license.proofs.texts.texts_in.Given as goal
 
 abbrev pub invariant-files : goal.invariant-files
 invariant-files l = l.texts ++ filter_map text_in l.rest ≡ filter_map text_in l.pack.files

@@ -1,12 +1,13 @@
-use Rattle.std.proofs.Common.{◌≡◌, ◌∙◌, List, [], ap, sym, refl}
-use Rattle.std.specs.List.{filter_map}
+use Rattle.std.proofs.Common.{◌∙◌, List, [], ap, sym}
+use Rattle.tree_core.specs.declared.reads.ReadRecord.{ReadRecord}
 use Rattle.graph_core.specs.Krate.{record_of}
 use Rattle.gather_license.specs.files.KnownReads.{known_reads_by}
-use Rattle.gather_license.specs.OwnTexts.{text_in}
+use Rattle.gather_license.specs.files.Pack.{in_path_order}
+use Rattle.gather_license.specs.files.View.{paths_read}
 use Rattle.gather_license.proofs.files.CallLemmas.{on_err}
 use Rattle.gather_license.proofs.CallLemmas.{starves_looked}
 use Rattle.gather_license.proofs.OwnTextLemmas.{texts_looked}
-use Rattle.gather_license.proofs.own_texts.own_texts.Goals as goal
+use Rattle.gather_license.proofs.texts.own_texts.Goals as goal
 
 pub returns-clause-own : goal.returns-clause-own
 returns-clause-own g c =
@@ -22,7 +23,7 @@ returns-clause-own g c =
       texts =
           c.in_ok-texts.ensures
           ∙ texts_looked krate pack c.in_ok-looked.looked.held c.in_ok-looked.looked.missing (known_reads_by made.reads) is
-          (ap (λ files. files) c.into_reads.ensures.sorted) made.is.agrees;
+          (c.into_reads.ensures.sorted ∙ ap (λ (reads : List ReadRecord). in_path_order (paths_read reads)) c.into_reads.ensures.reads) made.is.agrees;
     }
 
 pub returns-in_err-looked-clause-no_memory : goal.returns-in_err-looked-clause-no_memory
