@@ -54,6 +54,7 @@ fn file_unmatched(kept: &[KeptFile], named: &FileSource) -> Option<Unmatched>
 }
 
 /// The first of some files that does not match, and why.
+#[derive(Drop)]
 struct UnmatchedFile<'p> {
     named: &'p FileSource,
     by: Unmatched,

@@ -63,6 +63,7 @@ fn is_against(verdict: &Verdict) -> bool
 }
 
 /// What all crates are told by.
+#[derive(Drop)]
 struct Telling<'t> {
     format: Format,
     /// Whether words name the crates that are told; else those are told that the check is against.
