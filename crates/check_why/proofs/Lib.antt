@@ -1,2 +1,3 @@
 mod LawLemmas
 mod Examples
+mod MadeLemmas

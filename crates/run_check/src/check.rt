@@ -48,6 +48,7 @@ fn judge_and_report(
     // of any levels that the overrides put findings at
     ensures check { IfOk result (λ checked. (levels : LintLevels) → PutAtLevels levels overrides
         → IsCheckOf levels policy summary.entry.nfos checked) }
+    ensures policy { IfOk result (λ checked. checked.policy ≡ policy) }
     ensures terms { IfOk result (λ _.
         All (VerdictPoints files.now (policy_of policy)) (gathered_of_licenses summary.entry.nfos)) }
     ensures labels { IfOk result (λ checked. All (PackLies files.now) checked.findings) }
@@ -92,6 +93,7 @@ pub(crate) fn settle_and_judge<T: Tree, C: Catalog, I: Identifier>(
         (seen_between T.content T.fault_count T.trace tree.old tree.new)
         files.old graph choice) }
     ensures labels { IfOk result (λ checked. All (PackLies files.new) checked.findings) }
+    ensures stands { IfOk result (λ checked. PolicyStands files.new checked.policy) }
 {
     let summary = licenses_found(
         alloc, keeps, &policy, krates, files, tree, catalog, identifier,
