@@ -3,6 +3,7 @@
 #![tactic(auto)]
 
 mod graph;
+pub mod laws;
 mod named;
 mod telling;
 pub mod whying;
