@@ -1,5 +1,5 @@
 -- What came of reads, and what does not hold, by what the check has kept of a crate's licence files.
-use Rattle.std.specs.Prelude.{ℕ, ◌==◌, List, [], ◌∷◌, ◌++◌, filter, find, map, Option, Some, None, option_map, if◌then◌else◌}
+use Rattle.std.specs.Prelude.{ℕ, ◌==◌, List, [], ◌∷◌, ◌++◌, find, Option, Some, None, option_map, if◌then◌else◌}
 use Rattle.std.specs.Prelude.{Result, Ok, Err}
 use Rattle.std.specs.List.{flat_map}
 use Rattle.std.specs.Option.{option_map_or, option_to_list}
@@ -27,6 +27,8 @@ use Rattle.check_why.specs.declared.answer.ReadSaid.TheVariants as said
 use Rattle.check_why.specs.declared.answer.UnmetAnswer.{UnmetAnswer}
 use Rattle.check_why.specs.declared.answer.Unmatched.{Unmatched}
 use Rattle.check_why.specs.declared.answer.Unmatched.TheVariants as by
+use Rattle.check_why.specs.declared.unmet.Tried.{Tried}
+use Rattle.check_why.specs.declared.unmet.Tried.TheVariants.{Passed, Holds, Unmet}
 use Rattle.check_why.specs.Reads.{named_said, wrong_said}
 use Rattle.check_why.specs.Unmet.{AskingFiles, clarification_files, exception_files}
 
@@ -116,19 +118,29 @@ unmet_at one found =
 abbrev pub unmet_by : List KeptFile → AskingFiles → List FileSource → Option UnmetAnswer
 unmet_by kept one files = option_map (unmet_at one) (first_unmatched kept files)
 
--- clarifications up to the first that holds
-abbrev pub unmet_front : Option UnmetAnswer → List UnmetAnswer → List UnmetAnswer
-unmet_front None rest = []
-unmet_front (Some unmet) rest = unmet ∷ rest
+-- what is said of a clarification, in the order in which they are tried
+abbrev pub tried_by : Option UnmetAnswer → Tried
+tried_by None = Holds
+tried_by (Some unmet) = Unmet unmet
 
-abbrev pub unmet_until : List File → List KeptFile → List ValidClarification → List UnmetAnswer
-unmet_until files kept [] = []
-unmet_until files kept (one ∷ more) =
-    unmet_front (unmet_by kept (clarification_files files one) one.license_files) (unmet_until files kept more)
+abbrev pub clarification_tried : List File → CrateRecord → List KeptFile → ValidClarification → Tried
+clarification_tried files krate kept one =
+    if spec_matches one.spec krate then tried_by (unmet_by kept (clarification_files files one) one.license_files)
+    else Passed
+
+-- up to the first that holds
+abbrev pub unmet_then : Tried → List UnmetAnswer → List UnmetAnswer
+unmet_then Passed rest = rest
+unmet_then Holds rest = []
+unmet_then (Unmet unmet) rest = unmet ∷ rest
+
+abbrev pub unmet_until : List File → CrateRecord → List KeptFile → List ValidClarification → List UnmetAnswer
+unmet_until files krate kept [] = []
+unmet_until files krate kept (one ∷ more) =
+    unmet_then (clarification_tried files krate kept one) (unmet_until files krate kept more)
 
 abbrev pub clarifications_unmet : List File → ValidConfig → CrateRecord → List KeptFile → List UnmetAnswer
-clarifications_unmet files policy krate kept =
-    unmet_until files kept (filter (λ (one : ValidClarification). spec_matches one.spec krate) policy.clarifications)
+clarifications_unmet files policy krate kept = unmet_until files krate kept policy.clarifications
 
 abbrev pub exception_unmet : List File → CrateRecord → List KeptFile → ValidException → List UnmetAnswer
 exception_unmet files krate kept one =

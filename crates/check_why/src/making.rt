@@ -1,5 +1,5 @@
 //! What is said of a crate, by the report of the check on it.
-ghost use Rattle.std.specs.Prelude.{◌≡◌, ◌<◌, IfOk};
+ghost use Rattle.std.specs.Prelude.{◌≡◌, ◌<◌, ◌++◌, ◌∷◌, [], IfOk, OnOk, if◌then◌else◌};
 ghost use Rattle.graph_core.specs.Krate.{record_of};
 ghost use Rattle.policy_core.specs.Places.{PolicyStands};
 ghost use Rattle.check_why.specs.Answer.{failing, title_of};
@@ -107,6 +107,13 @@ fn fails(hits: &[Option<Hit>], place: usize) -> bool
     }
 }
 
+/// Appends a place, where it is wanted.
+fn put_where(places: &mut TermPlaces, place: usize, wanted: bool) -> Result<(), AllocError>
+    ensures { OnOk result (places.new ≡ places.old ++ (if wanted then place ∷ [] else [])) }
+{
+    if wanted { places.push(place) } else { Ok(()) }
+}
+
 /// Of a choice the places of the terms that have no hit.
 fn failing(
     alloc: Global,
@@ -117,9 +124,7 @@ fn failing(
 {
     let mut places = TermPlaces::new(alloc);
     'choice: for place in choice {
-        if fails(hits, *place) {
-            places.push(*place)?;
-        }
+        put_where(&mut places, *place, fails(hits, *place))?;
     }
     Ok(places)
 }

@@ -124,6 +124,37 @@ fn exception_unmet(
     }
 }
 
+/// What is said of a clarification, in the order in which they are tried.
+#[derive(Drop)]
+enum Tried {
+    /// It is for other crates.
+    Passed,
+    /// It holds, and none behind it is looked at.
+    Holds,
+    Unmet(UnmetAnswer),
+}
+
+fn clarification_tried(
+    alloc: Global,
+    files: &Files,
+    one: &ValidClarification,
+    krate: &Krate,
+    kept: &[KeptFile],
+) -> Result<Tried, AllocError>
+    requires { PlaceIsInside files.now one.now.file_id one.now.spec.span }
+    ensures { IfOk result (λ told. told
+        ≡ spec.clarification_tried files.now (record_of krate.now) kept.now one.now) }
+{
+    if !match_krate(krate, &one.spec) {
+        return Ok(Tried::Passed);
+    }
+    let unmet = clarification_unmet(alloc, files, one, kept)?;
+    match unmet {
+        Some(told) => Ok(Tried::Unmet(told)),
+        None => Ok(Tried::Holds),
+    }
+}
+
 /// Of the clarifications that are for a crate those before the first that holds.
 fn push_clarifications(
     alloc: Global,
@@ -138,11 +169,10 @@ fn push_clarifications(
         ++ spec.clarifications_unmet files.now policy.now (record_of krate.now) kept.now) }
 {
     'all: for one in policy.clarifications.items() {
-        if match_krate(krate, &one.spec) {
-            match clarification_unmet(alloc, files, one, kept)? {
-                Some(told) => unmet.push(told)?,
-                None => return Ok(()),
-            }
+        match clarification_tried(alloc, files, one, krate, kept)? {
+            Tried::Passed => {}
+            Tried::Holds => return Ok(()),
+            Tried::Unmet(told) => unmet.push(told)?,
         }
     }
     Ok(())
