@@ -83,6 +83,8 @@ metadata "$top/examples/notice"
 asks="'$program' --metadata-path '$room/metadata.json'"
 compare notice "$top/examples/notice" "$asks --store texts notice"
 compare notice-built-in "$top/examples/notice" "$asks notice"
+compare notice-review "$top/examples/notice" "sh review.sh '$room/metadata.json' NOTICE.txt"
+compare notice-html "$top/examples/notice" "sh html.sh NOTICE.txt"
 
 # An exception that is tied to a file: a record that was right before a word of the file changed, and a check behind that.
 folder="$room/reviewed"

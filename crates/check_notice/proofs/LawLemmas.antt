@@ -1,6 +1,6 @@
 -- In each notice the numbers lead to the texts of their terms, no text is there twice, and each is cited.
-use Rattle.std.proofs.Common.{◌≡◌, ◌∙◌, ◌⊎◌, inl, inr, ℕ, zero, suc, ◌+◌, ◌-◌, ◌<◌, ◌≤◌, Bool, true, false, not, cond, ◌||◌, List, [], ◌∷◌, ◌++◌, length, map, find, slice_get, Option, Some, None, is_none, refl, sym, ap, subst, arith, Any}
-use Rattle.std.specs.List.{AllZip, cons_option, flat_map, fold, list_any, position_or_len}
+use Rattle.std.proofs.Common.{◌≡◌, ◌∙◌, ◌⊎◌, inl, inr, ℕ, zero, suc, ◌+◌, ◌-◌, ◌<◌, Bool, true, false, not, cond, ◌||◌, List, [], ◌∷◌, ◌++◌, length, map, find, slice_get, Option, Some, None, is_none, refl, sym, ap, subst, arith, Any}
+use Rattle.std.specs.List.{AllZip, cons_option, flat_map, fold, position_or_len}
 use Rattle.std.specs.Option.{option_map, option_or}
 use Rattle.std.specs.Str.{bytes_eq}
 use Rattle.std.proofs.lemmas.List.{map-append}
@@ -12,7 +12,7 @@ use Rattle.check_notice.specs.declared.notice.KeyNumber.{KeyNumber}
 use Rattle.check_notice.specs.declared.notice.NoticeCrate.{NoticeCrate}
 use Rattle.check_notice.specs.Keys.{key_of}
 use Rattle.check_notice.specs.Laws.{AreDistinct, CitesTerm, IsCited, LeadsTo, NoticesLead, TellsCrate}
-use Rattle.check_notice.specs.Notice.{Cite, MissingText, NoticedCrate, accepted_in, cite_as, cites_of, first_missing, is_accepted, missing_of, numbered, text_in, texts_of, told_of, used_terms}
+use Rattle.check_notice.specs.Notice.{Cite, NoticedCrate, accepted_in, cite_as, cites_of, first_missing, is_accepted, missing_of, numbered, text_in, texts_of, told_of, used_terms}
 use Rattle.check_notice.specs.Numbers.{number_in, with_text}
 use Rattle.check_notice.specs.Sources.{TextSources, text_for}
 use Rattle.check_notice.proofs.NumberLemmas.{AreThere, are_there, same_text, swapped}
@@ -256,11 +256,11 @@ cited by crates place within =
     let texts = fold with_text [] (uses_of by crates) in
     let at = get_some texts place within in
     let number : number_in texts at.0 ≡ place + 1 = ap (λ n. n + 1) (at_first texts place at.0 (apart_all [] (uses_of by crates) tt) at.1) in
-    subst (IsCited (map (told_of by texts) crates)) number (crate_cites by texts at.0 crates (used (came_from [] (uses_of by crates) at.0 (at_has texts place at.0 at.1))))
+    subst (IsCited (map (told_of by texts) crates)) number (crate_cites by texts at.0 crates (used at.0 (came_from [] (uses_of by crates) at.0 (at_has texts place at.0 at.1))))
   where
-    used : {text : List ℕ} → (has_text [] text ≡ true) ⊎ (has_text (uses_of by crates) text ≡ true) → has_text (uses_of by crates) text ≡ true
-    used (inl never) = absurd (cc)
-    used (inr there) = there
+    used : (text : List ℕ) → (has_text [] text ≡ true) ⊎ (has_text (uses_of by crates) text ≡ true) → has_text (uses_of by crates) text ≡ true
+    used text (inl never) = absurd (cc)
+    used text (inr there) = there
 
 -- ---- the law
 

@@ -5,3 +5,4 @@ pub mod NoticeLemmas
 pub mod NumberLemmas
 pub mod PlaceLemmas
 pub mod StepLemmas
+pub mod TermLemmas

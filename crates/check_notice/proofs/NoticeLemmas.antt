@@ -1,8 +1,8 @@
 -- From what was told crate after crate to the notice.
-use Rattle.std.proofs.Common.{◌≡◌, ◌∙◌, ℕ, List, [], Option, Some, None, Result, Ok, Err, refl, sym, ap}
+use Rattle.std.proofs.Common.{◌≡◌, ◌∙◌, List, [], Option, Some, None, Result, Ok, Err, refl, sym, ap}
 use Rattle.check_notice.specs.declared.notice.Notice.{Notice}
 use Rattle.check_notice.specs.declared.notice.NoticeProgress.{NoticeProgress}
-use Rattle.check_notice.specs.Notice.{IsNotice, MissingText, NoticedCrate, accepted_in, first_missing, notice_of}
+use Rattle.check_notice.specs.Notice.{IsNotice, MissingText, NoticedCrate, accepted_in, first_missing}
 use Rattle.check_notice.specs.Sources.{TextSources}
 use Rattle.check_notice.specs.Steps.{all_told_by, nothing_told}
 use Rattle.check_notice.proofs.StepLemmas.{all_told, none_told, progress_with}
@@ -29,6 +29,6 @@ notice_missing by crates first is = step (first_missing by crates) refl
     step : (missing : Option MissingText) → first_missing by crates ≡ missing → first_missing by crates ≡ Some first
     step None whole = let never : Ok (progress_with by [] [] (accepted_in crates)) ≡ Err first = sym (all_told by [] [] crates whole) ∙ is in absurd (cc)
     step (Some other) missing =
-        let same : Err {A = NoticeProgress} other ≡ Err first = sym (none_told by [] [] crates other missing) ∙ is in
+        let same : ◌≡◌ {A = Result NoticeProgress MissingText} (Err other) (Err first) = sym (none_told by [] [] crates other missing) ∙ is in
         let one : other ≡ first = cc in
         missing ∙ ap Some one

@@ -14,10 +14,10 @@ use Rattle.check_notice.specs.declared.notice.KeyNumber.{KeyNumber}
 use Rattle.check_notice.specs.declared.notice.NoticeCrate.{NoticeCrate}
 use Rattle.check_notice.specs.declared.notice.NoticeProgress.{NoticeProgress}
 use Rattle.check_notice.specs.Keys.{key_of}
-use Rattle.check_notice.specs.Notice.{Cite, MissingText, NoticedCrate, accepted_in, cite_as, cite_of, cites_of, first_missing, is_accepted, missing_in, missing_of, numbered, text_in, told_as, told_of, used_by, used_terms}
+use Rattle.check_notice.specs.Notice.{Cite, MissingText, NoticedCrate, accepted_in, cite_as, cite_of, cites_of, first_missing, is_accepted, numbered, text_in, told_as, told_of, used_by, used_terms}
 use Rattle.check_notice.specs.Numbers.{number_in, with_text}
 use Rattle.check_notice.specs.Sources.{TextSources, text_for}
-use Rattle.check_notice.specs.Steps.{all_told_by, cite_found, cited_with, cites_by, nothing_cited, then_cites, then_told, told_by, told_cited, told_with}
+use Rattle.check_notice.specs.Steps.{all_told_by, cite_found, cites_by, then_cites, then_told, told_cited, told_with}
 use Rattle.check_notice.proofs.NumberLemmas.{are_there, has_with, number_stays, numbers_stay}
 
 -- ---- the terms of a crate
@@ -141,7 +141,7 @@ module _ (by : TextSources) where
       Rest = (texts : List (List ℕ)) (told : List NoticeCrate) → first_missing by crates ≡ None → all_told_by by (record { numbers = texts; crates = told }) crates ≡ Ok (progress_with by texts told (accepted_in crates))
 
       cited : (found : Option LicenseReq) → find (lacks by one.own) (used_terms one) ≡ found → Rest → goes true ≡ ends true
-      cited (Some first) is rest = let never : Some (record { id = one.krate.id; key = key_of first }) ≡ None = sym (ap (missing_by one crates) is) ∙ whole in absurd (cc)
+      cited (Some first) is rest = let never : ◌≡◌ {A = Option MissingText} (Some (record { id = one.krate.id; key = key_of first })) None = sym (ap (missing_by one crates) is) ∙ whole in absurd (cc)
       cited None is rest =
           let now = with_cites texts [] (cites_of by one) in
           ap (λ (answer : Result Cited (List ℕ)). then_told (λ next. all_told_by by next crates) (told_cited (record { numbers = texts; crates = told }) one answer)) (all_cited by one.own texts [] (used_terms one) is)

@@ -30,6 +30,7 @@ fn push_term<'t>(
 }
 
 /// The terms at places, in the order of these.
+#[tactic(auto, using(crate::proofs::TermLemmas::one_more_term))]
 fn terms_at<'t>(
     alloc: Global,
     terms: &'t [ExpressionReq],

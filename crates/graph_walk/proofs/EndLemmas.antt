@@ -1,10 +1,11 @@
 -- What is among the new ends of edges and among the roots, and that places in order ascend.
-use Rattle.std.proofs.Common.{◌≡◌, ℕ, zero, suc, ◌+◌, ◌<◌, ◌≤◌, ◌⊎◌, ◌&&◌, Bool, true, false, cond, List, [], ◌∷◌, length, slice_index_or, Contains, IsSorted, refl, sym, ◌∙◌, ap, subst, inl, inr, nat_cmp, arith}
+use Rattle.std.proofs.Common.{◌≡◌, ℕ, zero, suc, ◌+◌, ◌<◌, ◌≤◌, Bool, true, false, cond, List, [], ◌∷◌, length, slice_index_or, Contains, All, IsSorted, refl, ◌∙◌, ap, subst, nat_cmp, arith}
 use Rattle.std.specs.List.{AllByRecursion}
-use Rattle.std.proofs.lemmas.List.Elements.{All-from_get_or, All-contains_itself, All-weaker, recursion_from_All}
+use Rattle.std.proofs.lemmas.List.Elements.{All-contains, All-from_get_or, All-from_recursion, All-contains_itself, All-weaker, recursion_from_All}
 use Rattle.std.proofs.lemmas.List.Sorted.{IsNonDecreasingBy-from_sort}
 use Rattle.graph_core.specs.declared.edge.Edge.{Edge}
 use Rattle.graph_core.specs.declared.edge.Kinds.{Kinds}
+use Rattle.graph_core.specs.Metadata.{LeadWithin}
 use Rattle.graph_core.specs.declared.selection.standing.Standing.{Standing}
 use Rattle.graph_core.specs.selection.Places.{is_root_standing, no_standing}
 use Rattle.graph_walk.specs.Search.{SearchView, is_new_end, new_ends, roots_from}
@@ -70,6 +71,15 @@ module _ (seen : SearchView) (standings : List Standing) (counting : Kinds) wher
   new-end-of (first ∷ edges) place one =
       new-end-by first edges place (is_new_end seen standings counting first) refl (new-end-of edges place) one
 
+-- what edges lead to is a crate
+pub ends-within : (seen : SearchView) (standings : List Standing) (counting : Kinds) (edges : List Edge) (n : ℕ) → LeadWithin n edges
+    → All (λ place. place < n) (new_ends seen standings counting edges)
+ends-within seen standings counting edges n within =
+    All-from_recursion (λ place. place < n) (new_ends seen standings counting edges)
+    (all-by-one (λ place. place < n) (new_ends seen standings counting edges) (λ place one.
+    let found : IsNewEnd seen standings counting edges place = new-end-of seen standings counting edges place one in
+    subst (λ q. q < n) found.leads (All-contains (λ (edge : Edge). edge.to < n) edges found.edge within found.one)))
+
 -- ---- roots
 
 pub record IsRootAt (first : ℕ) (standings : List Standing) (place : ℕ) : Type 0 where
@@ -114,6 +124,15 @@ pub root-of : (place : ℕ) (standings : List Standing) (q : ℕ) → Contains (
 root-of place [] q (k, below, is) = absurd (omega arith)
 root-of place (standing ∷ standings) q one =
     root-by place standing standings q (is_root_standing standing) refl (root-of (suc place) standings q) one
+
+pub roots-within : (standings : List Standing) → All (λ place. place < length standings) (roots_from 0 standings)
+roots-within standings =
+    All-from_recursion (λ place. place < length standings) (roots_from 0 standings)
+    (all-by-one (λ place. place < length standings) (roots_from 0 standings) (λ place one.
+    let root : IsRootAt 0 standings place = root-of 0 standings place one in
+    let within : root.index < length standings = root.within in
+    let at : 0 + root.index ≡ place = root.at in
+    omega arith))
 
 -- ---- places that ascend
 

@@ -1,9 +1,9 @@
 -- Computed examples: each row holds as it is there.
-use Rattle.std.proofs.Common.{◌≡◌, ◌∷◌, [], ◌++◌, codes, true, false, Some, None, refl, Less, Equal, Greater}
+use Rattle.std.proofs.Common.{◌≡◌, ◌∷◌, [], codes, true, false, Some, None, refl, Less, Equal, Greater}
 use Rattle.graph_core.specs.declared.edge.DepKind.TheVariants.{Dev, Build}
 use Rattle.graph_core.specs.Metadata.{no_kinds}
 use Rattle.graph_walk.specs.Shortest.{before_end, kind_left_out, visited, walk_order}
-use Rattle.graph_walk.specs.Search.{best_at, nothing_found, order_of, put_all, roots_from}
+use Rattle.graph_walk.specs.Search.{nothing_found, order_of, put_all}
 
 -- ---- what a walk visits
 

@@ -1,12 +1,12 @@
 -- What the search holds, and the walks that it stands for: one more that was found is one walk more, behind all others.
-use Rattle.std.proofs.Common.{◌≡◌, ℕ, zero, suc, ◌+◌, ◌<◌, ◌⊎◌, List, [], ◌∷◌, ◌++◌, map, fold, length, replicate, slice_set, slice_index_or, All, IfSome, Option, Some, None, option_map, refl, sym, ◌∙◌, ap, subst, inl, inr, arith}
+use Rattle.std.proofs.Common.{◌≡◌, ℕ, zero, suc, ◌+◌, ◌<◌, List, [], ◌∷◌, ◌++◌, fold, length, replicate, slice_set, slice_index_or, All, IfSome, Option, Some, None, is_some, true, false, refl, sym, ◌∙◌, ap, subst, inl, inr, arith}
 use Rattle.std.specs.List.{AllByRecursion}
 use Rattle.std.proofs.lemmas.Bool.{cases_eq}
-use Rattle.std.proofs.lemmas.List.{length-append, length-map, length-replicate, length-set, get_or-map, get_or_append_left, get_or_push, get_or_default}
-use Rattle.std.proofs.lemmas.List.Elements.{All-nil, All-set, All-weaker, All-replicate, recursion_from_All}
+use Rattle.std.proofs.lemmas.List.{length-append, get_or-map, get_or_append_left, get_or_push}
+use Rattle.std.proofs.lemmas.List.Elements.{All-set, All-weaker, All-replicate, recursion_from_All}
 use Rattle.std.proofs.lemmas.List.Sums.{fold-append}
 use Rattle.graph_walk.specs.declared.search.Found.{Found}
-use Rattle.graph_walk.specs.Search.{AreFound, SearchView, best_at, best_of, found_walk, nothing_found, order_of, put, put_if, search_of, walk_behind, walk_of, with_found}
+use Rattle.graph_walk.specs.Search.{AreFound, best_at, best_of, found_walk, nothing_found, order_of, put, put_if, search_of, walk_behind, walk_of, with_found}
 
 -- ---- the walks, one after the other
 
@@ -71,6 +71,10 @@ order-at found at other below earlier =
     ∙ fold-at found [] at other below (subst (λ n. IfSome (slice_index_or found at other).by (λ by. by < n)) (sym same) earlier)
 
 -- ---- one more is found
+
+pub none-is : {A : Type 0} (o : Option A) → is_some o ≡ false → o ≡ None
+none-is None is = refl
+none-is (Some x) is = absurd (let wrong : true ≡ false = is in cc)
 
 found-walk-keeps : (order : List (List ℕ)) (walk : List ℕ) (at : Option ℕ) → IfSome at (λ k. k < length order)
     → found_walk (order ++ walk ∷ []) at ≡ found_walk order at

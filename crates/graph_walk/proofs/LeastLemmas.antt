@@ -1,5 +1,5 @@
 -- Once all that was found is followed, the walk that is kept for a crate is the shortest, and what has none is not reached.
-use Rattle.std.proofs.Common.{◌≡◌, ℕ, zero, suc, ◌+◌, ◌<◌, ◌≤◌, ◌⊎◌, List, [], ◌∷◌, ◌++◌, map, reverse, length, slice_index_or, IsTrue, is_le, Option, Some, None, option_map, refl, sym, ◌∙◌, ap, subst, inl, inr, append_assoc, append-nil, arith}
+use Rattle.std.proofs.Common.{◌≡◌, ℕ, suc, ◌+◌, ◌<◌, ◌≤◌, List, [], ◌∷◌, ◌++◌, map, reverse, length, IsTrue, is_le, Option, Some, None, option_map, refl, sym, ◌∙◌, ap, subst, inl, inr, append_assoc, append-nil, arith}
 use Rattle.std.specs.List.{AllByRecursion}
 use Rattle.std.proofs.lemmas.List.{length-map, get_or-map}
 use Rattle.std.proofs.lemmas.List.Elements.{recursion_from_All}
@@ -9,13 +9,13 @@ use Rattle.graph_core.specs.Metadata.{Graph, AreRising, ids_of, id_of_node}
 use Rattle.graph_core.specs.selection.Choice.{Choice}
 use Rattle.graph_core.specs.selection.Walks.{IsWalk, MayBeTaken, Reached, Step}
 use Rattle.graph_core.proofs.selection.Rising.{one-place}
-use Rattle.graph_walk.specs.Search.{SearchView, best_at, end_of, from_roots}
-use Rattle.graph_walk.specs.Shortest.{AreShortest, IsShortest, ShortestWalk, ids_on, visited, walk_at, walk_order}
+use Rattle.graph_walk.specs.Search.{SearchView, best_at, from_roots}
+use Rattle.graph_walk.specs.Shortest.{AreShortest, IsShortest, ShortestWalk, ids_on, visited, walk_order}
 use Rattle.graph_walk.proofs.Backwards.{IsUpTo, before-long, length-shown, shown, shown-reverse, upto-more, upto-upto}
 use Rattle.graph_walk.proofs.Comparisons.{upto-le}
 use Rattle.graph_walk.proofs.PutLemmas.{IsFound}
 use Rattle.graph_walk.proofs.TurnLemmas.{IsDone, IsLed, IsUnderWay}
-use Rattle.graph_walk.proofs.UnderWay.{IsKept, IsListed, IsWalked, walk_found}
+use Rattle.graph_walk.proofs.UnderWay.{IsKept, IsListed}
 
 -- A walk by its places leads to the crate with the id, visits these crates, and the one that is kept for its end is not after it.
 pub record IsMet (graph : Graph) (best : List (Option (List ℕ))) (id : List ℕ) (crates : List (List ℕ)) : Type 0 where

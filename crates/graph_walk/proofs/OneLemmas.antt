@@ -1,5 +1,5 @@
 -- There is one shortest walk to a crate.
-use Rattle.std.proofs.Common.{◌≡◌, ℕ, suc, ◌≤◌, Bool, true, false, List, length, IsTrue, is_le, Option, Some, None, refl, sym, ◌∙◌, ap, subst, Ordering, Less, Equal, Greater, arith}
+use Rattle.std.proofs.Common.{◌≡◌, ℕ, ◌≤◌, true, false, List, length, IsTrue, is_le, Option, Some, None, refl, sym, ◌∙◌, ap, subst, Ordering, Less, Equal, Greater, arith}
 use Rattle.std.specs.Cmp.{IsTotalOrder}
 use Rattle.std.specs.Cmp.Lexicographic.{lists_total, nat_list_cmp_total}
 use Rattle.std.specs.FinMap.{IsAntisymmetric, nat_cmp-IsAntisymmetric, slice_cmp-IsAntisymmetric}
@@ -7,7 +7,7 @@ use Rattle.std.specs.Ordering.{ordering_reverse}
 use Rattle.graph_core.specs.declared.edge.DepKind.{DepKind}
 use Rattle.graph_core.specs.Metadata.{Graph}
 use Rattle.graph_core.specs.selection.Choice.{Choice}
-use Rattle.graph_walk.specs.Shortest.{IsShortest, ShortestIsOne, ShortestWalk, visited, walk_order}
+use Rattle.graph_walk.specs.Shortest.{IsShortest, ShortestIsOne, ShortestWalk, walk_order}
 
 order-total : IsTotalOrder walk_order
 order-total = lists_total nat_list_cmp_total

@@ -1,5 +1,5 @@
 -- The search: it begins at the roots, and each turn follows the edges out of one crate that was found.
-use Rattle.std.proofs.Common.{◌≡◌, ℕ, zero, suc, ◌+◌, ◌<◌, ◌≤◌, ◌⊎◌, ◌&&◌, not, Bool, true, false, List, [], ◌∷◌, ◌++◌, map, length, replicate, slice_index_or, is_some, Contains, Option, Some, None, refl, sym, ◌∙◌, ap, subst, inl, inr, arith}
+use Rattle.std.proofs.Common.{◌≡◌, ℕ, zero, suc, ◌+◌, ◌<◌, ◌≤◌, not, true, List, [], ◌∷◌, ◌++◌, length, replicate, slice_index_or, is_some, Contains, Option, Some, None, refl, sym, ◌∙◌, ap, subst, inl, inr, arith}
 use Rattle.std.specs.List.{AllByRecursion}
 use Rattle.std.proofs.lemmas.Bool.{cases_eq}
 use Rattle.std.proofs.lemmas.List.{length-map, length-replicate, map-append}
@@ -10,13 +10,12 @@ use Rattle.graph_core.specs.declared.edge.DepKind.{DepKind}
 use Rattle.graph_core.specs.declared.edge.Edge.{Edge}
 use Rattle.graph_core.specs.declared.edge.Kinds.{Kinds}
 use Rattle.graph_core.specs.Metadata.{Graph, CrateNode, AreRising, ids_of, id_of_node}
-use Rattle.graph_core.specs.declared.selection.standing.Standing.{Standing}
 use Rattle.graph_core.specs.selection.Choice.{Choice}
 use Rattle.graph_core.specs.selection.Roots.{IsRoot, crates_of, is_root}
 use Rattle.graph_core.specs.selection.Walks.{MayBeTaken, Step}
 use Rattle.graph_core.specs.selection.Places.{counting_at, is_root_standing, other_kinds, passes, standing_at, standing_of, standings_in}
 use Rattle.graph_core.proofs.selection.GraphPlaces.{node-at, standing-is, with-at, with-place}
-use Rattle.graph_core.proofs.selection.PutLemmas.{both-left, true-false}
+use Rattle.graph_core.proofs.selection.PutLemmas.{both-left}
 use Rattle.graph_core.proofs.selection.LeftLemmas.{both}
 use Rattle.graph_core.proofs.selection.WalkLemmas.{walk-push}
 use Rattle.graph_walk.specs.Search.{IsFollowed, SearchView, best_at, end_of, is_new_end, new_ends, nothing_found, put_all, roots_from}
@@ -125,7 +124,7 @@ module _ (graph : Graph) (choice : Choice) (named : Option DepKind) where
       }
 
 module _ (graph : Graph) (choice : Choice) (named : Option DepKind) (rising : AreRising (ids_of graph)) where
-  count-standings : length (standings_in graph choice) ≡ length graph.nodes
+  pub count-standings : length (standings_in graph choice) ≡ length graph.nodes
   count-standings = length-map (crates_of graph) (standing_of graph choice) ∙ length-map graph.nodes (λ (node : CrateNode). node.krate)
 
   -- ---- the roots

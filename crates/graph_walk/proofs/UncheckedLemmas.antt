@@ -1,19 +1,26 @@
 -- The cause that is told of a crate is its first, and one without a cause is selected.
-use Rattle.std.proofs.Common.{◌≡◌, ℕ, ◌<◌, ◌≤◌, ◌||◌, not, Bool, true, false, List, map, length, take, drop, slice_get, IsTrue, is_some, if◌then◌else◌, Option, Some, None, refl, sym, ◌∙◌, ap, subst, arith}
-use Rattle.std.proofs.lemmas.Option.{slice_get-map}
+use Rattle.std.proofs.Common.{◌≡◌, ℕ, ◌<◌, ◌≤◌, ◌||◌, not, Bool, true, false, List, [], ◌∷◌, map, length, take, drop, slice_get, slice_index_or, is_some, if◌then◌else◌, Option, Some, None, refl, sym, ◌∙◌, ap, subst, arith}
+use Rattle.std.specs.List.{list_any}
+use Rattle.std.proofs.lemmas.List.{length-map, get_or-map}
+use Rattle.std.proofs.lemmas.Option.{get_or_from_slice_get, slice_get_within}
 use Rattle.graph_core.specs.declared.edge.DepKind.{DepKind}
 use Rattle.graph_core.specs.declared.edge.DepKind.TheVariants.{Dev, Build}
 use Rattle.graph_core.specs.declared.selection.selection.Include.{Include}
-use Rattle.graph_core.specs.Krate.{CrateRecord}
-use Rattle.graph_core.specs.Metadata.{Graph, id_of_node}
-use Rattle.graph_core.specs.selection.Choice.{Choice, is_excluded}
-use Rattle.graph_core.specs.selection.Roots.{is_unpublished_base}
+use Rattle.graph_core.specs.declared.krate.Krate.{Krate}
+use Rattle.graph_core.specs.Krate.{CrateRecord, record_of}
+use Rattle.graph_core.specs.Metadata.{Graph, CrateNode, AreRising, ids_of, id_of_node}
+use Rattle.graph_core.specs.declared.selection.exclude.ExcludeSpec.{ExcludeSpec}
+use Rattle.graph_core.specs.selection.Choice.{Choice, exclude_spec_of, is_excluded}
+use Rattle.graph_core.specs.selection.Places.{is_unpublished_standing, standing_at, standing_of, standings_in}
+use Rattle.graph_core.specs.selection.Roots.{crates_of, is_unpublished_base}
 use Rattle.graph_core.specs.selection.Walks.{Reached, Selected}
+use Rattle.graph_core.proofs.selection.GraphPlaces.{crate-at, node-at, standing-is}
+use Rattle.graph_core.proofs.selection.Rising.{id-at, some_same}
 use Rattle.graph_walk.specs.declared.unchecked.Led.{Led}
 use Rattle.graph_walk.specs.declared.unchecked.Unchecked.{Unchecked}
 use Rattle.graph_walk.specs.declared.unchecked.Unchecked.TheVariants.{LeftOutByWords, LeftOutByPolicy, NeverPublished, OnlyDev, OnlyBuild, NotLedTo}
 use Rattle.graph_walk.specs.Shortest.{AreShortest, ShortestWalk, ids_on, walk_at}
-use Rattle.graph_walk.specs.Unchecked.{AreSelecting, HasCause, IsFirstCause, UncheckedIs, cause_by, led_by, number_of, unled_by}
+use Rattle.graph_walk.specs.Unchecked.{AreSelecting, HasCause, UncheckedIs, cause_by, leaves_out, led_by, number_of, unled_by}
 
 true-is-false : true ≡ false → ⊥
 true-is-false e = cc
@@ -177,3 +184,61 @@ module _ (graph : Graph) (choice : Choice) (words : ℕ) (include : Include) (kr
       → Tells led.without_build (Reached graph choice (Some Build) krate.id)
       → UncheckedIs graph choice words include krate (cause_by by_words by_policy unpublished (unled_by include led))
   cause-is led all dev build = cause-by (unled_by include led) (unled-is led all dev build)
+
+-- ---- what is known of the crate at a place
+
+pub any-map : (specs : List ExcludeSpec) (krate : CrateRecord)
+    → list_any (leaves_out krate) specs ≡ is_excluded (map exclude_spec_of specs) krate
+any-map [] krate = refl
+any-map (spec ∷ specs) krate = ap (λ b. leaves_out krate spec || b) (any-map specs krate)
+
+pub crate-is : (graph : Graph) (crates : List Krate) (place : ℕ) (one : Krate) (krate : CrateRecord)
+    → map record_of crates ≡ crates_of graph → slice_index_or crates place one ≡ one → slice_get (crates_of graph) place ≡ Some krate
+    → record_of one ≡ krate
+crate-is graph crates place one krate value is at =
+    let within : place < length (crates_of graph) = slice_get_within (crates_of graph) place krate at in
+    let counted : length (crates_of graph) ≡ length crates = sym (ap length value) ∙ length-map crates record_of in
+    let below : place < length crates = subst (λ n. place < n) counted within in
+    ap record_of (sym is)
+    ∙ (sym (get_or-map record_of crates place one (record_of one) below)
+    ∙ (ap (λ (list : List CrateRecord). slice_index_or list place (record_of one)) value
+    ∙ get_or_from_slice_get (crates_of graph) place krate (record_of one) at))
+
+module _ (graph : Graph) (choice : Choice) (words : ℕ) (include : Include) (krate : CrateRecord) (rising : AreRising (ids_of graph))
+    (place : ℕ) (at : slice_get (crates_of graph) place ≡ Some krate) (all without_dev without_build : List (Option (List ℕ)))
+    (are : AreSelecting graph choice all without_dev without_build) where
+  inside : place < length graph.nodes
+  inside =
+      subst (λ n. place < n) (length-map graph.nodes (λ (node : CrateNode). node.krate)) (slice_get_within (crates_of graph) place krate at)
+
+  abbrev node : CrateNode
+  node = (node-at graph rising place inside).0
+
+  node_there : slice_get graph.nodes place ≡ Some node
+  node_there = (node-at graph rising place inside).1
+
+  of_crate : node.krate ≡ krate
+  of_crate = some_same node.krate krate (sym (crate-at graph rising place node node_there) ∙ at)
+
+  same_id : id_of_node graph place ≡ krate.id
+  same_id = id-at graph rising place node node_there ∙ ap (λ (k : CrateRecord). k.id) of_crate
+
+  tells-at : (named : Option DepKind) (walks : List (Option (List ℕ))) → AreShortest graph choice named walks
+      → Tells (is_some (walk_at walks place)) (Reached graph choice named krate.id)
+  tells-at named walks are_shortest =
+      subst (λ id. Tells (is_some (walk_at walks place)) (Reached graph choice named id)) same_id
+      (walk-tells graph choice named walks place are_shortest inside)
+
+  unpublished_is : is_unpublished_standing (standing_at (standings_in graph choice) place) ≡ is_unpublished_base graph choice krate
+  unpublished_is =
+      ap is_unpublished_standing (standing-is graph rising choice place node node_there ∙ ap (standing_of graph choice) of_crate)
+
+  pub told-is : UncheckedIs graph choice words include krate (cause_by (is_excluded (take words choice.exclude) krate)
+      (is_excluded (drop words choice.exclude) krate) (is_unpublished_standing (standing_at (standings_in graph choice) place))
+      (unled_by include (led_by all without_dev without_build place)))
+  told-is =
+      subst (λ b. UncheckedIs graph choice words include krate (cause_by (is_excluded (take words choice.exclude) krate)
+      (is_excluded (drop words choice.exclude) krate) b (unled_by include (led_by all without_dev without_build place))))
+      (sym unpublished_is)
+      (cause-is graph choice words include krate (led_by all without_dev without_build place) (tells-at None all are.all_are)
+      (tells-at (Some Dev) without_dev are.without_dev_are) (tells-at (Some Build) without_build are.without_build_are))

@@ -1,6 +1,5 @@
 -- What holds of the walks that were found so far, and that it still holds when one more is found.
-use Rattle.std.proofs.Common.{◌≡◌, ◌≢◌, ℕ, zero, suc, ◌+◌, ◌<◌, ◌≤◌, ◌⊎◌, List, [], ◌∷◌, ◌++◌, map, length, slice_set, slice_index_or, Option, Some, None, refl, sym, ◌∙◌, ap, subst, inl, inr, arith}
-use Rattle.std.specs.List.{AllByRecursion}
+use Rattle.std.proofs.Common.{◌≡◌, ◌≢◌, ℕ, zero, suc, ◌+◌, ◌<◌, List, [], ◌∷◌, ◌++◌, length, slice_set, slice_index_or, Option, Some, None, refl, sym, ◌∙◌, ap, subst, inl, inr, arith}
 use Rattle.std.proofs.lemmas.Bool.{cases_eq}
 use Rattle.std.proofs.lemmas.List.{length-set, length-append, get_or-set_same, get_or-set_other, get_or_append_left, get_or_push}
 use Rattle.std.proofs.lemmas.Option.{same_Some, none-some}
@@ -9,8 +8,8 @@ use Rattle.graph_core.specs.Metadata.{Graph, id_of_node}
 use Rattle.graph_core.specs.selection.Choice.{Choice}
 use Rattle.graph_core.specs.selection.Walks.{Reached}
 use Rattle.graph_walk.specs.Shortest.{visited}
-use Rattle.graph_walk.specs.Search.{SearchView, best_at, end_of, put, put_if, put_all}
-use Rattle.graph_walk.proofs.Backwards.{IsBefore, IsUpTo, shown}
+use Rattle.graph_walk.specs.Search.{SearchView, best_at, end_of}
+use Rattle.graph_walk.proofs.Backwards.{IsBefore, shown}
 
 -- the walk without its end
 abbrev pub behind_of : List ℕ → List ℕ

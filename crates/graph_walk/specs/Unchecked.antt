@@ -6,7 +6,8 @@ use Rattle.graph_core.specs.declared.edge.DepKind.TheVariants.{Dev, Build}
 use Rattle.graph_core.specs.Krate.{CrateRecord}
 use Rattle.graph_core.specs.Metadata.{Graph}
 use Rattle.graph_core.specs.declared.selection.selection.Include.{Include}
-use Rattle.graph_core.specs.selection.Choice.{Choice, is_excluded}
+use Rattle.graph_core.specs.declared.selection.exclude.ExcludeSpec.{ExcludeSpec}
+use Rattle.graph_core.specs.selection.Choice.{Choice, exclude_spec_of, excludes, is_excluded}
 use Rattle.graph_core.specs.selection.Roots.{is_unpublished_base}
 use Rattle.graph_core.specs.selection.Walks.{Reached, Selected}
 use Rattle.graph_walk.specs.Shortest.{AreShortest, walk_at}
@@ -61,6 +62,10 @@ unchecked_text OnlyBuild = codes "only build-dependencies lead to it"
 unchecked_text NotLedTo = codes "nothing that is checked leads to it"
 
 -- ---- by what is known of a crate
+
+-- whether a spec leaves a crate out
+abbrev pub leaves_out : CrateRecord → ExcludeSpec → Bool
+leaves_out krate spec = excludes (exclude_spec_of spec) krate
 
 -- whether walks lead to the crate at a place: over all edges, and without the dependencies of a kind
 abbrev pub led_by : List (Option (List ℕ)) → List (Option (List ℕ)) → List (Option (List ℕ)) → ℕ → Led

@@ -1,5 +1,5 @@
 //! What a search in breadth has found: each crate once, in the order in which it was found.
-ghost use Rattle.std.specs.Prelude.{◌≡◌, ◌<◌, ◌∷◌, [], length, is_some, slice_index_or, All, IfSome, IfOk, OnOk};
+ghost use Rattle.std.specs.Prelude.{◌≡◌, ◌<◌, [], length, slice_index_or, All, IfSome, IfOk, OnOk};
 ghost use Rattle.graph_walk.specs.Search as spec;
 ghost use Rattle.graph_walk.specs.Search.{best_at, walk_behind};
 

@@ -1,5 +1,6 @@
 //! Why a crate is not checked.
 ghost use Rattle.std.specs.Prelude.{◌≡◌, ◌<◌, length, take, drop, map, slice_get, Some, IfOk};
+ghost use Rattle.std.specs.List.{list_any};
 ghost use Rattle.graph_core.specs.Krate.{CrateRecord, record_of};
 ghost use Rattle.graph_core.specs.selection.Choice.{choice_of, exclude_spec_of, is_excluded};
 ghost use Rattle.graph_core.specs.selection.Places.{standings_in, is_unpublished_standing};
@@ -45,11 +46,25 @@ struct Led {
     without_build: bool,
 }
 
-/// Whether one of some specs leaves a crate out.
+/// Whether a spec leaves a crate out.
+fn leaves_out(krate: &Krate, one: &ExcludeSpec) -> bool
+    ensures { result ≡ spec.leaves_out (record_of krate.now) one.now }
+{
+    one.excludes(krate)
+}
+
+/// Whether one of some specs does.
+fn any_leaves_out(specs: &[ExcludeSpec], krate: &Krate) -> bool
+    ensures { result ≡ list_any (spec.leaves_out (record_of krate.now)) specs.now }
+{
+    specs.iter().any(|one| leaves_out(krate, one))
+}
+
+/// The same, by what the specs are read as.
 fn is_left_out(specs: &[ExcludeSpec], krate: &Krate) -> bool
     ensures { result ≡ is_excluded (map exclude_spec_of specs.now) (record_of krate.now) }
 {
-    specs.iter().any(|spec| spec.excludes(krate))
+    any_leaves_out(specs, krate)
 }
 
 /// The first of some specs, so many or all, and the others.

@@ -1,8 +1,7 @@
 //! The shortest walks to crates, by one search in breadth.
-ghost use Rattle.std.specs.Prelude.{◌≡◌, ◌<◌, [], ◌++◌, length, reverse, is_some, slice_index_or, option_map, All, IfOk, OnOk};
-ghost use Rattle.graph_core.specs.Metadata.{AreRising, LeadWithin, ids_of};
+ghost use Rattle.std.specs.Prelude.{◌≡◌, ◌<◌, [], length, reverse, is_some, slice_index_or, option_map, IfOk, OnOk};
+ghost use Rattle.graph_core.specs.Metadata.{LeadWithin};
 ghost use Rattle.graph_core.specs.selection.Choice.{choice_of};
-ghost use Rattle.graph_core.specs.selection.Places.{counting_at as counting_in, standing_at as standing_in, standings_in};
 ghost use Rattle.graph_walk.specs.Search as spec;
 ghost use Rattle.graph_walk.specs.Search.{AreInOrder, IsFollowed};
 ghost use Rattle.graph_walk.specs.Shortest as shortest;

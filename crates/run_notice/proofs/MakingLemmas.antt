@@ -1,5 +1,6 @@
 -- The notice of the crates that were judged.
-use Rattle.std.proofs.Common.{◌≡◌, ◌∙◌, ◌⊎◌, inl, inr, ℕ, List, [], ◌∷◌, map, Option, Some, None, Result, Ok, Err, refl, sym, ap, subst, append-nil}
+use Rattle.std.proofs.Common.{◌≡◌, ◌∙◌, ◌⊎◌, inl, inr, ℕ, true, false, cond, List, [], ◌∷◌, ◌++◌, find, length, map, slice_get, Option, Some, None, Result, Ok, Err, refl, sym, ap, subst, append-nil}
+use Rattle.std.specs.Option.{option_map}
 use Rattle.tree_core.proofs.MadeLemmas.{made_as}
 use Rattle.graph_core.specs.Krate.{CrateRecord}
 use Rattle.gather_license.specs.declared.texts.OwnTexts.{OwnTexts}
@@ -7,7 +8,7 @@ use Rattle.gather_license.specs.files.Calls.{IsFront}
 use Rattle.gather_core.specs.Calls.{ReadsOfCrate, calls_of_all}
 use Rattle.check_core.specs.declared.report.CrateReport.{CrateReport}
 use Rattle.check_notice.specs.declared.notice.NoticeError.TheVariants as notices
-use Rattle.check_notice.specs.Notice.{AnswersNotice, NoticedCrate, noticed_as}
+use Rattle.check_notice.specs.Notice.{AnswersNotice, NoticedCrate, first_unaccepted, is_against, is_unaccepted, noticed_as}
 use Rattle.run_found.specs.declared.error.Error.{Error}
 use Rattle.run_found.specs.declared.error.Error.TheVariants.{Memory, NotAccepted, NoText}
 use Rattle.run_found.specs.declared.reads.CrateRead.{CrateRead}
@@ -20,13 +21,32 @@ use Rattle.run_notice.specs.declared.making.MadeNotice.{MadeNotice}
 use Rattle.run_notice.specs.declared.noticed.NoticedCrates.{NoticedCrates}
 use Rattle.run_notice.specs.Noticed.{noticed_heard, unaccepted_id}
 use Rattle.run_notice.specs.Own.{AreOwnReads, HaveOwnTexts, crates_in, own_heard, own_of, own_reads_told}
-use Rattle.run_notice.specs.Steps.{IsMade, LacksOwn, MakesNotice, MakesOwn, RefusesUnaccepted, judged_sources, noticed_by}
+use Rattle.run_notice.specs.Steps.{IsMade, LacksOwn, MakesNotice, MakesOwn, RefusesUnaccepted, judged_sources, noticed_by, source_at}
 
 -- by the texts that the answers tell, crates are noticed as they are heard
 noticed_same : (own : List ReadsOfCrate) (reports : List CrateReport) → noticed_by (crates_in own) reports (map own_of own) ≡ noticed_heard own reports
 noticed_same [] reports = refl
 noticed_same (one ∷ own) [] = refl
 noticed_same (one ∷ own) (report ∷ reports) = ap (λ (rest : List NoticedCrate). noticed_as one.krate report (own_heard one) ∷ rest) (noticed_same own reports)
+
+-- where no report is against a notice, no crate is
+none_against : (crates : List CrateRecord) (reports : List CrateReport) (own : List OwnTexts) → find is_against reports ≡ None → first_unaccepted (noticed_by crates reports own) ≡ None
+none_against [] reports own none = refl
+none_against (krate ∷ crates) [] own none = refl
+none_against (krate ∷ crates) (report ∷ reports) [] none = refl
+none_against (krate ∷ crates) (report ∷ reports) (one ∷ own) none =
+    elim (is_unaccepted report.verdict) as (λ b. cond b (Some report) (find is_against reports) ≡ None
+    → cond b (Some (noticed_as krate report one.texts)) (first_unaccepted (noticed_by crates reports own)) ≡ None) [
+      | true ↦ λ never. absurd (cc)
+      | false ↦ λ rest. none_against crates reports own rest
+    ] none
+
+none_mapped : {A B : Type 0} (f : A → B) (found : Option A) → option_map f found ≡ None → found ≡ None
+none_mapped f None none = refl
+none_mapped f (Some x) none = absurd (cc)
+
+pub all_accepted : (crates : List CrateRecord) (reports : List CrateReport) (own : List OwnTexts) → unaccepted_id reports ≡ None → first_unaccepted (noticed_by crates reports own) ≡ None
+all_accepted crates reports own none = none_against crates reports own (none_mapped (λ (report : CrateReport). report.id) (find is_against reports) none)
 
 module _ (texts : TextsGiven) (judged : JudgedCrates) (tree : TreeSeen) where
   pub made_by : (crates : List CrateRecord) (own : List OwnTexts) (made : MadeNotice) → crates ≡ crates_judged judged → HaveOwnTexts crates tree own
@@ -74,3 +94,19 @@ module _ (texts : TextsGiven) (judged : JudgedCrates) (tree : TreeSeen) where
   refused_unaccepted id Memory first made is = inl made
   refused_unaccepted id (NotAccepted own reads) first made is = record { made = made; first = first ∙ ap Some (sym is.0); reads_are = is.1 }
   refused_unaccepted id _ first made is = absurd is
+
+-- ---- crates, one by one
+
+-- one crate more
+pub noticed_next : (crates : List CrateRecord) (krate : CrateRecord) (reports : List CrateReport) (own : List OwnTexts)
+    → noticed_by (crates ++ krate ∷ []) reports own ≡ noticed_by crates reports own ++ source_at krate (slice_get reports (length crates)) (slice_get own (length crates))
+noticed_next [] krate [] own = refl
+noticed_next [] krate (report ∷ reports) [] = refl
+noticed_next [] krate (report ∷ reports) (one ∷ own) = refl
+noticed_next (first ∷ crates) krate [] own = refl
+noticed_next (first ∷ crates) krate (report ∷ reports) [] = no_own (slice_get reports (length crates))
+  where
+    no_own : (found : Option CrateReport) → [] ≡ source_at krate found None
+    no_own None = refl
+    no_own (Some report) = refl
+noticed_next (first ∷ crates) krate (report ∷ reports) (one ∷ own) = ap (λ (rest : List NoticedCrate). noticed_as first report one.texts ∷ rest) (noticed_next crates krate reports own)

@@ -25,7 +25,8 @@ use Rattle.run_check.proofs.ReportLemmas.{reported_stops}
 use Rattle.run_notice.specs.declared.noticed.NoticedCrates.{NoticedCrates}
 use Rattle.run_notice.specs.Noticed.{FindsNotice, HearsOwn, LacksMemory, Notices, TellsNotice}
 use Rattle.run_notice.specs.Own.{AreOwnReads, IsOwnBegun, crates_in}
-use Rattle.run_notice.specs.Steps.{MakesNotice, MakesOwn, WritesNotice}
+use Rattle.run_notice.specs.Pieces.{WritesNotice}
+use Rattle.run_notice.specs.Steps.{MakesNotice, MakesOwn}
 use Rattle.check_notice.specs.Written.{notice_text}
 
 -- ---- a notice is found

@@ -1,3 +1,4 @@
 pub mod Noticed
 pub mod Own
+pub mod Pieces
 pub mod Steps

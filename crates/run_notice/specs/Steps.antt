@@ -1,20 +1,16 @@
 -- What the steps of a run for a notice answer. Only the contracts of private calls cite it.
-use Rattle.std.specs.Prelude.{◌≡◌, ◌⊎◌, ℕ, ◌+◌, List, [], ◌∷◌, ◌++◌, map, Some, None, Result, Ok, Err}
-use Rattle.tree_core.specs.Faults.{Gained, GainedPrefix}
+use Rattle.std.specs.Prelude.{◌≡◌, ◌⊎◌, ℕ, List, [], ◌∷◌, map, Option, Some, None, Result, Ok, Err}
 use Rattle.graph_core.specs.Krate.{CrateRecord}
 use Rattle.gather_license.specs.declared.texts.OwnTexts.{OwnTexts}
 use Rattle.gather_core.specs.Calls.{ReadsOfCrate, calls_of_all}
 use Rattle.check_core.specs.declared.report.CrateReport.{CrateReport}
 use Rattle.check_notice.specs.Notice.{AnswersNotice, IsNotice, NoticedCrate, first_missing, noticed_as}
 use Rattle.check_notice.specs.Sources.{TextSources}
-use Rattle.check_notice.specs.Written.{text_head}
 use Rattle.run_found.specs.declared.error.Error.{Error}
 use Rattle.run_found.specs.declared.error.Error.TheVariants.{Memory, NotAccepted, NoText}
 use Rattle.run_found.specs.declared.reads.CrateRead.{CrateRead}
 use Rattle.run_found.specs.Hearing.{MadeOn, TreeSeen}
 use Rattle.run_found.specs.own_names.Given.{TextsGiven}
-use Rattle.run_found.specs.Written.{IsSilent, SinkSeen}
-use Rattle.run_command.specs.Written.{IsWriteFault}
 use Rattle.run_check.specs.declared.judged.JudgedCrates.{JudgedCrates}
 use Rattle.run_check.specs.Judged.{crates_judged}
 use Rattle.run_check.specs.Reads.{reads_told}
@@ -32,6 +28,12 @@ noticed_by (krate ∷ crates) [] own = []
 noticed_by (krate ∷ crates) (report ∷ reports) [] = []
 noticed_by (krate ∷ crates) (report ∷ reports) (one ∷ own) =
     noticed_as krate report one.texts ∷ noticed_by crates reports own
+
+-- a crate, where there is a report on it, with the texts that it comes with
+abbrev pub source_at : CrateRecord → Option CrateReport → Option OwnTexts → List NoticedCrate
+source_at krate None own = []
+source_at krate (Some report) None = []
+source_at krate (Some report) (Some own) = noticed_as krate report own.texts ∷ []
 
 abbrev pub judged_sources : TextsGiven → JudgedCrates → TextSources
 judged_sources texts judged = sources_by texts judged.report.policy.confidence_threshold
@@ -59,7 +61,8 @@ pub record LacksText (texts : TextsGiven) (judged : JudgedCrates) (id key : List
   pub own_reads_are : own_reads ≡ own_reads_told (crates_in own) (map own_of own)
 
 -- the notice of the crates by the texts that they come with, or why there is none; and the records of the reads
-pub record IsMade (texts : TextsGiven) (judged : JudgedCrates) (made : MadeNotice) (own : List ReadsOfCrate) : Type 0 where
+pub record IsMade (texts : TextsGiven) (judged : JudgedCrates) (made : MadeNotice) (own : List ReadsOfCrate)
+    : Type 0 where
   pub answers : AnswersNotice (judged_sources texts judged) (noticed_heard own judged.report.crates) made.made
   pub own_reads : made.own ≡ own_reads_told (crates_in own) (map own_of own)
 
@@ -91,22 +94,3 @@ abbrev pub RefusesUnaccepted : List ℕ → JudgedCrates → Error → Type 0
 RefusesUnaccepted id judged Memory = Unit {0}
 RefusesUnaccepted id judged (NotAccepted own reads) = (own ≡ id) × (reads ≡ reads_told judged.report.crates)
 RefusesUnaccepted id judged _ = ⊥
-
--- ---- what is written
-
-abbrev pub heads_from : ℕ → List (List ℕ) → List (List ℕ)
-heads_from number [] = []
-heads_from number (text ∷ texts) = text_head number ∷ heads_from (number + 1) texts
-
--- texts, each behind its head
-abbrev pub texts_behind : List (List ℕ) → List (List ℕ) → List ℕ
-texts_behind [] texts = []
-texts_behind (head ∷ heads) [] = []
-texts_behind (head ∷ heads) (text ∷ texts) = head ++ (text ++ texts_behind heads texts)
-
--- it was written, or a prefix of it, behind which a write was refused; or memory was wanting before
-abbrev pub WritesNotice : List ℕ → SinkSeen → Result (Unit {0}) Error → Type 0
-WritesNotice text out (Ok done) = Gained out.old out.new text
-WritesNotice text out (Err error) =
-    ((error ≡ Memory) × IsSilent out)
-    ⊎ (IsWriteFault out.before out.after error × GainedPrefix out.old out.new text)

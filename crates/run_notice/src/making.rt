@@ -1,13 +1,15 @@
 //! The notice of the crates that were judged.
 //! Called by `found_notice` of noticing; the reads may be listed in any order, no clause has it.
-ghost use Rattle.std.specs.Prelude.{◌≡◌, IfOk, None, OnErr, map};
+ghost use Rattle.std.specs.Prelude.{◌≡◌, ◌++◌, IfOk, None, OnErr, OnOk, map};
+ghost use Rattle.std.specs.Option.{option_copied};
+ghost use Rattle.graph_core.specs.Krate.{record_of};
 ghost use Rattle.graph_core.specs.selection.Listed.{record_behind};
-ghost use Rattle.check_notice.specs.Notice.{AnswersNotice, noticed_of};
+ghost use Rattle.check_notice.specs.Notice.{AnswersNotice, first_unaccepted, noticed_of};
 ghost use Rattle.run_check.specs.Judged.{crates_judged};
 ghost use Rattle.run_found.specs.Hearing.{seen_between};
 ghost use Rattle.run_found.specs.own_names.Given.{texts_given};
 ghost use Rattle.run_notice.specs.Noticed.{sources_by, unaccepted_id};
-ghost use Rattle.run_notice.specs.Steps.{IsMade, LacksOwn, MakesNotice, MakesOwn, RefusesUnaccepted, noticed_by};
+ghost use Rattle.run_notice.specs.Steps.{IsMade, LacksOwn, MakesNotice, MakesOwn, RefusesUnaccepted, noticed_by, source_at};
 
 use crate::noticed::NoticedCrates;
 use crate::own::{own_of_crates, reads_of_own};
@@ -26,10 +28,26 @@ use tree_core::Tree;
 /// Crates as a notice looks at them, in order.
 type NoticeSources<'s> = ListOf<NoticeSource<'s>>;
 
+/// Appends a crate, where there is a report on it, with the texts that it comes with.
+fn push_source<'s>(
+    sources: &mut NoticeSources<'s>,
+    krate: &'s Krate,
+    report: Option<&'s CrateReport>,
+    own: Option<&'s OwnTexts>,
+) -> Result<(), AllocError>
+    ensures { OnOk result (map noticed_of sources.new ≡ map noticed_of sources.old
+        ++ source_at (record_of krate.now) (option_copied report.entry) (option_copied own.entry)) }
+{
+    match (report, own) {
+        (Some(report), Some(own)) => sources.push(NoticeSource { krate, report, own }),
+        _ => Ok(()),
+    }
+}
+
 /// Crates, each with the report on it and the texts that it comes with.
 fn sources<'s>(
     alloc: Global,
-    krates: &'s [&'s Krate],
+    krates: &[&'s Krate],
     reports: &'s [CrateReport],
     own: &'s [OwnTexts],
 ) -> Result<NoticeSources<'s>, AllocError>
@@ -37,8 +55,8 @@ fn sources<'s>(
         ≡ noticed_by (map record_behind krates.now) reports.now own.now) }
 {
     let mut sources = NoticeSources::new(alloc);
-    'crates: for ((krate, report), own) in krates.iter().zip(reports.iter()).zip(own.iter()) {
-        sources.push(NoticeSource { krate, report, own })?;
+    'crates: for (place, krate) in krates.iter().enumerate() {
+        push_source(&mut sources, krate, reports.get(place), own.get(place))?;
     }
     Ok(sources)
 }
@@ -52,6 +70,7 @@ fn notice_by<I: Identifier + TextLookup>(
     identifier: &I,
     threshold: i64,
 ) -> Result<Notice, NoticeError>
+    requires { first_unaccepted (noticed_by (map record_behind krates.now) reports.now own.now) ≡ None }
     ensures { AnswersNotice
         (sources_by (texts_given (I.match_of identifier.now) (I.text_of identifier.now)) threshold)
         (noticed_by (map record_behind krates.now) reports.now own.now) result }
@@ -68,7 +87,8 @@ fn notice_by<I: Identifier + TextLookup>(
 fn not_accepted(alloc: Global, id: Text, judged: JudgedCrates) -> Error
     ensures { RefusesUnaccepted id judged result }
 {
-    let Report { crates, .. } = judged.report;
+    let JudgedCrates { report, .. } = judged;
+    let Report { crates, .. } = report;
     match reads_of_reports(alloc, crates) {
         Ok(reads) => Error::NotAccepted { id, reads },
         Err(_) => Error::Memory,
@@ -103,6 +123,7 @@ fn made_of<T: Tree, I: Identifier + TextLookup>(
     identifier: &I,
     tree: &mut T,
 ) -> Result<MadeNotice, AllocError>
+    requires { unaccepted_id judged.now.report.crates ≡ None }
     ensures made { IfOk result (λ made. MakesOwn judged.now
         (seen_between T.content T.fault_count T.trace tree.old tree.new)
         (IsMade (texts_given (I.match_of identifier.now) (I.text_of identifier.now)) judged.now made)) }
@@ -110,16 +131,12 @@ fn made_of<T: Tree, I: Identifier + TextLookup>(
         (seen_between T.content T.fault_count T.trace tree.old tree.new)) }
 {
     let krates = judged.checked(alloc)?;
-    let own = own_of_crates(alloc, krates.items(), tree)?;
-    let made = notice_by(
-        alloc,
-        krates.items(),
-        judged.report.crates.items(),
-        own.items(),
-        identifier,
-        judged.report.policy.confidence_threshold,
-    );
-    let reads = reads_of_own(alloc, krates.items(), own)?;
+    let listed = krates.items();
+    let own = own_of_crates(alloc, listed, tree)?;
+    let reports = judged.report.crates.items();
+    let threshold = judged.report.policy.confidence_threshold;
+    let made = notice_by(alloc, listed, reports, own.items(), identifier, threshold);
+    let reads = reads_of_own(alloc, listed, own)?;
     Ok(MadeNotice { made, own: reads })
 }
 
@@ -135,7 +152,8 @@ fn notice_of_accepted<T: Tree, I: Identifier + TextLookup>(
         (seen_between T.content T.fault_count T.trace tree.old tree.new) result }
 {
     let MadeNotice { made, own } = made_of(alloc, &judged, identifier, tree)?;
-    let Report { crates, .. } = judged.report;
+    let JudgedCrates { report, .. } = judged;
+    let Report { crates, .. } = report;
     let reads = reads_of_reports(alloc, crates)?;
     match made {
         Ok(notice) => Ok(NoticedCrates { notice, reads, own }),

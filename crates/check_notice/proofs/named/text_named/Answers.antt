@@ -1,4 +1,4 @@
-use Rattle.std.proofs.Common.{◌≡◌, ◌∙◌, Some, None, ap, sym}
+use Rattle.std.proofs.Common.{◌∙◌, ap, sym}
 use Rattle.std.specs.Prelude.{option_copied}
 use Rattle.check_notice.specs.Sources.{is_named}
 use Rattle.check_notice.proofs.FindLemmas.{item_at, named_found, none_named}

@@ -1,4 +1,4 @@
-use Rattle.std.proofs.Common.{◌≡◌, ◌∙◌, position, Some, None, ap, sym}
+use Rattle.std.proofs.Common.{◌∙◌, ap, sym}
 use Rattle.std.specs.Prelude.{option_copied}
 use Rattle.check_notice.specs.Notice.{is_against}
 use Rattle.check_notice.proofs.FindLemmas.{item_at, none_found, place_found}

@@ -1,5 +1,5 @@
 -- The places so far, and the walk that is left, are the whole.
-use Rattle.std.proofs.Common.{◌≡◌, ℕ, suc, ◌<◌, [], ◌++◌, length, slice_index_or, IfSome}
+use Rattle.std.proofs.Common.{◌≡◌, suc, ◌<◌, [], ◌++◌, length, slice_index_or, IfSome}
 use Rattle.std.specs.Option.{option_map_or}
 use Rattle.graph_walk.specs.Search.{walk_behind}
 use Rattle.graph_walk.proofs.walks.walk_back.Given as goal
