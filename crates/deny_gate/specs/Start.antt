@@ -3,7 +3,7 @@ use Rattle.std.specs.Prelude.{◌≡◌, ◌≤◌, ℕ, List, Option, Result, O
 use Rattle.tree_core.specs.Call.{Call}
 use Rattle.tree_core.specs.Content.{Content}
 use Rattle.spdx_terms.specs.catalog.BuiltIn.{built_in}
-use Rattle.spdx_terms.specs.catalog.Store.{match_of}
+use Rattle.spdx_terms.specs.catalog.Store.{match_of, text_of_store}
 use Rattle.spdx_terms.specs.catalog.Table.{table_lists}
 use Rattle.run_found.specs.Hearing.{HasMade, TreeSeen}
 use Rattle.run_found.specs.Written.{IsSilent}
@@ -34,6 +34,7 @@ pub record IsGateRun (words : List (List ℕ)) (folder : List ℕ) (seen : RunSe
   pub given : RunArguments
   pub lists : given.lists ≡ table_lists
   pub match_of : given.match_of ≡ match_of built_in
+  pub text_of : given.text_of ≡ text_of_store built_in
   pub words_given : given.words ≡ words
   pub folder_given : given.cwd ≡ folder
   pub run : IsRun given seen outcome

@@ -153,14 +153,22 @@ accepted_help id = advice (id ++ codes " is rejected or unlicensed: check licens
 abbrev pub text_place : List ℕ → List ℕ → List ℕ
 text_place folder key = join_of folder (key ++ codes ".txt")
 
--- a licence of a crate for which there is no text
-abbrev pub missing_help : Option (List ℕ) → List ℕ → List ℕ → List ℕ
-missing_help (Some folder) id key =
-    at_file (text_place folder key)
-    (codes "there is no such text, and " ++ id ++ codes " has no file that is identified as " ++ key)
-missing_help None id key =
+-- a licence of a crate for which there is no text: in a folder of texts, where it would be, or among the built-in ones
+abbrev pub absent_words : List ℕ → List ℕ → List ℕ
+absent_words id key =
+    codes "there is no such text, and " ++ id ++ codes " has no file that is identified as " ++ key
+
+abbrev pub absent_help : List ℕ → List ℕ → List ℕ → List ℕ
+absent_help place id key = at_file place (absent_words id key)
+
+abbrev pub unstored_help : List ℕ → List ℕ → List ℕ
+unstored_help id key =
     advice (id ++ codes " has no file that is identified as " ++ key
     ++ codes ", and no stored text has this name: cargo deny --store DIR names others")
+
+abbrev pub missing_help : Option (List ℕ) → List ℕ → List ℕ → List ℕ
+missing_help (Some folder) id key = absent_help (text_place folder key) id key
+missing_help None id key = unstored_help id key
 
 -- ---- counts and levels
 

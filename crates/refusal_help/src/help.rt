@@ -6,7 +6,8 @@ ghost use Rattle.std.specs.String.{string_bytes};
 ghost use Rattle.refusal_help.specs.Help.{advice, at_file, at_file_if, fault_at, help_of, is_unresolved};
 ghost use Rattle.refusal_help.specs.Help.{line_and_column, place_text, resolve_help, roots_help, roots_words};
 ghost use Rattle.refusal_help.specs.Help.{catalog_words, line_help, store_help, store_place, syntax_help};
-ghost use Rattle.refusal_help.specs.Help.{accepted_help, missing_help, named_help, text_place};
+ghost use Rattle.refusal_help.specs.Help.{absent_help, absent_words, accepted_help, missing_help};
+ghost use Rattle.refusal_help.specs.Help.{named_help, text_place, unstored_help};
 ghost use Rattle.refusal_help.specs.Help.{file_of, name_help, policy_help, shape_help, twice_help, unknown_help};
 ghost use Rattle.refusal_help.specs.Words.{manifest_words, read_words};
 
@@ -233,6 +234,41 @@ fn text_place(alloc: Global, folder: &str, key: &Text) -> Result<PathBuf, AllocE
     join(alloc, folder, name.as_str())
 }
 
+/// That there is no text for a licence of a crate.
+fn absent_words(alloc: Global, id: &Text, key: &Text) -> Result<String, AllocError>
+    ensures { IfOk result (λ words. string_bytes words ≡ absent_words id.now key.now) }
+{
+    let mut words = String::from_str(alloc, "there is no such text, and ")?;
+    words.push_str(id.as_str())?;
+    words.push_str(" has no file that is identified as ")?;
+    words.push_str(key.as_str())?;
+    Ok(words)
+}
+
+/// What is so where a folder of texts has none for a licence.
+fn push_absent(
+    alloc: Global,
+    text: &mut String,
+    place: &PathBuf,
+    id: &Text,
+    key: &Text,
+) -> Result<(), AllocError>
+    ensures { OnOk result (string_bytes text.new ≡ string_bytes text.old ++ absent_help place.now id.now key.now) }
+{
+    let words = absent_words(alloc, id, key)?;
+    push_file(text, place.as_path(), words.as_str())
+}
+
+/// What is so where no stored text has the name of a licence.
+fn push_unstored(alloc: Global, text: &mut String, id: &Text, key: &Text) -> Result<(), AllocError>
+    ensures { OnOk result (string_bytes text.new ≡ string_bytes text.old ++ unstored_help id.now key.now) }
+{
+    let told = format!(in alloc;
+        "{id} has no file that is identified as {key}, and no stored text has this name: cargo deny --store DIR names others"
+    )?;
+    push_advice(text, told.as_str())
+}
+
 /// A licence of a crate for which there is no text.
 fn push_missing(
     alloc: Global,
@@ -246,17 +282,9 @@ fn push_missing(
     match folder {
         Some(folder) => {
             let place = text_place(alloc, folder.as_path(), key)?;
-            let told = format!(in alloc;
-                "there is no such text, and {id} has no file that is identified as {key}"
-            )?;
-            push_file(text, place.as_path(), told.as_str())
+            push_absent(alloc, text, &place, id, key)
         }
-        None => {
-            let told = format!(in alloc;
-                "{id} has no file that is identified as {key}, and no stored text has this name: cargo deny --store DIR names others"
-            )?;
-            push_advice(text, told.as_str())
-        }
+        None => push_unstored(alloc, text, id, key),
     }
 }
 

@@ -3,7 +3,6 @@ use Rattle.std.proofs.Common.{◌≡◌, ◌∙◌, ◌⊎◌, inl, inr, ℕ, tr
 use Rattle.std.specs.Option.{option_map}
 use Rattle.tree_core.proofs.MadeLemmas.{made_as}
 use Rattle.graph_core.specs.Krate.{CrateRecord}
-use Rattle.gather_license.specs.declared.texts.OwnTexts.{OwnTexts}
 use Rattle.gather_license.specs.files.Calls.{IsFront}
 use Rattle.gather_core.specs.Calls.{ReadsOfCrate, calls_of_all}
 use Rattle.check_core.specs.declared.report.CrateReport.{CrateReport}
@@ -19,8 +18,9 @@ use Rattle.run_check.specs.Judged.{crates_judged}
 use Rattle.run_check.specs.Reads.{reads_told}
 use Rattle.run_notice.specs.declared.making.MadeNotice.{MadeNotice}
 use Rattle.run_notice.specs.declared.noticed.NoticedCrates.{NoticedCrates}
+use Rattle.run_notice.specs.declared.own.CrateTexts.{CrateTexts}
 use Rattle.run_notice.specs.Noticed.{noticed_heard, unaccepted_id}
-use Rattle.run_notice.specs.Own.{AreOwnReads, HaveOwnTexts, crates_in, own_heard, own_of, own_reads_told}
+use Rattle.run_notice.specs.Own.{AreOwnReads, HaveOwnTexts, crates_in, own_heard, own_of, own_read_told, read_kept}
 use Rattle.run_notice.specs.Steps.{IsMade, LacksOwn, MakesNotice, MakesOwn, RefusesUnaccepted, judged_sources, noticed_by, source_at}
 
 -- by the texts that the answers tell, crates are noticed as they are heard
@@ -29,14 +29,19 @@ noticed_same [] reports = refl
 noticed_same (one ∷ own) [] = refl
 noticed_same (one ∷ own) (report ∷ reports) = ap (λ (rest : List NoticedCrate). noticed_as one.krate report (own_heard one) ∷ rest) (noticed_same own reports)
 
+-- and so are the records of the reads
+kept_same : (own : List ReadsOfCrate) → map read_kept (map own_of own) ≡ map own_read_told own
+kept_same [] = refl
+kept_same (one ∷ own) = ap (λ (rest : List CrateRead). own_read_told one ∷ rest) (kept_same own)
+
 -- where no report is against a notice, no crate is
-none_against : (crates : List CrateRecord) (reports : List CrateReport) (own : List OwnTexts) → find is_against reports ≡ None → first_unaccepted (noticed_by crates reports own) ≡ None
+none_against : (crates : List CrateRecord) (reports : List CrateReport) (own : List CrateTexts) → find is_against reports ≡ None → first_unaccepted (noticed_by crates reports own) ≡ None
 none_against [] reports own none = refl
 none_against (krate ∷ crates) [] own none = refl
 none_against (krate ∷ crates) (report ∷ reports) [] none = refl
 none_against (krate ∷ crates) (report ∷ reports) (one ∷ own) none =
     elim (is_unaccepted report.verdict) as (λ b. cond b (Some report) (find is_against reports) ≡ None
-    → cond b (Some (noticed_as krate report one.texts)) (first_unaccepted (noticed_by crates reports own)) ≡ None) [
+    → cond b (Some (noticed_as krate report one.own.texts)) (first_unaccepted (noticed_by crates reports own)) ≡ None) [
       | true ↦ λ never. absurd (cc)
       | false ↦ λ rest. none_against crates reports own rest
     ] none
@@ -45,16 +50,16 @@ none_mapped : {A B : Type 0} (f : A → B) (found : Option A) → option_map f f
 none_mapped f None none = refl
 none_mapped f (Some x) none = absurd (cc)
 
-pub all_accepted : (crates : List CrateRecord) (reports : List CrateReport) (own : List OwnTexts) → unaccepted_id reports ≡ None → first_unaccepted (noticed_by crates reports own) ≡ None
+pub all_accepted : (crates : List CrateRecord) (reports : List CrateReport) (own : List CrateTexts) → unaccepted_id reports ≡ None → first_unaccepted (noticed_by crates reports own) ≡ None
 all_accepted crates reports own none = none_against crates reports own (none_mapped (λ (report : CrateReport). report.id) (find is_against reports) none)
 
 module _ (texts : TextsGiven) (judged : JudgedCrates) (tree : TreeSeen) where
-  pub made_by : (crates : List CrateRecord) (own : List OwnTexts) (made : MadeNotice) → crates ≡ crates_judged judged → HaveOwnTexts crates tree own
-      → AnswersNotice (judged_sources texts judged) (noticed_by crates judged.report.crates own) made.made → made.own ≡ own_reads_told crates own
+  pub made_by : (crates : List CrateRecord) (own : List CrateTexts) (made : MadeNotice) → crates ≡ crates_judged judged → HaveOwnTexts crates tree own
+      → AnswersNotice (judged_sources texts judged) (noticed_by crates judged.report.crates own) made.made → made.own ≡ map read_kept own
       → MakesOwn judged tree (IsMade texts judged made)
   made_by crates own made crates_are has answers recorded =
       let noticed : noticed_by crates judged.report.crates own ≡ noticed_heard has.own judged.report.crates =
-      ap (λ (mine : List OwnTexts). noticed_by crates judged.report.crates mine) has.texts_are
+      ap (λ (mine : List CrateTexts). noticed_by crates judged.report.crates mine) has.texts_are
       ∙ ap (λ (those : List CrateRecord). noticed_by those judged.report.crates (map own_of has.own)) (sym has.are.crates_are)
       ∙ noticed_same has.own judged.report.crates in
       record {
@@ -63,10 +68,7 @@ module _ (texts : TextsGiven) (judged : JudgedCrates) (tree : TreeSeen) where
         are = subst (λ (those : List CrateRecord). AreOwnReads those tree.count_before has.own) crates_are has.are;
         is_so = record {
           answers = subst (λ (those : List NoticedCrate). AnswersNotice (judged_sources texts judged) those made.made) noticed answers;
-          own_reads =
-              recorded
-              ∙ ap (λ (mine : List OwnTexts). own_reads_told crates mine) has.texts_are
-              ∙ ap (λ (those : List CrateRecord). own_reads_told those (map own_of has.own)) (sym has.are.crates_are);
+          own_reads = recorded ∙ ap (map read_kept) has.texts_are ∙ kept_same has.own;
         };
       }
 
@@ -98,7 +100,7 @@ module _ (texts : TextsGiven) (judged : JudgedCrates) (tree : TreeSeen) where
 -- ---- crates, one by one
 
 -- one crate more
-pub noticed_next : (crates : List CrateRecord) (krate : CrateRecord) (reports : List CrateReport) (own : List OwnTexts)
+pub noticed_next : (crates : List CrateRecord) (krate : CrateRecord) (reports : List CrateReport) (own : List CrateTexts)
     → noticed_by (crates ++ krate ∷ []) reports own ≡ noticed_by crates reports own ++ source_at krate (slice_get reports (length crates)) (slice_get own (length crates))
 noticed_next [] krate [] own = refl
 noticed_next [] krate (report ∷ reports) [] = refl
@@ -109,4 +111,4 @@ noticed_next (first ∷ crates) krate (report ∷ reports) [] = no_own (slice_ge
     no_own : (found : Option CrateReport) → [] ≡ source_at krate found None
     no_own None = refl
     no_own (Some report) = refl
-noticed_next (first ∷ crates) krate (report ∷ reports) (one ∷ own) = ap (λ (rest : List NoticedCrate). noticed_as first report one.texts ∷ rest) (noticed_next crates krate reports own)
+noticed_next (first ∷ crates) krate (report ∷ reports) (one ∷ own) = ap (λ (rest : List NoticedCrate). noticed_as first report one.own.texts ∷ rest) (noticed_next crates krate reports own)

@@ -1,5 +1,5 @@
 -- The own reads of crates, one crate after another.
-use Rattle.std.proofs.Common.{◌≡◌, ◌∙◌, inl, inr, ℕ, List, [], ◌∷◌, ◌++◌, map, Option, refl, sym, ap, subst, append-nil, append_assoc}
+use Rattle.std.proofs.Common.{◌≡◌, ◌∙◌, inl, inr, ℕ, List, [], ◌∷◌, ◌++◌, map, Option, refl, sym, ap, subst, append-nil, append_assoc, drop, take, take-append-drop}
 use Rattle.std.specs.List.{All}
 use Rattle.std.proofs.lemmas.List.{map-append}
 use Rattle.std.proofs.lemmas.List.Elements.{All-nil, All-push}
@@ -17,7 +17,8 @@ use Rattle.gather_license.specs.Priority.{folder_of}
 use Rattle.gather_core.specs.Calls.{ReadsOfCrate, calls_of_all, reads_of_all}
 use Rattle.gather_core.proofs.TurnCalls.{are_then, calls_push, reads_push}
 use Rattle.run_found.specs.Hearing.{MadeOn, tree_seen}
-use Rattle.run_notice.specs.Own.{AreOwnReads, HaveOwnTexts, IsOwnBegun, IsOwnCut, ReadsOwnTexts, crates_in, own_of}
+use Rattle.run_notice.specs.declared.own.CrateTexts.{CrateTexts}
+use Rattle.run_notice.specs.Own.{AreOwnReads, HaveOwnTexts, IsOwnBegun, IsOwnCut, ReadsOwnTexts, crates_in, own_heard, own_of}
 
 pub have_none : (told : Option Content) (count : ℕ) (calls : List Call) → HaveOwnTexts [] (tree_seen told told count count calls calls) []
 have_none told count calls = record {
@@ -27,10 +28,10 @@ have_none told count calls = record {
   texts_are = refl;
 }
 
-module _ {told mid tells : Option Content} {before middle after : ℕ} {old between new : List Call} (crates : List CrateRecord) (krate : CrateRecord) (texts : List OwnTexts)
+module _ {told mid tells : Option Content} {before middle after : ℕ} {old between new : List Call} (crates : List CrateRecord) (krate : CrateRecord) (texts : List CrateTexts)
     (first : HaveOwnTexts crates (tree_seen told mid before middle old between) texts) where
   -- one crate more
-  pub have_more : (own : OwnTexts) → HasOwnTexts mid tells middle after between new krate own → HaveOwnTexts (crates ++ krate ∷ []) (tree_seen told tells before after old new) (texts ++ own ∷ [])
+  pub have_more : (own : OwnTexts) → HasOwnTexts mid tells middle after between new krate own → HaveOwnTexts (crates ++ krate ∷ []) (tree_seen told tells before after old new) (texts ++ record { id = krate.id; own = own } ∷ [])
   have_more own has =
       let one : ReadsOfCrate = record { krate = krate; reads = has.reads } in
       record {
@@ -42,14 +43,14 @@ module _ {told mid tells : Option Content} {before middle after : ℕ} {old betw
           records = subst (AreReads before) (sym (reads_push first.own one)) (are_then first.own has.reads first.made first.are.records has.made.are);
         };
         texts_are =
-            ap (λ (those : List OwnTexts). those ++ own ∷ []) first.texts_are
-            ∙ ap (λ (mine : OwnTexts). map own_of first.own ++ mine ∷ []) (same_own own has)
+            ap (λ (those : List CrateTexts). those ++ record { id = krate.id; own = own } ∷ []) first.texts_are
+            ∙ ap (λ (mine : OwnTexts). map own_of first.own ++ record { id = krate.id; own = mine } ∷ []) (same_own own has)
             ∙ sym (map-append own_of first.own (one ∷ []));
       }
     where
-      same_own : (own : OwnTexts) (has : HasOwnTexts mid tells middle after between new krate own) → own ≡ own_of (record { krate = krate; reads = has.reads })
+      same_own : (own : OwnTexts) (has : HasOwnTexts mid tells middle after between new krate own) → own ≡ (own_of (record { krate = krate; reads = has.reads })).own
       same_own own has =
-          ap (λ (texts : List OwnText). record { texts = texts; reads = own.reads }) has.texts ∙ ap (λ (reads : List ReadRecord). record { texts = (own_of (record { krate = krate; reads = has.reads })).texts; reads = reads }) (sym has.recorded_are)
+          ap (λ (texts : List OwnText). record { texts = texts; reads = own.reads }) has.texts ∙ ap (λ (reads : List ReadRecord). record { texts = own_heard (record { krate = krate; reads = has.reads }); reads = reads }) (sym has.recorded_are)
 
   -- memory was wanting in the reads of the next crate
   pub cut_next : (all : List CrateRecord) → IsFront (crates ++ krate ∷ []) all → StarvesAmong mid tells middle after between new (folder_of krate) (own_records_of krate)
@@ -75,7 +76,7 @@ module _ {told mid tells : Option Content} {before middle after : ℕ} {old betw
           (krate ∷ among.0, among.1 ∙ append_assoc crates (krate ∷ []) among.0 ∙ ap (λ (those : List CrateRecord). those ++ krate ∷ among.0) (sym first.are.crates_are))
 
 -- memory was wanting behind the reads of a crate
-pub cut_behind : {told tells : Option Content} {before after : ℕ} {old new : List Call} (crates all : List CrateRecord) (texts : List OwnTexts) → HaveOwnTexts crates (tree_seen told tells before after old new) texts
+pub cut_behind : {told tells : Option Content} {before after : ℕ} {old new : List Call} (crates all : List CrateRecord) (texts : List CrateTexts) → HaveOwnTexts crates (tree_seen told tells before after old new) texts
     → IsFront crates all → IsOwnCut all (tree_seen told tells before after old new)
 cut_behind {told} {tells} {before} {after} {old} {new} crates all texts has among = record {
   own = has.own;
@@ -85,3 +86,7 @@ cut_behind {told} {tells} {before} {after} {old} {new} crates all texts has amon
   among = subst (λ (those : List CrateRecord). IsFront those all) (sym has.are.crates_are) among;
   ends = inl refl;
 }
+
+-- the first ones of a list
+pub front_so_far : {A B : Type 0} (f : A → B) (xs : List A) (place : ℕ) → IsFront (map f (take place xs)) (map f xs)
+front_so_far f xs place = (map f (drop place xs), ap (map f) (sym (take-append-drop place xs)) ∙ map-append f (take place xs) (drop place xs))

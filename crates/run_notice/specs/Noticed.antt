@@ -26,7 +26,7 @@ use Rattle.run_check.specs.declared.report.Report.{Report}
 use Rattle.run_check.specs.Reads.{reads_told}
 use Rattle.run_check.specs.Report.{IsReport}
 use Rattle.run_notice.specs.declared.noticed.NoticedCrates.{NoticedCrates}
-use Rattle.run_notice.specs.Own.{AreOwnReads, IsOwnBegun, ReadsOwnTexts, crates_in, own_heard, own_of, own_reads_told}
+use Rattle.run_notice.specs.Own.{AreOwnReads, IsOwnBegun, ReadsOwnTexts, crates_in, own_heard, own_read_told}
 
 -- ---- what a notice is made of
 
@@ -76,7 +76,7 @@ pub record TellsNotice (text_of : List ℕ → Option (List ℕ)) (given : Comma
   pub is : IsAccepted given hearing report
   pub notice : IsNotice (sources_of text_of given report) (noticed_heard own report.crates) noticed.notice
   pub reads : noticed.reads ≡ reads_told report.crates
-  pub own_reads : noticed.own ≡ own_reads_told (crates_in own) (map own_of own)
+  pub own_reads : noticed.own ≡ map own_read_told own
 
 -- By that report this is the first crate with a term for which there is no text, and the key of its first such term.
 pub record TellsMissing (text_of : List ℕ → Option (List ℕ)) (given : CommandArguments) (id key : List ℕ)
@@ -86,7 +86,7 @@ pub record TellsMissing (text_of : List ℕ → Option (List ℕ)) (given : Comm
   pub missing : first_missing (sources_of text_of given report) (noticed_heard own report.crates)
       ≡ Some (record { id = id; key = key })
   pub reads_are : reads ≡ reads_told report.crates
-  pub own_reads_are : own_reads ≡ own_reads_told (crates_in own) (map own_of own)
+  pub own_reads_are : own_reads ≡ map own_read_told own
 
 -- What was read asks for a report of a check, and this is the id of the first crate that is rejected or has no licence.
 pub record TellsUnaccepted (given : CommandArguments) (id : List ℕ) (reads : List CrateRead)

@@ -6,7 +6,6 @@ use Rattle.tree_core.specs.declared.reads.ReadRecord.{ReadRecord}
 use Rattle.tree_core.specs.file_reads.Read.{AnsweredRead, AreReads, call_lost, calls_in, records_of_reads}
 use Rattle.graph_core.specs.Krate.{CrateRecord}
 use Rattle.gather_license.specs.declared.texts.OwnText.{OwnText}
-use Rattle.gather_license.specs.declared.texts.OwnTexts.{OwnTexts}
 use Rattle.gather_license.specs.files.Calls.{IsFront}
 use Rattle.gather_license.specs.files.KnownReads.{known_reads_by}
 use Rattle.gather_license.specs.OwnTexts.{own_records_of, own_texts_of}
@@ -14,6 +13,7 @@ use Rattle.gather_license.specs.Priority.{folder_of}
 use Rattle.gather_core.specs.Calls.{ReadsOfCrate, calls_of_all, reads_of_all}
 use Rattle.run_found.specs.declared.reads.CrateRead.{CrateRead}
 use Rattle.run_found.specs.Hearing.{MadeOn, TreeSeen}
+use Rattle.run_notice.specs.declared.own.CrateTexts.{CrateTexts}
 
 -- ---- one crate
 
@@ -25,22 +25,21 @@ own_heard one = own_texts_of one.krate (known_reads_by one.reads)
 abbrev pub ReadsOwnTexts : ReadsOfCrate → Type 0
 ReadsOwnTexts one = records_of_reads one.reads ≡ own_records_of one.krate (known_reads_by one.reads)
 
-abbrev pub own_of : ReadsOfCrate → OwnTexts
-own_of one = record { texts = own_heard one; reads = records_of_reads one.reads }
+abbrev pub own_of : ReadsOfCrate → CrateTexts
+own_of one =
+    record { id = one.krate.id; own = record { texts = own_heard one; reads = records_of_reads one.reads } }
 
 -- ---- crates
 
 abbrev pub crates_in : List ReadsOfCrate → List CrateRecord
 crates_in own = map (λ (one : ReadsOfCrate). one.krate) own
 
--- a crate's id, and the reads for its texts
-abbrev pub own_read_told : CrateRecord → OwnTexts → CrateRead
-own_read_told krate own = record { id = krate.id; reads = own.reads }
+-- a crate's id, and the records of the reads for its texts
+abbrev pub own_read_told : ReadsOfCrate → CrateRead
+own_read_told one = record { id = one.krate.id; reads = records_of_reads one.reads }
 
-abbrev pub own_reads_told : List CrateRecord → List OwnTexts → List CrateRead
-own_reads_told [] own = []
-own_reads_told (krate ∷ crates) [] = []
-own_reads_told (krate ∷ crates) (one ∷ own) = own_read_told krate one ∷ own_reads_told crates own
+abbrev pub read_kept : CrateTexts → CrateRead
+read_kept texts = record { id = texts.id; reads = texts.own.reads }
 
 -- These crates have their own reads, each just those that its texts ask for, and the records tell what the answers say,
 -- from a count of faults on.
@@ -53,7 +52,7 @@ pub record AreOwnReads (crates : List CrateRecord) (begun : ℕ) (own : List Rea
 
 -- The texts that crates come with are those that the answers to their own reads tell: the calls of these were made, one
 -- crate after another, and no other.
-pub record HaveOwnTexts (crates : List CrateRecord) (tree : TreeSeen) (texts : List OwnTexts) : Type 0 where
+pub record HaveOwnTexts (crates : List CrateRecord) (tree : TreeSeen) (texts : List CrateTexts) : Type 0 where
   pub own : List ReadsOfCrate
   pub made : MadeOn tree (calls_of_all own)
   pub are : AreOwnReads crates tree.count_before own

@@ -1,7 +1,6 @@
 -- What the steps of a run for a notice answer. Only the contracts of private calls cite it.
 use Rattle.std.specs.Prelude.{◌≡◌, ◌⊎◌, ℕ, List, [], ◌∷◌, map, Option, Some, None, Result, Ok, Err}
 use Rattle.graph_core.specs.Krate.{CrateRecord}
-use Rattle.gather_license.specs.declared.texts.OwnTexts.{OwnTexts}
 use Rattle.gather_core.specs.Calls.{ReadsOfCrate, calls_of_all}
 use Rattle.check_core.specs.declared.report.CrateReport.{CrateReport}
 use Rattle.check_notice.specs.Notice.{AnswersNotice, IsNotice, NoticedCrate, first_missing, noticed_as}
@@ -16,24 +15,25 @@ use Rattle.run_check.specs.Judged.{crates_judged}
 use Rattle.run_check.specs.Reads.{reads_told}
 use Rattle.run_notice.specs.declared.making.MadeNotice.{MadeNotice}
 use Rattle.run_notice.specs.declared.noticed.NoticedCrates.{NoticedCrates}
+use Rattle.run_notice.specs.declared.own.CrateTexts.{CrateTexts}
 use Rattle.run_notice.specs.Noticed.{noticed_heard, sources_by, unaccepted_id}
-use Rattle.run_notice.specs.Own.{AreOwnReads, IsOwnCut, crates_in, own_of, own_reads_told}
+use Rattle.run_notice.specs.Own.{AreOwnReads, IsOwnCut, own_read_told}
 
 -- ---- the notice of the crates that were judged
 
 -- crates, each with the report on it and the texts that it comes with
-abbrev pub noticed_by : List CrateRecord → List CrateReport → List OwnTexts → List NoticedCrate
+abbrev pub noticed_by : List CrateRecord → List CrateReport → List CrateTexts → List NoticedCrate
 noticed_by [] reports own = []
 noticed_by (krate ∷ crates) [] own = []
 noticed_by (krate ∷ crates) (report ∷ reports) [] = []
 noticed_by (krate ∷ crates) (report ∷ reports) (one ∷ own) =
-    noticed_as krate report one.texts ∷ noticed_by crates reports own
+    noticed_as krate report one.own.texts ∷ noticed_by crates reports own
 
 -- a crate, where there is a report on it, with the texts that it comes with
-abbrev pub source_at : CrateRecord → Option CrateReport → Option OwnTexts → List NoticedCrate
+abbrev pub source_at : CrateRecord → Option CrateReport → Option CrateTexts → List NoticedCrate
 source_at krate None own = []
 source_at krate (Some report) None = []
-source_at krate (Some report) (Some own) = noticed_as krate report own.texts ∷ []
+source_at krate (Some report) (Some own) = noticed_as krate report own.own.texts ∷ []
 
 abbrev pub judged_sources : TextsGiven → JudgedCrates → TextSources
 judged_sources texts judged = sources_by texts judged.report.policy.confidence_threshold
@@ -50,7 +50,7 @@ pub record MakesAll (texts : TextsGiven) (judged : JudgedCrates) (noticed : Noti
   pub accepted : unaccepted_id judged.report.crates ≡ None
   pub notice : IsNotice (judged_sources texts judged) (noticed_heard own judged.report.crates) noticed.notice
   pub reads : noticed.reads ≡ reads_told judged.report.crates
-  pub own_reads : noticed.own ≡ own_reads_told (crates_in own) (map own_of own)
+  pub own_reads : noticed.own ≡ map own_read_told own
 
 pub record LacksText (texts : TextsGiven) (judged : JudgedCrates) (id key : List ℕ) (reads own_reads : List CrateRead)
     (own : List ReadsOfCrate) : Type 0 where
@@ -58,13 +58,13 @@ pub record LacksText (texts : TextsGiven) (judged : JudgedCrates) (id key : List
   pub missing : first_missing (judged_sources texts judged) (noticed_heard own judged.report.crates)
       ≡ Some (record { id = id; key = key })
   pub reads_are : reads ≡ reads_told judged.report.crates
-  pub own_reads_are : own_reads ≡ own_reads_told (crates_in own) (map own_of own)
+  pub own_reads_are : own_reads ≡ map own_read_told own
 
 -- the notice of the crates by the texts that they come with, or why there is none; and the records of the reads
 pub record IsMade (texts : TextsGiven) (judged : JudgedCrates) (made : MadeNotice) (own : List ReadsOfCrate)
     : Type 0 where
   pub answers : AnswersNotice (judged_sources texts judged) (noticed_heard own judged.report.crates) made.made
-  pub own_reads : made.own ≡ own_reads_told (crates_in own) (map own_of own)
+  pub own_reads : made.own ≡ map own_read_told own
 
 -- memory was wanting before a crate's own read, or among these
 abbrev pub LacksOwn : JudgedCrates → TreeSeen → Type 0

@@ -12,12 +12,11 @@ ghost use Rattle.run_notice.specs.Noticed.{sources_by, unaccepted_id};
 ghost use Rattle.run_notice.specs.Steps.{IsMade, LacksOwn, MakesNotice, MakesOwn, RefusesUnaccepted, noticed_by, source_at};
 
 use crate::noticed::NoticedCrates;
-use crate::own::{own_of_crates, reads_of_own};
+use crate::own::{CrateTexts, own_of_crates, reads_of_own};
 use check_core::CrateReport;
 use check_notice::{Notice, NoticeError, NoticeSource, TextFinder, first_unaccepted, notice_of};
 use deny_text::{ListOf, Text};
 use gather_core::cut_threshold;
-use gather_license::OwnTexts;
 use graph_core::Krate;
 use run_check::{JudgedCrates, Report, reads_of_reports};
 use run_found::{CrateReads, Error};
@@ -33,13 +32,16 @@ fn push_source<'s>(
     sources: &mut NoticeSources<'s>,
     krate: &'s Krate,
     report: Option<&'s CrateReport>,
-    own: Option<&'s OwnTexts>,
+    own: Option<&'s CrateTexts>,
 ) -> Result<(), AllocError>
     ensures { OnOk result (map noticed_of sources.new ≡ map noticed_of sources.old
         ++ source_at (record_of krate.now) (option_copied report.entry) (option_copied own.entry)) }
 {
     match (report, own) {
-        (Some(report), Some(own)) => sources.push(NoticeSource { krate, report, own }),
+        (Some(report), Some(texts)) => {
+            let own = &texts.own;
+            sources.push(NoticeSource { krate, report, own })
+        }
         _ => Ok(()),
     }
 }
@@ -49,7 +51,7 @@ fn sources<'s>(
     alloc: Global,
     krates: &[&'s Krate],
     reports: &'s [CrateReport],
-    own: &'s [OwnTexts],
+    own: &'s [CrateTexts],
 ) -> Result<NoticeSources<'s>, AllocError>
     ensures { IfOk result (λ sources. map noticed_of sources
         ≡ noticed_by (map record_behind krates.now) reports.now own.now) }
@@ -66,7 +68,7 @@ fn notice_by<I: Identifier + TextLookup>(
     alloc: Global,
     krates: &[&Krate],
     reports: &[CrateReport],
-    own: &[OwnTexts],
+    own: &[CrateTexts],
     identifier: &I,
     threshold: i64,
 ) -> Result<Notice, NoticeError>
@@ -136,7 +138,7 @@ fn made_of<T: Tree, I: Identifier + TextLookup>(
     let reports = judged.report.crates.items();
     let threshold = judged.report.policy.confidence_threshold;
     let made = notice_by(alloc, listed, reports, own.items(), identifier, threshold);
-    let reads = reads_of_own(alloc, listed, own)?;
+    let reads = reads_of_own(alloc, own)?;
     Ok(MadeNotice { made, own: reads })
 }
 
