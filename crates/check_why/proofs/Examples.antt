@@ -1,6 +1,5 @@
 -- Computed examples: each row holds as it is there.
 use Rattle.std.proofs.Common.{◌≡◌, ℕ, List, [], ◌∷◌, ◌++◌, codes, Some, None, refl}
-
 use Rattle.tree_core.specs.declared.reads.ReadKind.TheVariants.{Manifest, Listing}
 use Rattle.tree_core.specs.file_reads.Heard.{absent, not_utf8, wrong_kind}
 use Rattle.check_why.specs.declared.answer.Asking.TheVariants.{Clarification, Exception}

@@ -115,11 +115,7 @@ fn put_where(places: &mut TermPlaces, place: usize, wanted: bool) -> Result<(), 
 }
 
 /// Of a choice the places of the terms that have no hit.
-fn failing(
-    alloc: Global,
-    hits: &[Option<Hit>],
-    choice: &[usize],
-) -> Result<TermPlaces, AllocError>
+fn failing(alloc: Global, hits: &[Option<Hit>], choice: &[usize]) -> Result<TermPlaces, AllocError>
     ensures { IfOk result (λ places. places ≡ failing hits.now choice.now) }
 {
     let mut places = TermPlaces::new(alloc);

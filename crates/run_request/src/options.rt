@@ -445,7 +445,7 @@ static SUBCOMMANDS: [SubcommandRow; 8] = [
             None,
             "CRATE",
             OptionValues::Any,
-            "The crates that are told, checked or not, each as name, name@version or name:version"
+            "The crates to report, checked or not, each as name, name@version or name:version"
         )],
     },
     SubcommandRow {

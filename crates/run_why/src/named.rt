@@ -79,11 +79,7 @@ fn mark(marks: &mut Vec<bool>, specs: &ExcludeSpecs, crates: &[Krate])
 }
 
 /// Of each crate, whether some word names it.
-pub fn named_marks(
-    alloc: Global,
-    words: &[Text],
-    crates: &[Krate],
-) -> Result<Vec<bool>, AllocError>
+pub fn named_marks(alloc: Global, words: &[Text], crates: &[Krate]) -> Result<Vec<bool>, AllocError>
     ensures { IfOk result (λ marks. marks.items ≡ map (spec.is_named words.now) (map record_of crates.now)) }
 {
     let mut marks = Vec::from_elem(alloc, false, crates.len())?;
