@@ -1,4 +1,4 @@
--- From what was told crate after crate to the notice.
+-- From what was listed crate after crate to the notice.
 use Rattle.std.proofs.Common.{◌≡◌, ◌∙◌, List, [], Option, Some, None, Result, Ok, Err, refl, sym, ap}
 use Rattle.check_notice.specs.declared.notice.Notice.{Notice}
 use Rattle.check_notice.specs.declared.notice.NoticeProgress.{NoticeProgress}
@@ -10,7 +10,7 @@ use Rattle.check_notice.proofs.StepLemmas.{all_told, none_told, progress_with}
 abbrev notice_in : NoticeProgress → Notice
 notice_in progress = record { crates = progress.crates; texts = progress.numbers }
 
--- all crates were told
+-- all crates were listed
 pub notice_told : (by : TextSources) (crates : List NoticedCrate) (progress : NoticeProgress) → all_told_by by nothing_told crates ≡ Ok progress
     → IsNotice by crates (record { crates = progress.crates; texts = progress.numbers })
 notice_told by crates progress is = step (first_missing by crates) refl

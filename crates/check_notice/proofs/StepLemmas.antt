@@ -63,7 +63,7 @@ module _ (by : TextSources) (own : List OwnText) where
           ∙ ap Ok (one_cited texts keys (cite_as req text) (cites_in by own reqs))
           ∙ sym (ap (λ (found : Option (List ℕ)). Ok (with_cites texts keys (cons_option (option_map (cite_as req) found) (cites_in by own reqs)))) is)
 
-  -- the first that has none is told
+  -- the first that has none is named
   pub none_cited : (texts : List (List ℕ)) (keys : List KeyNumber) (reqs : List LicenseReq) (first : LicenseReq) → find (lacks by own) reqs ≡ Some first
       → cites_by by own (record { numbers = texts; keys = keys }) reqs ≡ Err (key_of first)
   none_cited texts keys [] first lacking = absurd (cc)
@@ -100,7 +100,7 @@ progress_with by texts told accepted = record {
   crates = told ++ map (told_of by (fold with_text texts (uses_of by accepted))) accepted;
 }
 
--- one crate more, behind those that are told
+-- one crate more, behind those that are listed
 one_told : (by : TextSources) (texts : List (List ℕ)) (told : List NoticeCrate) (one : NoticedCrate) (accepted : List NoticedCrate) (now : Cited)
     → now ≡ with_cites texts [] (cites_of by one)
     → progress_with by now.numbers (told ++ told_as one.krate now.keys ∷ []) accepted ≡ progress_with by texts told (one ∷ accepted)
@@ -153,7 +153,7 @@ module _ (by : TextSources) where
       step true is rest = ap goes is ∙ cited (find (lacks by one.own) (used_terms one)) refl rest ∙ sym (ap ends is)
       step false is rest = ap goes is ∙ rest texts told (sym (passed_whole one crates is) ∙ whole) ∙ sym (ap ends is)
 
-  -- the first one that is missing is told
+  -- the first one that is missing is named
   pub none_told : (texts : List (List ℕ)) (told : List NoticeCrate) (crates : List NoticedCrate) (first : MissingText) → first_missing by crates ≡ Some first
       → all_told_by by (record { numbers = texts; crates = told }) crates ≡ Err first
   none_told texts told [] first missing = absurd (cc)

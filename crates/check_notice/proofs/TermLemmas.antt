@@ -9,7 +9,7 @@ use Rattle.spdx_terms.specs.declared.term.LicenseReq.{LicenseReq}
 use Rattle.check_notice.specs.Notice.{term_at}
 use Rattle.check_notice.specs.Steps.{lent_term}
 
--- what one place adds behind the terms so far stands in front of those of the rest
+-- what one place adds behind the terms so far is before those of the rest
 pub one_more_term : (front rest : List LicenseReq) (found : Option LicenseReq) → front ++ option_to_list found ++ rest ≡ front ++ cons_option found rest
 one_more_term front rest None = ap (λ all. all ++ rest) (append-nil front)
 one_more_term front rest (Some term) = append_assoc front (option_to_list (Some term)) rest

@@ -23,7 +23,7 @@ pub record CitesTerm (by : TextSources) (own : List OwnText) (texts : List (List
   pub is : text_for by own req ≡ Some text
   pub leads : LeadsTo texts key.number text
 
--- a crate is told with each term that it is used under, in the same order
+-- a crate is listed with each term that it is used under, in the same order
 pub record TellsCrate (by : TextSources) (texts : List (List ℕ)) (one : NoticedCrate) (told : NoticeCrate)
     : Type 0 where
   pub id : told.id ≡ one.krate.id
@@ -38,7 +38,7 @@ AreDistinct texts =
 abbrev pub IsCited : List NoticeCrate → ℕ → Type 0
 IsCited crates number = Any (λ told. Any (λ key. key.number ≡ number) told.keys) crates
 
--- Each accepted crate is told, and no other, in the same order; no text is there twice, and each is cited.
+-- Each accepted crate is listed, and no other, in the same order; no text is there twice, and each is cited.
 pub record LeadsToTexts (by : TextSources) (crates : List NoticedCrate) (notice : Notice) : Type 0 where
   pub told : AllZip (TellsCrate by notice.texts) (accepted_in crates) notice.crates
   pub distinct : AreDistinct notice.texts

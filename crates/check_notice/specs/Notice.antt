@@ -55,7 +55,7 @@ is_unaccepted (Rejected least blocks) = true
 abbrev pub is_against : CrateReport → Bool
 is_against report = is_unaccepted report.verdict
 
--- the first crate that stands against a notice
+-- the first crate that rules out a notice
 abbrev pub first_unaccepted : List NoticedCrate → Option NoticedCrate
 first_unaccepted crates = find (λ (one : NoticedCrate). is_unaccepted one.verdict) crates
 

@@ -28,12 +28,12 @@ finder_sources match_of text_of finder = record {
 
 -- ---- texts that a crate comes with
 
--- the licence that is told, at a score of 50 at least, and of the threshold
+-- the licence that is identified, at a score of 50 at least, and of the threshold
 abbrev pub sure_name : ℕ → Match → Option (List ℕ)
 sure_name threshold found =
     if nat_le 50 found.score then (if nat_le threshold found.score then found.name else None) else None
 
--- the licence of a text, where one is told
+-- the licence of a text, where one is identified
 abbrev pub name_of : TextSources → OwnText → Option (List ℕ)
 name_of by own = sure_name by.threshold (by.match_of own.text)
 

@@ -12,10 +12,10 @@ use spdx_terms::catalog::{Identifier, Match, TextLookup};
 use spdx_terms::{LicenseItem, LicenseReq};
 use std::alloc::{AllocError, Global};
 
-/// The licences of texts, place by place, where one is told.
+/// The licences of texts, place by place, where one is identified.
 pub(crate) type TextNames = ListOf<Option<Text>>;
 
-/// The licence that is told of a text, where its score is enough.
+/// The licence that a text is identified as, where its score is enough.
 fn sure_name(found: Match, threshold: u8) -> Option<Text>
     ensures { result ≡ spec.sure_name threshold found }
 {
@@ -28,7 +28,7 @@ fn sure_name(found: Match, threshold: u8) -> Option<Text>
     found.name
 }
 
-/// The licence of each text, where one is told.
+/// The licence of each text, where one is identified.
 pub(crate) fn names_of<I: Identifier + TextLookup>(
     alloc: Global,
     own: &[OwnText],
@@ -45,7 +45,7 @@ pub(crate) fn names_of<I: Identifier + TextLookup>(
     Ok(names)
 }
 
-/// Whether a licence is told, and is this one.
+/// Whether a licence is identified, and is this one.
 fn is_named(told: &Option<Text>, name: &str) -> bool
     ensures { result ≡ is_named name.now told.now }
 {

@@ -66,7 +66,7 @@ impl From<AllocError> for NoticeError {
     }
 }
 
-/// The crates that are told so far, and their texts.
+/// The crates that are listed so far, and their texts.
 #[derive(Drop)]
 pub(crate) struct NoticeProgress {
     pub(crate) numbers: TextNumbers,
@@ -121,7 +121,7 @@ fn told_crate(alloc: Global, krate: &Krate, keys: KeyNumbers) -> Result<NoticeCr
     Ok(NoticeCrate { id, name, keys })
 }
 
-/// What is told, with an accepted crate.
+/// What is listed, with an accepted crate.
 fn with_crate<I: Identifier + TextLookup>(
     alloc: Global,
     source: &NoticeSource<'_>,
@@ -162,7 +162,7 @@ fn is_accepted(verdict: &Verdict) -> bool
     }
 }
 
-/// What is told, with a crate, where that is accepted.
+/// What is listed, with a crate, where that is accepted.
 fn with_source<I: Identifier + TextLookup>(
     alloc: Global,
     source: &NoticeSource<'_>,
@@ -178,7 +178,7 @@ fn with_source<I: Identifier + TextLookup>(
     Ok(progress)
 }
 
-/// What is told of crates, in order.
+/// What is listed of crates, in order.
 fn progress_of<I: Identifier + TextLookup>(
     alloc: Global,
     sources: &[NoticeSource<'_>],
@@ -197,9 +197,9 @@ fn progress_of<I: Identifier + TextLookup>(
     Ok(progress)
 }
 
-/// The notice of crates, in order: each that is accepted is told with the terms of its choice, each term with the
-/// number of its text. The text is the first of those that the crate comes with that is told to be this licence; else
-/// the one that is kept under the term's key. It is refused where a term has none.
+/// The notice of crates, in order: each that is accepted is listed with the terms of its choice, each term with the
+/// number of its text. The text is the first one that comes with the crate and is identified as this licence; else the
+/// one that is kept under the term's key. It is refused where a term has none.
 #[tactic(auto, using(crate::proofs::NoticeLemmas::notice_told, crate::proofs::NoticeLemmas::notice_missing))]
 pub fn notice_of<I: Identifier + TextLookup>(
     alloc: Global,

@@ -61,7 +61,7 @@ pub fn notice_head(alloc: Global, notice: &Notice) -> Result<String, AllocError>
     Ok(text)
 }
 
-/// What is in front of the text of a number.
+/// What is before the text of a number.
 pub fn text_head(alloc: Global, number: usize) -> Result<String, AllocError>
     ensures { IfOk result (λ text. string_bytes text ≡ spec.text_head number) }
 {

@@ -1,5 +1,6 @@
 pub mod BlockLemmas
 pub mod CodeLemmas
+pub mod FeedLemmas
 pub mod FileLemmas
 pub mod ListLemmas
 pub mod OrderLemmas

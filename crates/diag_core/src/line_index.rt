@@ -8,6 +8,7 @@ ghost use Rattle.diag_core.specs.Lines.{FoundLine};
 use crate::characters::{characters_before, count_blocks};
 use crate::position::{FilesErr, Location};
 use deny_text::Span;
+use memchr::memchr_iter;
 use std::alloc::{AllocError, Global};
 
 /// Where the lines of a text start, and how many characters are before each block of it.
@@ -23,10 +24,9 @@ fn line_starts(alloc: Global, text: &str) -> Result<Vec<usize>, AllocError>
 {
     let mut starts = Vec::new(alloc);
     starts.push(0)?;
-    'bytes: for (place, byte) in text.as_bytes().iter().enumerate() {
-        if *byte == b'\n' {
-            starts.push(place + 1)?;
-        }
+    let mut feeds = memchr_iter(b'\n', text.as_bytes());
+    'feeds: while let Some(feed) = feeds.next() {
+        starts.push(feed + 1)?;
     }
     Ok(starts)
 }

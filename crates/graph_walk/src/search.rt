@@ -52,6 +52,13 @@ impl Search {
         self.found.len()
     }
 
+    /// Among how many crates of the metadata it searches.
+    pub(crate) fn count(&self) -> usize
+        ensures { result ≡ length self.now.best }
+    {
+        self.index.len()
+    }
+
     /// One of those that were found; what needs it was found before.
     pub(crate) fn found_at(&self, at: usize) -> Found
         requires { at < length self.now.order }

@@ -180,6 +180,13 @@ fn walk_from(alloc: Global, search: &Search, at: usize) -> Result<Vec<usize>, Al
 }
 
 impl ShortestWalks {
+    /// How many crates there are, those included to which no walk leads.
+    pub fn len(&self) -> usize
+        ensures { result ≡ length self.now }
+    {
+        self.search.count()
+    }
+
     /// Whether a walk leads to the crate at a place.
     pub fn leads_to(&self, place: usize) -> bool
         requires { place < length self.now }

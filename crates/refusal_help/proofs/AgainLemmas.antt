@@ -1,5 +1,5 @@
 -- Which calls were made, from what each step tells of its own.
-use Rattle.std.proofs.Common.{◌≡◌, ◌∙◌, ap, sym, subst, ℕ, List, [], ◌∷◌, ◌++◌, Option, Some, None, Result, Ok, Err, IfOk, OnErr, Bool, true, false, refl}
+use Rattle.std.proofs.Common.{◌≡◌, ◌∙◌, ap, ℕ, List, [], ◌∷◌, ◌++◌, None, Result, Ok, Err, IfOk, OnErr, Bool, true, false, refl}
 use Rattle.tree_core.specs.Call as call
 use Rattle.tree_core.specs.Call.{Call, CallAnswer}
 use Rattle.tree_core.specs.texts.Heard.{IsTextRead, read_of}
@@ -7,7 +7,7 @@ use Rattle.tree_core.specs.declared.texts.fault.ReadFault.{ReadFault}
 use Rattle.tree_core.specs.declared.texts.search.SearchError.{SearchError}
 use Rattle.run_context.specs.Paths.{ConfigPathUntil, IsConfigPath}
 use Rattle.run_request.specs.declared.context.KrateContext.{KrateContext}
-use Rattle.refusal_help.specs.Again.{AsksAgain, AsksForText, AsksWhere, SearchesAgain, file_there, given_up, read, searched}
+use Rattle.refusal_help.specs.Again.{AsksAgain, AsksForText, AsksWhere, file_there, given_up, read, searched}
 
 -- a read behind the look
 asks_read : (path : List ℕ) (old mid new : List Call) (answer : CallAnswer) → mid ≡ old ++ file_there path ∷ [] → new ≡ mid ++ read_of path answer ∷ [] → AsksForText path old new

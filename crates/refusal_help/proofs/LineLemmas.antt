@@ -10,7 +10,6 @@ use Rattle.diag_core.specs.declared.position.Location.{Location}
 use Rattle.diag_core.specs.declared.severity.Severity.{Severity}
 use Rattle.diag_print.specs.Human.{flat_byte, flat_text}
 use Rattle.graph_metadata.specs.declared.fault.MetaFault.{MetaFault}
-use Rattle.run_found.specs.declared.error.Error.{Error}
 use Rattle.run_found.specs.declared.error.Error.TheVariants.{Memory, NotCarried, ManifestPath, ManifestRead, CatalogRead, CatalogSyntax, StoreRead, ConfigRead, ConfigSyntax, ConfigShape, ConfigInvalid, OverrideTwice, MetadataRead, MetadataSyntax, MetadataShape, NoRoots, NoSuchCrate, NotAccepted, NoText, RecordRead, RecordSyntax, BillText, BillRead, BillSyntax, WriteFault}
 use Rattle.spdx_own_names.specs.declared.error.StoreFault.{StoreFault}
 use Rattle.toml_subset.specs.declared.error.SyntaxError.{SyntaxError}

@@ -1,29 +1,29 @@
 -- The notice of the crates that were judged.
-use Rattle.std.proofs.Common.{◌≡◌, ◌∙◌, ◌⊎◌, inl, inr, ℕ, true, false, cond, List, [], ◌∷◌, ◌++◌, find, length, map, slice_get, Option, Some, None, Result, Ok, Err, refl, sym, ap, subst, append-nil}
+use Rattle.std.proofs.Common.{◌≡◌, ◌∙◌, inl, inr, ℕ, ◌+◌, ◌<◌, ◌≤◌, take, get_or, true, false, cond, List, [], ◌∷◌, ◌++◌, find, length, map, slice_get, Option, Some, None, Err, refl, sym, ap, subst, append-nil}
+use Rattle.std.proofs.lemmas.List.{length-map, length-take-le, map-append, take_more}
+use Rattle.std.specs.Borrow.{Bor}
 use Rattle.std.specs.Option.{option_map}
 use Rattle.tree_core.proofs.MadeLemmas.{made_as}
 use Rattle.graph_core.specs.Krate.{CrateRecord}
-use Rattle.gather_license.specs.files.Calls.{IsFront}
+use Rattle.graph_core.specs.declared.krate.Krate.{Krate}
+use Rattle.graph_core.specs.selection.Listed.{record_behind}
 use Rattle.gather_core.specs.Calls.{ReadsOfCrate, calls_of_all}
 use Rattle.check_core.specs.declared.report.CrateReport.{CrateReport}
-use Rattle.check_notice.specs.declared.notice.NoticeError.TheVariants as notices
 use Rattle.check_notice.specs.Notice.{AnswersNotice, NoticedCrate, first_unaccepted, is_against, is_unaccepted, noticed_as}
 use Rattle.run_found.specs.declared.error.Error.{Error}
-use Rattle.run_found.specs.declared.error.Error.TheVariants.{Memory, NotAccepted, NoText}
+use Rattle.run_found.specs.declared.error.Error.TheVariants.{Memory, NotAccepted}
 use Rattle.run_found.specs.declared.reads.CrateRead.{CrateRead}
 use Rattle.run_found.specs.Hearing.{MadeOn, TreeSeen}
 use Rattle.run_found.specs.own_names.Given.{TextsGiven}
 use Rattle.run_check.specs.declared.judged.JudgedCrates.{JudgedCrates}
 use Rattle.run_check.specs.Judged.{crates_judged}
-use Rattle.run_check.specs.Reads.{reads_told}
 use Rattle.run_notice.specs.declared.making.MadeNotice.{MadeNotice}
-use Rattle.run_notice.specs.declared.noticed.NoticedCrates.{NoticedCrates}
 use Rattle.run_notice.specs.declared.own.CrateTexts.{CrateTexts}
 use Rattle.run_notice.specs.Noticed.{noticed_heard, unaccepted_id}
 use Rattle.run_notice.specs.Own.{AreOwnReads, HaveOwnTexts, crates_in, own_heard, own_of, own_read_told, read_kept}
 use Rattle.run_notice.specs.Steps.{IsMade, LacksOwn, MakesNotice, MakesOwn, RefusesUnaccepted, judged_sources, noticed_by, source_at}
 
--- by the texts that the answers tell, crates are noticed as they are heard
+-- by the texts that the answers give, crates are listed as they are read
 noticed_same : (own : List ReadsOfCrate) (reports : List CrateReport) → noticed_by (crates_in own) reports (map own_of own) ≡ noticed_heard own reports
 noticed_same [] reports = refl
 noticed_same (one ∷ own) [] = refl
@@ -112,3 +112,13 @@ noticed_next (first ∷ crates) krate (report ∷ reports) [] = no_own (slice_ge
     no_own None = refl
     no_own (Some report) = refl
 noticed_next (first ∷ crates) krate (report ∷ reports) (one ∷ own) = ap (λ (rest : List NoticedCrate). noticed_as first report one.own.texts ∷ rest) (noticed_next crates krate reports own)
+
+-- the crates of lent ones, the first so many
+pub lent_next : (krates : List (Bor Krate)) (place : ℕ) (krate : Bor Krate) → place < length krates → krate ≡ get_or krates place krate
+    → map record_behind (take (place + 1) krates) ≡ map record_behind (take place krates) ++ record_behind krate ∷ []
+lent_next krates place krate within at =
+    ap (map record_behind) (take_more krates place krate within ∙ ap (λ (one : Bor Krate). take place krates ++ one ∷ []) (sym at))
+    ∙ map-append record_behind (take place krates) (krate ∷ [])
+
+pub lent_count : (krates : List (Bor Krate)) (place : ℕ) → place ≤ length krates → place ≡ length (map record_behind (take place krates))
+lent_count krates place within = sym (length-map (take place krates) record_behind ∙ length-take-le place krates within)

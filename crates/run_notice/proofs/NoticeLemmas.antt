@@ -10,7 +10,7 @@ use Rattle.gather_core.specs.Calls.{ReadsOfCrate, calls_of_all}
 use Rattle.run_found.specs.declared.error.Error.{Error}
 use Rattle.run_found.specs.declared.error.Error.TheVariants.{Memory, NotAccepted, NoText}
 use Rattle.run_found.specs.Error.{cause_of}
-use Rattle.run_found.specs.Hearing.{MadeOn, TreeSeen, tree_seen}
+use Rattle.run_found.specs.Hearing.{MadeOn, TreeSeen, crates_heard, tree_seen}
 use Rattle.run_found.specs.own_names.Given.{TextsGiven, texts_given}
 use Rattle.run_found.specs.Written.{SinkSeen}
 use Rattle.run_command.specs.Found.{calls_of}
@@ -40,7 +40,7 @@ module _ (text_of : List ℕ → Option (List ℕ)) (given : CommandArguments) (
   behind = tree_seen middle tells mid after between more
 
   -- where no own text was read
-  hears_none : (IsSo : Type 0) → MadeOn behind [] → IsSo → HearsSo given whole err (λ hearing. IsReport given hearing judged.report × IsSo)
+  abbrev hears_none : (IsSo : Type 0) → MadeOn behind [] → IsSo → HearsSo given whole err (λ hearing. IsReport given hearing judged.report × IsSo)
   hears_none IsSo made is_so = record {
     hearing = judges.hearing;
     heard = record { begun = judges.heard.begun; made = made_as (append-nil (calls_of given judges.hearing)) (made_joined judges.heard.made made) };
@@ -49,14 +49,14 @@ module _ (text_of : List ℕ → Option (List ℕ)) (given : CommandArguments) (
   }
 
   -- where they were
-  hears_own : (IsSo : List ReadsOfCrate → Type 0) (makes : MakesOwn judged behind IsSo) → AreOwnReads (crates_judged judged) mid makes.own
+  abbrev hears_own : (IsSo : List ReadsOfCrate → Type 0) (makes : MakesOwn judged behind IsSo) → AreOwnReads (crates_judged judged) mid makes.own
       → HearsOwn given whole err (λ hearing own. IsReport given hearing judged.report × IsSo own)
   hears_own IsSo makes are = record {
     hearing = judges.hearing;
     own = makes.own;
     begun = judges.heard.begun;
     made = made_joined judges.heard.made makes.made;
-    are = subst (λ n. AreOwnReads _ n makes.own) judges.heard.made.counts (subst (λ (crates : List CrateRecord). AreOwnReads crates mid makes.own) judges.is_so.crates are);
+    are = subst (λ n. AreOwnReads (crates_heard judges.hearing) n makes.own) judges.heard.made.counts (subst (λ (crates : List CrateRecord). AreOwnReads crates mid makes.own) judges.is_so.crates are);
     written = judges.written;
     is_so = (judges.is_so.report, makes.is_so);
   }

@@ -1,6 +1,5 @@
 -- The own reads of crates, one crate after another.
 use Rattle.std.proofs.Common.{◌≡◌, ◌∙◌, inl, inr, ℕ, List, [], ◌∷◌, ◌++◌, map, Option, refl, sym, ap, subst, append-nil, append_assoc, drop, take, take-append-drop}
-use Rattle.std.specs.List.{All}
 use Rattle.std.proofs.lemmas.List.{map-append}
 use Rattle.std.proofs.lemmas.List.Elements.{All-nil, All-push}
 use Rattle.tree_core.specs.Call.{Call}
@@ -14,11 +13,11 @@ use Rattle.gather_license.specs.declared.texts.OwnTexts.{OwnTexts}
 use Rattle.gather_license.specs.files.Calls.{IsFront, StarvesAmong}
 use Rattle.gather_license.specs.OwnTexts.{HasOwnTexts, own_records_of}
 use Rattle.gather_license.specs.Priority.{folder_of}
-use Rattle.gather_core.specs.Calls.{ReadsOfCrate, calls_of_all, reads_of_all}
+use Rattle.gather_core.specs.Calls.{ReadsOfCrate, calls_of_all}
 use Rattle.gather_core.proofs.TurnCalls.{are_then, calls_push, reads_push}
-use Rattle.run_found.specs.Hearing.{MadeOn, tree_seen}
+use Rattle.run_found.specs.Hearing.{tree_seen}
 use Rattle.run_notice.specs.declared.own.CrateTexts.{CrateTexts}
-use Rattle.run_notice.specs.Own.{AreOwnReads, HaveOwnTexts, IsOwnBegun, IsOwnCut, ReadsOwnTexts, crates_in, own_heard, own_of}
+use Rattle.run_notice.specs.Own.{HaveOwnTexts, IsOwnCut, ReadsOwnTexts, crates_in, own_heard, own_of}
 
 pub have_none : (told : Option Content) (count : ℕ) (calls : List Call) → HaveOwnTexts [] (tree_seen told told count count calls calls) []
 have_none told count calls = record {

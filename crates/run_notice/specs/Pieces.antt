@@ -7,7 +7,7 @@ use Rattle.run_found.specs.Written.{IsSilent, SinkSeen}
 use Rattle.run_command.specs.Written.{IsWriteFault}
 use Rattle.run_notice.specs.declared.writing.TextPiece.{TextPiece}
 
--- a text behind what is in front of it
+-- a text behind what is before it
 abbrev pub piece_text : TextPiece → List ℕ
 piece_text piece = piece.head ++ piece.text.now
 

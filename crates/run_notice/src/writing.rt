@@ -13,7 +13,7 @@ use run_found::Error;
 use std::alloc::{AllocError, Global};
 use tree_core::{Sink, SinkFailed, write_all};
 
-/// A text of a notice, with what is in front of it.
+/// A text of a notice, with what is before it.
 #[derive(Drop)]
 pub(crate) struct TextPiece<'t> {
     pub(crate) head: Text,
@@ -23,7 +23,7 @@ pub(crate) struct TextPiece<'t> {
 /// Texts of a notice, in the order of their numbers.
 type TextPieces<'t> = ListOf<TextPiece<'t>>;
 
-/// Texts, each with what is in front of it.
+/// Texts, each with what is before it.
 fn pieces_of(alloc: Global, texts: &[Text]) -> Result<TextPieces<'_>, AllocError>
     ensures { IfOk result (λ pieces. flat_map piece_text pieces ≡ texts_from 1 texts.now) }
 {
@@ -36,7 +36,7 @@ fn pieces_of(alloc: Global, texts: &[Text]) -> Result<TextPieces<'_>, AllocError
     Ok(pieces)
 }
 
-/// Writes a text behind what is in front of it.
+/// Writes a text behind what is before it.
 #[tactic(auto, using(crate::proofs::WritingLemmas::gained_more))]
 fn write_piece<O: Sink>(out: &mut O, piece: &TextPiece<'_>) -> Result<(), SinkFailed>
     ensures ok { OnOk result (Gained (O.written out.old) (O.written out.new) (piece_text piece.now)) }
@@ -49,7 +49,7 @@ fn write_piece<O: Sink>(out: &mut O, piece: &TextPiece<'_>) -> Result<(), SinkFa
     Ok(())
 }
 
-/// Writes texts, each behind what is in front of it.
+/// Writes texts, each behind what is before it.
 fn write_pieces<O: Sink>(out: &mut O, pieces: &[TextPiece<'_>]) -> Result<(), SinkFailed>
     ensures ok { OnOk result
         (Gained (O.written out.old) (O.written out.new) (flat_map piece_text pieces.now)) }

@@ -200,6 +200,9 @@ fn put_walk(
     walks: &ShortestWalks,
     place: usize,
 ) {
+    if place >= walks.len() {
+        return out.put("no such place");
+    }
     match &walks.walk_to(alloc, place) {
         Ok(Some(places)) => {
             for place in places {

@@ -22,7 +22,7 @@ pub(crate) struct Workspace {
     pub(crate) fails: u64,
 }
 
-const COMMANDS: [&str; 8] = [
+const COMMANDS: [&str; 7] = [
     "check licenses",
     "check licenses",
     "-f json check licenses",
@@ -30,7 +30,6 @@ const COMMANDS: [&str; 8] = [
     "list",
     "record",
     "bill --name n --namespace x --created 2024-05-01T12:00:00Z",
-    "notice",
 ];
 
 const TEXTS: [&str; 3] = [

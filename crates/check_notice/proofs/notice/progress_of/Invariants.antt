@@ -1,4 +1,4 @@
--- all crates are told as the rest of them, behind what is told
+-- all crates are listed as the rest of them, behind what is listed
 use Rattle.std.proofs.Common.{◌≡◌, map, drop}
 use Rattle.check_notice.specs.Notice.{noticed_of}
 use Rattle.check_notice.specs.Sources.{finder_sources}

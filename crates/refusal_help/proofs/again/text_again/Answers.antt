@@ -1,5 +1,5 @@
 -- The calls of the two steps, one behind the other.
-use Rattle.std.proofs.Common.{◌≡◌, subst, Bool, Ok, List, [], ◌∷◌, ◌++◌}
+use Rattle.std.proofs.Common.{◌≡◌, subst, Bool, Ok, [], ◌∷◌, ◌++◌}
 use Rattle.tree_core.proofs.MadeLemmas.{file_made, some_joined, some_made}
 use Rattle.tree_core.specs.Trace.{file_call}
 use Rattle.refusal_help.specs.Again.{file_there, looked}

@@ -5,7 +5,7 @@ use Rattle.run_found.specs.Written.{sink_seen}
 use Rattle.run_command.specs.Carried.{plain_options}
 use Rattle.run_command.specs.Given.{command_arguments_of}
 use Rattle.run_command.proofs.CarriedLemmas.{plain_carried, plain_use}
-use Rattle.run_check.specs.Judged.{Judges, crates_judged}
+use Rattle.run_check.specs.Judged.{Judges}
 use Rattle.run_notice.proofs.NoticeLemmas.{found_by, notice_counts}
 use Rattle.run_notice.proofs.noticing.found_notice.Goals as goal
 

@@ -6,7 +6,6 @@ use Rattle.gather_license.proofs.files.CallLemmas.{on_err}
 use Rattle.gather_core.proofs.GatheredLemmas.{map_push}
 use Rattle.gather_core.proofs.TurnCalls.{front_next}
 use Rattle.run_found.specs.Hearing.{tree_seen}
-use Rattle.run_notice.specs.declared.own.CrateTexts.{CrateTexts}
 use Rattle.run_notice.specs.Own.{HaveOwnTexts}
 use Rattle.run_notice.proofs.OwnLemmas.{cut_behind, cut_next, front_so_far, have_more, have_none}
 use Rattle.run_notice.proofs.own.own_of_crates.Goals as goal
@@ -24,11 +23,11 @@ crates-preserved g c =
     let krates = c.args.krates.now in
     let item = c.krate-item.result in
     let so_far = map record_behind (take place krates) in
-    let tree = tree_seen (g.T.Tree.content c.args.tree.now) (g.T.Tree.content c.own_texts-own.new.tree) (g.T.Tree.fault_count c.args.tree.now) (g.T.Tree.fault_count c.own_texts-own.new.tree)
-    (g.T.Tree.trace c.args.tree.now) (g.T.Tree.trace c.own_texts-own.new.tree) in
+    let tree = tree_seen (g.T.Tree.content c.args.tree.now) (g.T.Tree.content c.own_texts.new.tree) (g.T.Tree.fault_count c.args.tree.now) (g.T.Tree.fault_count c.own_texts.new.tree)
+    (g.T.Tree.trace c.args.tree.now) (g.T.Tree.trace c.own_texts.new.tree) in
     let more : map record_behind (take (place + 1) krates) ≡ so_far ++ record_behind item ∷ [] =
     ap (map record_behind) (take_more krates place item c.crates-test.true ∙ ap (λ one. take place krates ++ one ∷ []) (sym c.krate-item.is)) ∙ map_push record_behind (take place krates) item in
-    let pushed = c.in_ok-push.ensures.ok ∙ ap (λ id. c.crates.texts ++ record { id = id; own = c.in_ok-own.own } ∷ []) c.in_ok-id.ensures in
+    let pushed = c.in_ok-push.ensures.ok ∙ ap (λ id. c.crates.texts ++ record { id = id; own = c.in_ok-own.own } ∷ []) (c.in_ok-id.ensures ∙ c.as_str.ensures) in
     subst (λ (crates : List CrateRecord). HaveOwnTexts crates tree c.push.new.self) (sym more)
     (subst (HaveOwnTexts (so_far ++ record_behind item ∷ []) tree) (sym pushed) (have_more so_far (record_behind item) c.crates.texts c.crates.invariant c.in_ok-own.own c.in_ok-own.ensures.own))
 
