@@ -10,7 +10,7 @@ use Rattle.check_why.specs.declared.answer.TermAnswer.{TermAnswer}
 use Rattle.check_why.specs.declared.answer.TermHit.TheVariants as hit
 use Rattle.check_why.specs.declared.answer.Unmatched.TheVariants as by
 use Rattle.check_why.specs.declared.answer.VerdictAnswer.TheVariants as verdict
-use Rattle.check_why.specs.Lines.{answer_lines, certificate_lines, each_once, needed_text, read_line, unchecked_lines, unmet_line}
+use Rattle.check_why.specs.Lines.{answer_lines, certificate_lines, needed_text, read_line, texts_at, unchecked_lines, unmet_line}
 use Rattle.check_why.specs.Object.{answer_object, unchecked_object}
 use Rattle.check_why.specs.Reads.{wrong_said}
 use Rattle.check_why.specs.Unmet.{unmatched_by}
@@ -77,8 +77,8 @@ equal_terms : certificate_lines
     (verdict.Accepted (0 ∷ 2 ∷ [])) ≡ codes "  rests on: MIT\n"
 equal_terms = refl
 
-first_spelling_first : each_once (codes "b" ∷ codes "a" ∷ codes "b" ∷ codes "c" ∷ []) ≡ codes "b" ∷ codes "a" ∷ codes "c" ∷ []
-first_spelling_first = refl
+in_the_order_of_places : texts_at terms_of_globe (2 ∷ 0 ∷ 2 ∷ 1 ∷ []) ≡ codes "GPL-2.0-only" ∷ codes "MIT" ∷ codes "Apache-2.0" ∷ []
+in_the_order_of_places = refl
 
 needed_by_two : needed_text (globe ∷ pages ∷ []) ≡ codes "globe 1.0.0 > pages 0.2.0"
 needed_by_two = refl

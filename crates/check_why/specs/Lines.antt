@@ -1,5 +1,5 @@
 -- What `why` prints for a person: a line with the crate, and then a line for each thing that is said of it.
-use Rattle.std.specs.Prelude.{ℕ, List, [], ◌∷◌, ◌++◌, map, fold, codes, decimal, slice_get, Option, Some, None}
+use Rattle.std.specs.Prelude.{ℕ, List, [], ◌∷◌, ◌++◌, fold, codes, decimal, slice_get, Option, Some, None}
 use Rattle.std.specs.Prelude.{if◌then◌else◌}
 use Rattle.std.specs.List.{flat_map}
 use Rattle.std.specs.Option.{option_map_or}
@@ -65,12 +65,15 @@ text_of_term terms place = option_map_or (λ (term : TermAnswer). term.text) (sl
 abbrev pub with_text : List (List ℕ) → List ℕ → List (List ℕ)
 with_text texts text = if has_text texts text then texts else texts ++ text ∷ []
 
-abbrev pub each_once : List (List ℕ) → List (List ℕ)
-each_once texts = fold with_text [] texts
+abbrev pub with_term : List TermAnswer → List (List ℕ) → ℕ → List (List ℕ)
+with_term terms texts place = with_text texts (text_of_term terms place)
 
--- the terms at some places, those that print the same once
+-- the texts of the terms at some places, those that print the same once
+abbrev pub texts_at : List TermAnswer → List ℕ → List (List ℕ)
+texts_at terms places = fold (with_term terms) [] places
+
 abbrev pub terms_text : List TermAnswer → List ℕ → List ℕ
-terms_text terms places = with_commas (each_once (map (text_of_term terms) places))
+terms_text terms places = with_commas (texts_at terms places)
 
 abbrev pub certificate_lines : List TermAnswer → VerdictAnswer → List ℕ
 certificate_lines terms (verdict.Accepted choice) = line (codes "rests on: " ++ terms_text terms choice)

@@ -120,7 +120,7 @@ unmet_data one =
 -- ---- all of it
 
 abbrev pub ids_data : List CrateTitle → Data
-ids_data titles = texts_data (map (λ (title : CrateTitle). title.id) titles)
+ids_data titles = array (items_of (map (λ (title : CrateTitle). string title.id) titles))
 
 abbrev pub answer_data : CrateAnswer → Data
 answer_data one =

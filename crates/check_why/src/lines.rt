@@ -1,8 +1,7 @@
 //! What is said of a crate, in lines for a person.
-ghost use Rattle.std.specs.Prelude.{◌≡◌, ◌++◌, IfOk, OnOk, codes, map, string_bytes};
+ghost use Rattle.std.specs.Prelude.{◌≡◌, ◌++◌, IfOk, OnOk, codes, string_bytes};
 ghost use Rattle.std.specs.List.{flat_map};
 ghost use Rattle.graph_core.specs.Krate as graph;
-ghost use Rattle.check_core.specs.findings.Sources.{with_commas};
 ghost use Rattle.diag_print.specs.Human.{note_line};
 ghost use Rattle.check_why.specs.Lines as spec;
 
@@ -10,6 +9,7 @@ use crate::answer::{
     Asking, CrateAnswer, CrateTitle, LicenseAnswer, ReadAnswer, ReadSaid, TermAnswer, TermHit,
     Unmatched, UnmetAnswer, VerdictAnswer,
 };
+use check_core::findings::push_with_commas;
 use deny_text::{Text, Texts};
 use diag_print::push_flat;
 use std::alloc::{AllocError, Global};
@@ -137,30 +137,27 @@ fn put_text(texts: &mut Texts, alloc: Global, text: &str) -> Result<(), AllocErr
     texts.push(text)
 }
 
+/// Puts the text of the term at a place behind others, where it is not among them.
+fn put_term(
+    texts: &mut Texts,
+    alloc: Global,
+    terms: &[TermAnswer],
+    place: usize,
+) -> Result<(), AllocError>
+    ensures { OnOk result (texts.new ≡ spec.with_term terms.now texts.old place) }
+{
+    put_text(texts, alloc, text_of_term(terms, place))
+}
+
 /// The texts of the terms at some places, each once.
 fn texts_at(alloc: Global, terms: &[TermAnswer], places: &[usize]) -> Result<Texts, AllocError>
-    ensures { IfOk result (λ texts. texts ≡ spec.each_once (map (spec.text_of_term terms.now) places.now)) }
+    ensures { IfOk result (λ texts. texts ≡ spec.texts_at terms.now places.now) }
 {
     let mut texts = Texts::new(alloc);
     'places: for place in places {
-        put_text(&mut texts, alloc, text_of_term(terms, *place))?;
+        put_term(&mut texts, alloc, terms, *place)?;
     }
     Ok(texts)
-}
-
-/// Appends texts with a comma and a blank between.
-fn push_with_commas(out: &mut String, texts: &[Text]) -> Result<(), AllocError>
-    ensures { OnOk result (string_bytes out.new ≡ string_bytes out.old ++ with_commas texts.now) }
-{
-    let Some((first, rest)) = texts.split_first() else {
-        return Ok(());
-    };
-    out.push_str(first.as_str())?;
-    'rest: for text in rest {
-        out.push_str(", ")?;
-        out.push_str(text.as_str())?;
-    }
-    Ok(())
 }
 
 /// Appends a line with the terms at some places, behind its own words.

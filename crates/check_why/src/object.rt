@@ -26,7 +26,7 @@ fn write_text(out: &mut Writer, name: &str, text: &str) -> Result<(), AllocError
 
 /// A text, or null.
 fn write_optional(out: &mut Writer, text: Option<&str>) -> Result<(), AllocError>
-    ensures { OnOk result (Adds out.old out.new (data_tokens (spec.optional_text (option_copied text)))) }
+    ensures { OnOk result (Adds out.old out.new (data_tokens (spec.optional_text (option_copied text.entry)))) }
 {
     match text {
         Some(text) => out.string(text),
@@ -282,10 +282,11 @@ fn license_source(license: &Option<LicenseAnswer>) -> Option<&str>
     }
 }
 
-/// What is said of the verdict and the expression, up to the name of the crate.
-fn write_first(out: &mut Writer, one: &CrateAnswer) -> Result<(), AllocError>
-    ensures { OnOk result (Adds out.old out.new (spec.first_tokens one.now)) }
+/// The object of a crate that is checked.
+fn write_answer(out: &mut Writer, alloc: Global, one: &CrateAnswer) -> Result<(), AllocError>
+    ensures { OnOk result (Adds out.old out.new (data_tokens (spec.answer_data one.now))) }
 {
+    out.begin_object()?;
     out.key("allow")?;
     write_allow(out, &one.verdict)?;
     out.key("because")?;
@@ -297,13 +298,7 @@ fn write_first(out: &mut Writer, one: &CrateAnswer) -> Result<(), AllocError>
     write_text(out, "id", one.title.id.as_str())?;
     out.key("license")?;
     write_optional(out, license_text(&one.license))?;
-    write_text(out, "name", one.title.name.as_str())
-}
-
-/// What is said of who needs it and of its files.
-fn write_rest(out: &mut Writer, alloc: Global, one: &CrateAnswer) -> Result<(), AllocError>
-    ensures { OnOk result (Adds out.old out.new (spec.rest_tokens one.now)) }
-{
+    write_text(out, "name", one.title.name.as_str())?;
     out.key("needed_by")?;
     write_ids(out, one.needed_by.items())?;
     out.key("notes")?;
@@ -319,16 +314,7 @@ fn write_rest(out: &mut Writer, alloc: Global, one: &CrateAnswer) -> Result<(), 
     out.key("unmet")?;
     write_unmet(out, alloc, one.unmet.items())?;
     write_text(out, "verdict", verdict_word(&one.verdict))?;
-    write_text(out, "version", one.title.version.as_str())
-}
-
-/// The object of a crate that is checked.
-fn write_answer(out: &mut Writer, alloc: Global, one: &CrateAnswer) -> Result<(), AllocError>
-    ensures { OnOk result (Adds out.old out.new (data_tokens (spec.answer_data one.now))) }
-{
-    out.begin_object()?;
-    write_first(out, one)?;
-    write_rest(out, alloc, one)?;
+    write_text(out, "version", one.title.version.as_str())?;
     out.end_object()
 }
 
