@@ -1,11 +1,13 @@
 -- What is kept of licence files is what is read of them.
-use Rattle.std.proofs.Common.{◌≡◌, ◌∙◌, ℕ, Bool, true, false, ◌||◌, cond, List, [], ◌∷◌, ◌++◌, map, Option, Some, None, is_some, refl, sym, ap, ap₂, Result, Err, append_assoc}
+use Rattle.std.proofs.Common.{◌≡◌, ◌∙◌, ℕ, ◌+◌, ◌<◌, get_or, length, take, Bool, true, false, ◌||◌, cond, List, [], ◌∷◌, ◌++◌, map, Option, Some, None, is_some, refl, sym, ap, ap₂, Result, Err, append_assoc}
 use Rattle.std.specs.Prelude.{unwrap_or}
 use Rattle.std.specs.List.{list_any}
+use Rattle.std.proofs.lemmas.List.{map-append, take_more}
 use Rattle.deny_text.specs.Path.{components_of}
 use Rattle.tree_core.specs.declared.file_reads.bad_read.BadRead.{BadRead}
 use Rattle.tree_core.specs.declared.file_reads.bad_read.BadRead.TheVariants as bad
 use Rattle.tree_core.specs.file_reads.Heard.{ReadResult, absent}
+use Rattle.tree_core.specs.declared.reads.ReadRecord.{ReadRecord}
 use Rattle.tree_core.specs.file_reads.Views.{heard_bad}
 use Rattle.gather_license.specs.files.KnownReads.{FolderReads}
 use Rattle.gather_license.specs.files.Pack.{in_path_order, same_path}
@@ -13,8 +15,9 @@ use Rattle.gather_license.specs.files.Steps.{Agrees}
 use Rattle.gather_license.specs.files.View.{PackView, file_at, normal_heard, paths_of, paths_read}
 use Rattle.gather_license.specs.declared.expression.kept.KeptFile.{KeptFile}
 use Rattle.gather_license.specs.declared.expression.kept.KeptText.{KeptText}
-use Rattle.gather_license.specs.expression.Kept.{file_kept, file_kept_in, kept_by, kept_in, kept_of, kept_where}
+use Rattle.gather_license.specs.expression.Kept.{file_kept, file_kept_in, files_kept_in, kept_by, kept_in, kept_of, kept_where}
 use Rattle.gather_license.specs.expression.Scanned.{Scanner}
+use Rattle.gather_license.proofs.files.CallLemmas.{paths_read-append}
 use Rattle.gather_license.proofs.files.PackLemmas.{has_path}
 use Rattle.gather_license.proofs.files.PathLemmas.{list_any-in_path_order, same_itself}
 
@@ -63,3 +66,13 @@ pub kept_by_reads : (scanner : Scanner) (known_reads : FolderReads) (pack : Pack
     → kept_in scanner pack ≡ kept_by scanner known_reads pack.reads
 kept_by_reads scanner known_reads pack agrees sorted =
     ap (kept_where scanner.keeps) (all_kept scanner known_reads pack [] (paths_read pack.reads) (paths_read pack.reads) agrees sorted refl)
+
+-- ---- read by read
+
+pub kept_more : (scanner : Scanner) (files : List (List ℕ × ReadResult)) (reads : List ReadRecord) (place : ℕ) (read : ReadRecord) → place < length reads → read ≡ get_or reads place read
+    → files_kept_in scanner files (take (place + 1) reads) ≡ files_kept_in scanner files (take place reads) ++ files_kept_in scanner files (read ∷ [])
+kept_more scanner files reads place read inside is =
+    ap (files_kept_in scanner files) (take_more reads place read inside)
+    ∙ ap (map (file_kept_in scanner files)) (paths_read-append (take place reads) (get_or reads place read ∷ []))
+    ∙ map-append (file_kept_in scanner files) (paths_read (take place reads)) (paths_read (get_or reads place read ∷ []))
+    ∙ ap (λ (one : ReadRecord). files_kept_in scanner files (take place reads) ++ files_kept_in scanner files (one ∷ [])) (sym is)
