@@ -1,3 +1,5 @@
-mod LawLemmas
 mod Examples
-mod MadeLemmas
+pub mod InsideLemmas
+mod LawLemmas
+pub mod MadeLemmas
+mod UnmetLemmas

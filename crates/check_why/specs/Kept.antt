@@ -94,7 +94,7 @@ text_unmatched wanted (Err (bad.Failed before after)) = Some by.Failed
 
 -- what is kept of the file at a path of the same parts
 abbrev pub kept_at : List KeptFile → List ℕ → Option (Result KeptText BadRead)
-kept_at kept path = option_map (λ (file : KeptFile). file.kept) (find (λ (file : KeptFile). same_path file.path path) kept)
+kept_at kept path = option_map (λ (file : KeptFile). file.kept) (find (λ (file : KeptFile). same_path path file.path) kept)
 
 -- one of which nothing is kept is not there
 abbrev pub file_unmatched : List KeptFile → FileSource → Option Unmatched

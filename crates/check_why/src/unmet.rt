@@ -39,7 +39,7 @@ fn text_unmatched(wanted: u32, kept: &TextKept) -> Option<Unmatched>
 fn kept_at<'k>(kept: &'k [KeptFile], path: &PathBuf) -> Option<&'k TextKept>
     ensures { option_copied result ≡ spec.kept_at kept.entry.now path.now }
 {
-    let file = kept.iter().find(|file| file.path == *path)?;
+    let file = kept.iter().find(|file| *path == file.path)?;
     Some(&file.kept)
 }
 
