@@ -109,13 +109,13 @@ module _ (files : List File) (scanner : Scanner) (policy : ValidConfig) (one : C
   hits_with counted expression = answer.hits_for policy counted expression
 
   abbrev answer_with : Option ExpressionView → Option LicenseExprSource → Option ExpressionPlace → List ℕ → List (List ℕ) → List ReadRecord → List KeptFile → Verdict → CrateAnswer
-  answer_with expression source place counted notes reads kept verdict = record {
+  answer_with expression source place counted notes records kept verdict = record {
     title = title_of one.gathered.krate;
     verdict = answer.verdict_answer (hits_with counted expression) verdict;
     license = license_by files expression source place;
     terms = answer.terms_by files policy expression verdict (hits_with counted expression);
     needed_by = titles_of one.needed_by;
-    reads = answers_by reads kept;
+    reads = answers_by records kept;
     unmet = unmet_answers files policy one.gathered.krate kept;
     notes = notes;
   }
@@ -125,7 +125,7 @@ module _ (files : List File) (scanner : Scanner) (policy : ValidConfig) (one : C
 
   unmet_are : unmet_answers files policy one.gathered.krate (files_kept scanner one.known_reads one.reads) ≡ unmet.unmet_answers files policy one.gathered.krate one.known_reads
   unmet_are =
-      ap₂ (λ (known_reads : FolderReads) (reads : List ReadRecord). unmet_answers files policy one.gathered.krate (files_kept scanner known_reads reads)) known_are reads_are
+      ap₂ (λ (known_reads : FolderReads) (records : List ReadRecord). unmet_answers files policy one.gathered.krate (files_kept scanner known_reads records)) known_are reads_are
       ∙ unmet_same scanner all files one.gathered.krate policy
       ∙ ap (unmet.unmet_answers files policy one.gathered.krate) (sym known_are)
 
@@ -146,13 +146,13 @@ module _ (files : List File) (scanner : Scanner) (policy : ValidConfig) (one : C
       ∙ ap₂ (told_with (answer.license_answer files info)) (answers_same scanner one.known_reads one.reads) unmet_are
     where
       told_with : Option LicenseAnswer → List ReadAnswer → List UnmetAnswer → CrateAnswer
-      told_with license reads unmet = record {
+      told_with license read_ones unmet_ones = record {
         title = title_of one.gathered.krate;
         verdict = answer.verdict_answer (hits_with one.gathered.exceptions (expression_of one.gathered.info)) one.verdict;
         license = license;
         terms = answer.terms_by files policy (expression_of one.gathered.info) one.verdict (hits_with one.gathered.exceptions (expression_of one.gathered.info));
         needed_by = titles_of one.needed_by;
-        reads = reads;
-        unmet = unmet;
+        reads = read_ones;
+        unmet = unmet_ones;
         notes = one.gathered.notes;
       }

@@ -13,7 +13,7 @@ use Rattle.run_command.proofs.AbsentLemmas.{stops_never}
 use Rattle.run_command.proofs.LawfulLemmas.{NoRefusal, stops_lawful}
 use Rattle.run_command.proofs.StopLemmas.{stops_made}
 use Rattle.run_why.specs.Given.{WhyArguments}
-use Rattle.run_why.specs.Why.{FindsWhy, Tells}
+use Rattle.run_why.specs.Why.{FindsWhy, StopsAtWord, Tells}
 use Rattle.deny_run.specs.Complete.{MayEndWhy}
 use Rattle.deny_run.proofs.EndLemmas.{EndsBy}
 use Rattle.deny_run.proofs.VerifyLemmas.{no_fault}
@@ -26,9 +26,13 @@ why_wanting _ is = is
 module _ (given : WhyArguments) (tree : TreeSeen) (err out : SinkSeen) where
   -- ---- the calls
 
+  word_made : (error : Error) → StopsAtWord given tree err error → HasMade tree
+  word_made (NoSuchCrate word) stops = some_made stops.heard.made
+  word_made _ stops = absurd stops
+
   found_made : (error : Error) → FindsWhy given tree err (Err error) → HasMade tree
-  found_made (NoSuchCrate word) finds = some_made finds.heard.made
-  found_made error finds = stops_made given.command tree err error finds
+  found_made error (inl stops) = stops_made given.command tree err error stops
+  found_made error (inr stops) = word_made error stops
 
   pub tells_made : (answer : Result (List CrateRead) Error) → Tells given tree err out answer → HasMade tree
   tells_made (Ok reads) tells = some_made tells.hears.heard.made
@@ -38,15 +42,20 @@ module _ (given : WhyArguments) (tree : TreeSeen) (err out : SinkSeen) where
   -- ---- an absent policy is no refusal
 
   pub tells_never : Tells given tree err out (Err (ConfigRead Absent)) → ⊥
-  tells_never (inl (found, silent)) = stops_never given.command tree err found
+  tells_never (inl (inl stops, silent)) = stops_never given.command tree err stops
+  tells_never (inl (inr stops, silent)) = stops
   tells_never (inr cut) = cut.refused
 
   -- ---- lawful input
 
   module _ (apart : NoRefusal given.command tree) (out_quiet : Rose out.before out.after → ⊥) (err_quiet : Rose err.before err.after → ⊥) where
+    word_lawful : (error : Error) → StopsAtWord given tree err error → MayEndWhy error
+    word_lawful (NoSuchCrate word) stops = tt
+    word_lawful _ stops = absurd stops
+
     found_lawful : (error : Error) → FindsWhy given tree err (Err error) → MayEndWhy error
-    found_lawful (NoSuchCrate word) finds = tt
-    found_lawful error finds = why_wanting error (stops_lawful given.command tree err apart err_quiet error finds)
+    found_lawful error (inl stops) = why_wanting error (stops_lawful given.command tree err apart err_quiet error stops)
+    found_lawful error (inr stops) = word_lawful error stops
 
     pub tells_lawful : (answer : Result (List CrateRead) Error) → Tells given tree err out answer → EndsBy MayEndWhy answer
     tells_lawful (Ok reads) tells = tt

@@ -1,6 +1,6 @@
 -- What the steps of a run for `why` answer. Only the contracts of private calls cite it.
 use Rattle.std.specs.Prelude.{◌≡◌, ◌⊎◌, ℕ, suc, ◌<◌, Bool, true, false, not, ◌&&◌, List, [], ◌∷◌, ◌++◌, length, map, slice_get}
-use Rattle.std.specs.Prelude.{slice_index_or, Option, Some, None, option_map, unwrap_or, is_none, if◌then◌else◌}
+use Rattle.std.specs.Prelude.{slice_index_or, All, Option, Some, None, option_map, unwrap_or, is_none, if◌then◌else◌}
 use Rattle.std.specs.Prelude.{Result, Ok, Err}
 use Rattle.std.specs.List.{filter_map, flat_map}
 use Rattle.std.specs.Option.{option_map_or}
@@ -25,15 +25,24 @@ use Rattle.check_why.specs.Answer.{title_of}
 use Rattle.check_why.specs.Made.{answer_by}
 use Rattle.run_context.specs.declared.gather.AskedMetadata.{AskedMetadata}
 use Rattle.run_found.specs.declared.error.Error.{Error}
-use Rattle.run_found.specs.Written.{SinkSeen}
+use Rattle.run_found.specs.declared.error.Error.TheVariants.{Memory}
+use Rattle.run_found.specs.declared.reads.CrateRead.{CrateRead}
+use Rattle.run_found.specs.Written.{IsSilent, SinkSeen}
 use Rattle.run_command.specs.Written.{IsWriteFault}
+use Rattle.policy_core.specs.Places.{PolicyStands}
+use Rattle.policy_core.specs.valid.View.{policy_of}
+use Rattle.check_core.specs.evaluate.Entries.{entry_families}
+use Rattle.check_why.specs.Made.{IsReportInside}
 use Rattle.run_check.specs.declared.judged.JudgedCrates.{JudgedCrates}
+use Rattle.run_check.specs.declared.report.Report.{Report}
 use Rattle.run_check.specs.Headline.{is_against}
 use Rattle.run_check.specs.Judged.{crates_judged}
+use Rattle.run_check.specs.Reads.{reads_told}
 use Rattle.run_why.specs.declared.graph.GraphTold.{GraphTold}
 use Rattle.run_why.specs.declared.telling.Telling.{Telling}
+use Rattle.run_why.specs.declared.whying.WhyFound.{WhyFound}
 use Rattle.run_why.specs.Named.{first_unknown, is_named}
-use Rattle.run_why.specs.Why.{answer_text, because_text}
+use Rattle.run_why.specs.Why.{answer_text, because_text, why_text}
 
 -- ---- what is known of the metadata
 
@@ -109,25 +118,48 @@ unchecked_texts telling place because =
     if mark_at telling.told.now.named.items place
     then because_texts telling.format (title_at telling.told.now.titles place) because else []
 
--- from a place on, each checked crate with the next one that is left
-abbrev pub texts_from : Telling → ℕ → List (Option Unchecked) → List CrateRecord → List CrateReport → List (List ℕ)
-texts_from telling place [] krates reports = []
-texts_from telling place (Some cause ∷ causes) krates reports =
-    unchecked_texts telling place (unchecked_text cause) ++ texts_from telling (suc place) causes krates reports
-texts_from telling place (None ∷ causes) [] reports = texts_from telling (suc place) causes [] reports
-texts_from telling place (None ∷ causes) (krate ∷ krates) [] = texts_from telling (suc place) causes krates []
-texts_from telling place (None ∷ causes) (krate ∷ krates) (report ∷ reports) =
-    checked_texts telling place krate report ++ texts_from telling (suc place) causes krates reports
+-- a checked crate with its report, where both are left
+abbrev pub next_texts : Telling → ℕ → Option CrateRecord → Option CrateReport → List (List ℕ)
+next_texts telling place (Some krate) (Some report) = checked_texts telling place krate report
+next_texts telling place (Some krate) None = []
+next_texts telling place None report = []
+
+-- what is told of the crate at a place: why it is not checked, or what the next report says
+abbrev pub texts_at : Telling → ℕ → Option Unchecked → Option CrateRecord → Option CrateReport → List (List ℕ)
+texts_at telling place (Some cause) krate report = unchecked_texts telling place (unchecked_text cause)
+texts_at telling place None krate report = next_texts telling place krate report
+
+-- the number of the next checked crate behind it
+abbrev pub behind : Option Unchecked → ℕ → ℕ
+behind (Some cause) next = next
+behind None next = suc next
+
+-- from a place on, where so many checked crates are before it
+abbrev pub texts_from : Telling → ℕ → ℕ → List (Option Unchecked) → List CrateRecord → List CrateReport → List (List ℕ)
+texts_from telling place next [] krates reports = []
+texts_from telling place next (cause ∷ causes) krates reports =
+    texts_at telling place cause (slice_get krates next) (slice_get reports next)
+    ++ texts_from telling (suc place) (behind cause next) causes krates reports
 
 abbrev pub texts_of : Telling → List CrateRecord → List (List ℕ)
 texts_of telling krates =
-    texts_from telling 0 telling.told.now.causes.items krates telling.report.now.crates
+    texts_from telling 0 0 telling.told.now.causes.items krates telling.report.now.crates
 
--- the crates without a cause, in order, are those that were judged
-pub record FitsJudged (told : GraphTold) (judged : JudgedCrates) : Type 0 where
-  pub counted : length told.causes.items ≡ length told.titles
+-- a walk and a cause for each crate
+pub record IsWhole (told : GraphTold) : Type 0 where
+  pub causes : length told.causes.items ≡ length told.titles
   pub walks : length (followed told) ≡ length told.titles
-  pub reports : length judged.report.crates ≡ length (crates_judged judged)
+
+-- the places of the policy and of the reports lie in their files
+pub record LieInFiles (report : Report) : Type 0 where
+  pub policy : PolicyStands report.files report.policy
+  pub reports : All (IsReportInside report.files) report.crates
+
+-- what all crates are told by
+pub record CanTell (telling : Telling) : Type 0 where
+  pub index : entry_families (policy_of telling.report.now.policy) ≡ telling.index
+  pub lie : LieInFiles telling.report.now
+  pub whole : IsWhole telling.told.now
 
 -- by the report, with where the entries of each family are in its policy
 pub record TellsTexts (format : Format) (has_words : Bool) (told : GraphTold) (judged : JudgedCrates)
@@ -144,7 +176,17 @@ pub record TellsTexts (format : Format) (has_words : Bool) (told : GraphTold) (j
 abbrev pub joined_texts : List (List ℕ) → List ℕ
 joined_texts texts = flat_map (λ text. text) texts
 
-abbrev pub WritesTexts : List (List ℕ) → SinkSeen → Result (Unit {0}) Error → Type 0
-WritesTexts texts out (Ok done) = Gained out.old out.new (joined_texts texts)
-WritesTexts texts out (Err error) =
-    IsWriteFault out.before out.after error × GainedPrefix out.old out.new (joined_texts texts)
+-- the texts were written
+pub record PutsAll (found : WhyFound) (out : SinkSeen) (reads : List CrateRead) : Type 0 where
+  pub texts : Gained out.old out.new (why_text found)
+  pub reads_are : reads ≡ reads_told found.report.crates
+
+-- a prefix of them was, behind which a write was refused
+pub record CutsTexts (found : WhyFound) (out : SinkSeen) (error : Error) : Type 0 where
+  pub refused : IsWriteFault out.before out.after error
+  pub front : GainedPrefix out.old out.new (why_text found)
+
+-- or memory was wanting before
+abbrev pub Puts : WhyFound → SinkSeen → Result (List CrateRead) Error → Type 0
+Puts found out (Ok reads) = PutsAll found out reads
+Puts found out (Err error) = ((error ≡ Memory) × IsSilent out) ⊎ CutsTexts found out error

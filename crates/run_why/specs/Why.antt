@@ -163,16 +163,16 @@ pub record IsNoSuchCrate (given : WhyArguments) (word : List ℕ) (hearing : Req
   pub unread : hearing.crates ≡ []
   pub first : first_unknown given.words (crates_of asked.graph) ≡ Some word
 
-abbrev pub StopsAtWord : WhyArguments → TreeSeen → SinkSeen → List ℕ → Type 0
-StopsAtWord given tree err word = HearsSo given.command tree err (IsNoSuchCrate given word)
+abbrev pub StopsAtWord : WhyArguments → TreeSeen → SinkSeen → Error → Type 0
+StopsAtWord given tree err (NoSuchCrate word) = HearsSo given.command tree err (IsNoSuchCrate given word)
+StopsAtWord given tree err _ = ⊥
 
 -- ---- the command
 
--- what is told is found, or a word names no crate, or the command was refused before it did its own
+-- what is told is found, or the command was refused before it did its own, or a word names no crate
 abbrev pub FindsWhy : WhyArguments → TreeSeen → SinkSeen → Result WhyFound Error → Type 0
 FindsWhy given tree err (Ok found) = HearsSo given.command tree err (IsWhy given found)
-FindsWhy given tree err (Err (NoSuchCrate word)) = StopsAtWord given tree err word
-FindsWhy given tree err (Err error) = Stops given.command tree err error
+FindsWhy given tree err (Err error) = Stops given.command tree err error ⊎ StopsAtWord given tree err error
 
 -- a prefix of what is told was written, behind which a write was refused
 pub record CutsWhy (given : WhyArguments) (tree : TreeSeen) (err out : SinkSeen) (error : Error) : Type 0 where

@@ -1,13 +1,12 @@
 //! The texts of the crates that are told.
 //! Called by `found_why` of whying; a crate's text may be made anew, their order is in a clause.
-ghost use Rattle.std.specs.Prelude.{◌≡◌, ◌++◌, IfOk, OnOk};
+ghost use Rattle.std.specs.Prelude.{◌≡◌, ◌≤◌, ◌<◌, ◌++◌, length, map, option_map, IfOk, IfSome, OnOk};
 ghost use Rattle.graph_core.specs.Krate.{record_of};
-ghost use Rattle.check_core.specs.evaluate.Entries.{entry_families};
-ghost use Rattle.policy_core.specs.Places.{PolicyStands};
-ghost use Rattle.policy_core.specs.valid.View.{policy_of};
+ghost use Rattle.graph_core.specs.selection.Listed.{record_behind};
+ghost use Rattle.check_why.specs.Made.{IsReportInside};
 ghost use Rattle.run_check.specs.Headline.{is_against};
 ghost use Rattle.run_why.specs.Steps as spec;
-ghost use Rattle.run_why.specs.Steps.{FitsJudged, TellsTexts};
+ghost use Rattle.run_why.specs.Steps.{CanTell, IsWhole, LieInFiles, TellsTexts, cause_at, followed};
 ghost use Rattle.run_why.specs.Why.{answer_text, because_text};
 
 use crate::graph::GraphTold;
@@ -94,6 +93,9 @@ impl<'t> Telling<'t> {
         krate: &Krate,
         report: &CrateReport,
     ) -> Result<(), AllocError>
+        requires can { CanTell self.now }
+        requires place { place < length (followed self.now.told.now) }
+        requires inside { IsReportInside self.now.report.now.files report.now }
         ensures { OnOk result (texts.new ≡ texts.old
             ++ spec.checked_texts self.now place (record_of krate.now) report.now) }
     {
@@ -136,21 +138,57 @@ impl<'t> Telling<'t> {
         }
     }
 
+    /// Appends the text of the crate at a place, where it is told: of a checked one by the next report.
+    fn push_at(
+        &self,
+        alloc: Global,
+        texts: &mut Texts,
+        place: usize,
+        krate: Option<&Krate>,
+        report: Option<&CrateReport>,
+    ) -> Result<(), AllocError>
+        requires can { CanTell self.now }
+        requires place { place < length (followed self.now.told.now) }
+        requires inside { IfSome report (λ own. IsReportInside self.now.report.now.files own.now) }
+        ensures { OnOk result (texts.new ≡ texts.old
+            ++ spec.texts_at self.now place (cause_at self.now.told.now.causes.items place)
+            (option_map (λ own. record_of own.now) krate) (option_map (λ own. own.now) report)) }
+    {
+        match self.told.cause(place) {
+            Some(cause) => self.push_unchecked(alloc, texts, place, cause.as_str()),
+            None => match (krate, report) {
+                (Some(krate), Some(report)) => {
+                    self.push_checked(alloc, texts, place, krate, report)
+                }
+                _ => Ok(()),
+            },
+        }
+    }
+
+    /// The number of the next checked crate behind a place.
+    fn behind(&self, place: usize, next: usize) -> usize
+        requires { next ≤ place }
+        requires within { place < length self.now.told.now.titles }
+        ensures { result ≡ spec.behind (cause_at self.now.told.now.causes.items place) next }
+    {
+        match self.told.cause(place) {
+            Some(_) => next,
+            None => next + 1,
+        }
+    }
+
     /// The texts of all crates that are told, in the order of ids: each checked crate with its report.
     fn texts(&self, alloc: Global, krates: &[&Krate]) -> Result<Texts, AllocError>
-        ensures { IfOk result (λ texts. texts ≡ spec.texts_of self.now krates.now) }
+        requires { CanTell self.now }
+        ensures { IfOk result (λ texts. texts ≡ spec.texts_of self.now (map record_behind krates.now)) }
     {
         let mut texts = Texts::new(alloc);
-        let mut checked = krates.iter().zip(self.report.crates.items().iter());
+        let reports = self.report.crates.items();
+        let mut next = 0;
         'places: for place in 0..self.told.len() {
-            match self.told.cause(place) {
-                Some(cause) => self.push_unchecked(alloc, &mut texts, place, cause.as_str())?,
-                None => {
-                    if let Some((krate, report)) = checked.next() {
-                        self.push_checked(alloc, &mut texts, place, krate, report)?;
-                    }
-                }
-            }
+            let krate = krates.get(next).copied();
+            self.push_at(alloc, &mut texts, place, krate, reports.get(next))?;
+            next = self.behind(place, next);
         }
         Ok(texts)
     }
@@ -165,8 +203,8 @@ pub(crate) fn texts_told(
     told: &GraphTold,
     judged: &JudgedCrates,
 ) -> Result<Texts, AllocError>
-    requires policy { PolicyStands judged.now.report.files judged.now.report.policy }
-    requires fits { FitsJudged told.now judged.now }
+    requires lie { LieInFiles judged.now.report }
+    requires whole { IsWhole told.now }
     ensures { IfOk result (TellsTexts format has_words told.now judged.now) }
 {
     let krates = judged.checked(alloc)?;

@@ -1,13 +1,12 @@
 //! The command `why`.
 //! Called by `why_request` of `deny_run`; the texts may be written in pieces, the write comes last.
-ghost use Rattle.std.specs.Prelude.{◌≡◌, ◌≤◌, IfErr, None, OnErr, OnOk};
-ghost use Rattle.tree_core.specs.Faults.{Gained, GainedPrefix};
+ghost use Rattle.std.specs.Prelude.{◌≡◌, ◌≤◌, IfErr, IfOk, None, string_bytes};
 ghost use Rattle.tree_core.specs.texts.Cause.{ReadCounts};
 ghost use Rattle.run_found.specs.Error.{cause_of};
 ghost use Rattle.run_found.specs.Hearing.{seen_between};
 ghost use Rattle.run_found.specs.Written.{sink_between};
 ghost use Rattle.run_why.specs.Given.{unsupported_of, why_arguments_of};
-ghost use Rattle.run_why.specs.Steps.{WritesTexts, joined_texts};
+ghost use Rattle.run_why.specs.Steps.{Puts, joined_texts};
 ghost use Rattle.run_why.specs.Why.{FindsWhy, Tells};
 
 use crate::graph::GraphTold;
@@ -18,12 +17,14 @@ use diag_core::Files;
 use diag_print::LogContext;
 use graph_workspace::{Include, UnsupportedPart};
 use run_check::{Report, judged_of, reads_of_reports};
-use run_command::{PolicyUse, crates_of, metadata_found, no_levels, unsupported_in};
+use run_command::{
+    PolicyUse, crates_of, metadata_found, no_levels, unsupported_in, write_answer,
+};
 use run_found::{CrateReads, Error};
 use run_request::KrateContext;
 use spdx_core::{Catalog, Identifier};
-use std::alloc::Global;
-use tree_core::{Sink, SinkFailed, Tree, write_all};
+use std::alloc::{AllocError, Global};
+use tree_core::{Sink, Tree};
 
 /// What is found: the report of the check, and the text of each crate that is told.
 #[derive(Drop)]
@@ -104,30 +105,28 @@ fn found_why<T: Tree, S: Sink, C: Catalog, I: Identifier>(
     })
 }
 
-/// Writes texts, one after another.
-fn write_each<O: Sink>(out: &mut O, texts: &[Text]) -> Result<(), SinkFailed>
-    ensures ok { OnOk result (Gained (O.written out.old) (O.written out.new) (joined_texts texts.now)) }
-    ensures err { OnErr result (GainedPrefix (O.written out.old) (O.written out.new) (joined_texts texts.now)) }
+/// Texts, one after another.
+fn joined(alloc: Global, texts: &[Text]) -> Result<String, AllocError>
+    ensures { IfOk result (λ text. string_bytes text ≡ joined_texts texts.now) }
 {
+    let mut joined = String::new(alloc);
     'texts: for text in texts {
-        write_all(out, text.as_str().as_bytes())?;
+        joined.push_str(text.as_str())?;
     }
-    Ok(())
+    Ok(joined)
 }
 
-/// The same, once nothing can be refused any more but that. The counts of a refused write are those of this call.
-fn write_texts<O: Sink>(out: &mut O, texts: &Texts) -> Result<(), Error>
-    ensures writes { WritesTexts texts.now (sink_between O.written O.fault_count out.old out.new) result }
+/// Writes the texts, once nothing can be refused any more but that, and reports the reads of the crates.
+fn put_why<O: Sink>(alloc: Global, out: &mut O, found: WhyFound) -> Result<CrateReads, Error>
+    ensures puts { Puts found (sink_between O.written O.fault_count out.old out.new) result }
     ensures later { O.fault_count out.old ≤ O.fault_count out.new }
 {
-    let before = out.faults();
-    match write_each(out, texts.items()) {
-        Ok(()) => Ok(()),
-        Err(SinkFailed) => Err(Error::WriteFault {
-            before,
-            after: out.faults(),
-        }),
-    }
+    let WhyFound { report, texts } = found;
+    let Report { crates, .. } = report;
+    let reads = reads_of_reports(alloc, crates)?;
+    let text = joined(alloc, texts.items())?;
+    write_answer(out, text.as_str().as_bytes())?;
+    Ok(reads)
 }
 
 /// The command `why` of a request, all of which is carried: what the verdicts on crates rest on is written to `out`, or
@@ -163,9 +162,5 @@ pub fn why_since<T: Tree, O: Sink, S: Sink, C: Catalog, I: Identifier>(
     let found = found_why(
         alloc, tree, err, catalog, identifier, log_ctx, context, words,
     )?;
-    let WhyFound { report, texts } = found;
-    let Report { crates, .. } = report;
-    let reads = reads_of_reports(alloc, crates)?;
-    write_texts(out, &texts)?;
-    Ok(reads)
+    put_why(alloc, out, found)
 }

@@ -1,0 +1,4 @@
+mod GraphLemmas
+mod NamedLemmas
+mod TellingLemmas
+mod WhyLemmas

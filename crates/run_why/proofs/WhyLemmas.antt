@@ -1,0 +1,42 @@
+-- The steps of a run for `why`, and its ends.
+use Rattle.std.proofs.Common.{◌≡◌, inl, inr, subst, sym, ℕ, List, Result, Ok, Err, IfErr}
+use Rattle.tree_core.specs.texts.Cause.{ReadCounts}
+use Rattle.run_found.specs.declared.error.Error.{Error}
+use Rattle.run_found.specs.declared.error.Error.TheVariants.{Memory}
+use Rattle.run_found.specs.declared.reads.CrateRead.{CrateRead}
+use Rattle.run_found.specs.Error.{cause_of}
+use Rattle.run_found.specs.Hearing.{TreeSeen}
+use Rattle.run_found.specs.Written.{SinkSeen}
+use Rattle.run_command.specs.Settled.{HearsSo}
+use Rattle.run_command.specs.Stops.{Stops}
+use Rattle.run_command.proofs.WrittenLemmas.{write_counts}
+use Rattle.run_check.proofs.ReportLemmas.{reported_stops}
+use Rattle.run_why.specs.declared.whying.WhyFound.{WhyFound}
+use Rattle.run_why.specs.Given.{WhyArguments}
+use Rattle.run_why.specs.Steps.{Puts}
+use Rattle.run_why.specs.Why.{IsWhy, Tells}
+
+-- ---- what is found is written
+
+module _ (given : WhyArguments) (tree : TreeSeen) (err out : SinkSeen) (found : WhyFound) (hears : HearsSo given.command tree err (IsWhy given found)) where
+  -- memory was wanting once there was a report
+  found_stops : Stops given.command tree err Memory
+  found_stops =
+      reported_stops given.command tree err found.report
+      (record { hearing = hears.hearing; heard = hears.heard; written = hears.written; is_so = hears.is_so.report })
+
+  pub written_by : (result : Result (List CrateRead) Error) → Puts found out result → Tells given tree err out result
+  written_by (Ok reads) puts = record { found = found; hears = hears; written = puts.texts; reads_are = puts.reads_are }
+  written_by (Err error) (inl wants) =
+      subst (λ own. Tells given tree err out (Err own)) (sym wants.0) (inl (inl found_stops, wants.1))
+  written_by (Err error) (inr cut) = inr (record { found = found; hears = hears; refused = cut.refused; front = cut.front })
+
+-- ---- what a refusal comes of
+
+-- a write has no counts of a read
+pub put_counts : (found : WhyFound) (out : SinkSeen) (result : Result (List CrateRead) Error) → Puts found out result
+    → (begun before after : ℕ) → IfErr result (λ error. ReadCounts begun before after (cause_of error))
+put_counts found out (Ok reads) puts begun before after = tt
+put_counts found out (Err error) (inl wants) begun before after =
+    subst (λ own. ReadCounts begun before after (cause_of own)) (sym wants.0) tt
+put_counts found out (Err error) (inr cut) begun before after = write_counts out.before out.after error cut.refused begun before after
