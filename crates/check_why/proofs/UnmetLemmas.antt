@@ -123,7 +123,7 @@ module _ (scanner : Scanner) (all : List AnsweredRead) where
   said_same : (one : AskingFiles) (sources : List FileSource) → option_to_list (unmet_by kept one sources) ≡ said one sources
   said_same one [] = refl
   said_same one (named ∷ sources) =
-      ap (λ (by : Option Unmatched). option_to_list (option_map (unmet_at one) (first_by named by (first_unmatched kept sources)))) (file_same named)
+      ap (λ (reason : Option Unmatched). option_to_list (option_map (unmet_at one) (first_by named reason (first_unmatched kept sources)))) (file_same named)
       ∙ elim (matches known_reads (named_of named))
       as (λ b. option_to_list (option_map (unmet_at one) (first_by named (cond b None (Some (why_not named))) (first_unmatched kept sources)))
       ≡ option_map_or (λ (named : NamedFileView). unmet.unmet_by known_reads one named ∷ []) (cond (not b) (Some (named_of named)) (unmet.first_unmatched known_reads (map named_of sources))) []) [
@@ -136,7 +136,7 @@ module _ (scanner : Scanner) (all : List AnsweredRead) where
       → unmet_then (tried_by (unmet_by kept one sources)) rest ≡ cond (holds known_reads (map named_of sources)) [] (said one sources ++ more)
   tried_same one [] rest more same = refl
   tried_same one (named ∷ sources) rest more same =
-      ap (λ (by : Option Unmatched). unmet_then (tried_by (option_map (unmet_at one) (first_by named by (first_unmatched kept sources)))) rest) (file_same named)
+      ap (λ (reason : Option Unmatched). unmet_then (tried_by (option_map (unmet_at one) (first_by named reason (first_unmatched kept sources)))) rest) (file_same named)
       ∙ elim (matches known_reads (named_of named))
       as (λ b. unmet_then (tried_by (option_map (unmet_at one) (first_by named (cond b None (Some (why_not named))) (first_unmatched kept sources)))) rest
       ≡ cond (b && holds known_reads (map named_of sources)) []

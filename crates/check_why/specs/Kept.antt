@@ -104,7 +104,7 @@ file_unmatched kept named =
 -- the first of some files that does not match, and why
 abbrev pub first_by : FileSource → Option Unmatched → Option (FileSource × Unmatched) → Option (FileSource × Unmatched)
 first_by named None rest = rest
-first_by named (Some by) rest = Some (named, by)
+first_by named (Some reason) rest = Some (named, reason)
 
 abbrev pub first_unmatched : List KeptFile → List FileSource → Option (FileSource × Unmatched)
 first_unmatched kept [] = None

@@ -23,7 +23,7 @@ use Rattle.run_found.specs.Hearing.{RequestHearing, TreeSeen}
 use Rattle.run_found.specs.Written.{SinkSeen}
 use Rattle.run_command.specs.declared.crates.CratesFound.{CratesFound}
 use Rattle.run_command.specs.declared.crates.MetadataFound.{MetadataFound}
-use Rattle.run_command.specs.Crates.{HasCrates, HasMetadata, IsTold, hearing_up_to}
+use Rattle.run_command.specs.Crates.{ChoosesCrates, HasMetadata, IsTold, hearing_up_to}
 use Rattle.run_command.specs.Found.{PutsInOrder, choice_in, input_of, load_heard}
 use Rattle.run_command.specs.Given.{CommandArguments}
 use Rattle.run_command.specs.Stops.{Refuses, Stops, at_metadata}
@@ -103,23 +103,29 @@ module _ (given : CommandArguments) (tree : TreeSeen) (err : SinkSeen) (files : 
   input_is = input-graph given hearing has.policy (asked-once given hearing has.policy has.policy_is has.once) (Ok found.asked.metadata) has.graph_is
 
   pub crates_chosen : (chosen : ReachedCrates) → AreReached choice (Ok found.asked.metadata) chosen → (crates : CratesFound) → crates.policy ≡ found.policy → crates.krates ≡ chosen
-      → HasCrates given tree err files crates
-  crates_chosen chosen reached crates policy_is krates_are = record {
-    heard = has.heard;
-    answer = has.answer;
-    made = has.made;
-    due = has.due;
-    policy = has.policy;
-    policy_is = has.policy_is;
-    once = has.once;
-    ordered = subst (PutsInOrder given has.policy) (sym policy_is) has.ordered;
-    graph = reached.graph;
-    graph_is = has.graph_is ∙ ap Ok (same_graph found.asked.metadata reached.graph reached.tells);
-    root = subst (HasRoot reached.graph) has.choice_is reached.rooted;
-    chosen = subst (λ own. IsChosen reached.graph own crates.krates) has.choice_is (subst (IsChosen reached.graph choice) (sym krates_are) reached.reached);
-    files_are = has.files_are;
-    written = has.written;
-  }
+      → ChoosesCrates given tree err files found crates
+  crates_chosen chosen reached crates policy_is krates_are =
+      let same : found.asked.metadata ≡ reached.graph = same_graph found.asked.metadata reached.graph reached.tells in
+      record {
+        has = record {
+          heard = has.heard;
+          answer = has.answer;
+          made = has.made;
+          due = has.due;
+          policy = has.policy;
+          policy_is = has.policy_is;
+          once = has.once;
+          ordered = subst (PutsInOrder given has.policy) (sym policy_is) has.ordered;
+          graph = reached.graph;
+          graph_is = has.graph_is ∙ ap Ok same;
+          root = subst (HasRoot reached.graph) has.choice_is reached.rooted;
+          chosen = subst (λ own. IsChosen reached.graph own crates.krates) has.choice_is (subst (IsChosen reached.graph choice) (sym krates_are) reached.reached);
+          files_are = has.files_are;
+          written = has.written;
+        };
+        graph = sym same;
+        choice = has.choice_is;
+      }
 
   rootless : (base excluded unpublished : ℕ) → AreRootless choice (Ok found.asked.metadata) base excluded unpublished
       → Refuses given (input_of given hearing) (error_of_krates (krates.NoRoots base excluded unpublished))

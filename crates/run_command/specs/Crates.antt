@@ -87,3 +87,15 @@ IsTold _ = Unit {0}
 abbrev pub FindsCrates : CommandArguments → TreeSeen → SinkSeen → List File → Result CratesFound Error → Type 0
 FindsCrates given tree err files (Ok found) = HasCrates given tree err files found
 FindsCrates given tree err files (Err error) = Stops given tree err error
+
+-- crates that are chosen from metadata: of the graph and the choice that were found
+pub record ChoosesCrates (given : CommandArguments) (tree : TreeSeen) (err : SinkSeen) (files : List File)
+    (found : MetadataFound) (crates : CratesFound) : Type 0 where
+  pub has : HasCrates given tree err files crates
+  pub graph : has.graph ≡ found.asked.metadata
+  pub choice : choice_of found.asked.selection ≡ choice_in given has.policy
+
+abbrev pub FindsChosen : CommandArguments → TreeSeen → SinkSeen → List File → MetadataFound → Result CratesFound Error
+    → Type 0
+FindsChosen given tree err files found (Ok crates) = ChoosesCrates given tree err files found crates
+FindsChosen given tree err files found (Err error) = Stops given tree err error

@@ -13,7 +13,7 @@ ghost use Rattle.run_overrides.specs.Levels.{PutAtLevels};
 ghost use Rattle.run_found.specs.Error.{cause_of};
 ghost use Rattle.run_found.specs.Hearing.{TreeSeen, seen_between};
 ghost use Rattle.run_found.specs.Written.{SinkSeen, sink_between};
-ghost use Rattle.run_command.specs.Crates.{FindsCrates, FindsMetadata, HasMetadata, IsTold, options_of};
+ghost use Rattle.run_command.specs.Crates.{FindsChosen, FindsCrates, FindsMetadata, HasMetadata, IsTold, options_of};
 ghost use Rattle.run_command.specs.Found as spec;
 ghost use Rattle.run_command.specs.Found.{left_by};
 ghost use Rattle.run_command.specs.Given.{CommandArguments, command_arguments_of};
@@ -239,7 +239,7 @@ fn krates_of(alloc: Global, asked: AskedMetadata) -> Result<Krates, KratesError>
 /// The crates that are chosen from what the metadata tells, with the policy. It is refused where no root is left.
 pub fn crates_of(alloc: Global, found: MetadataFound) -> Result<CratesFound, Error>
     ensures found { (given : CommandArguments) (tree : TreeSeen) (err : SinkSeen) (files : List File)
-        → HasMetadata given tree err files found → FindsCrates given tree err files result }
+        → HasMetadata given tree err files found → FindsChosen given tree err files found result }
     ensures same { IfOk result (λ crates. (crates.policy ≡ found.policy) × (crates.overrides ≡ found.overrides)) }
     ensures told { IfErr result (λ error. IsTold (cause_of error)) }
 {

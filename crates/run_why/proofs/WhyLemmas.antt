@@ -40,3 +40,32 @@ put_counts found out (Ok reads) puts begun before after = tt
 put_counts found out (Err error) (inl wants) begun before after =
     subst (λ own. ReadCounts begun before after (cause_of own)) (sym wants.0) tt
 put_counts found out (Err error) (inr cut) begun before after = write_counts out.before out.after error cut.refused begun before after
+
+-- ---- what is found
+
+-- by the reads of its own crate, and what the command identifies texts by
+turns_known : (scanner : Scanner) (all : GatherRules) (files : List File) (crates : List ReadsOfCrate)
+    → AllByRecursion (λ (own : CrateTurn). (own.turn.known_reads ≡ known_reads_by own.reads) × (own.turn.scanner ≡ scanner)) (turns_of scanner all files crates)
+turns_known scanner all files [] = tt
+turns_known scanner all files (one ∷ crates) = ((refl, refl), turns_known scanner all (files_behind (turn_by scanner all files one).turn) crates)
+
+all_told : (scanner : Scanner) (turns : List CrateTurn) (reports : List CrateReport) → AllZip TellsTurn turns reports → AllZip TellsSource turns reports → AllByRecursion HasOwnReads turns
+    → AllByRecursion (λ (own : CrateTurn). (own.turn.known_reads ≡ known_reads_by own.reads) × (own.turn.scanner ≡ scanner)) turns → AllZip (IsTold scanner) turns reports
+all_told scanner [] [] told source own known = tt
+all_told scanner [] (report ∷ reports) told source own known = absurd told
+all_told scanner (one ∷ turns) [] told source own known = absurd told
+all_told scanner (one ∷ turns) (report ∷ reports) told source own known = (
+  record { turn = told.0; source = source.0; own_reads = own.0; known = known.0.0; by = known.0.1 },
+  all_told scanner turns reports told.1 source.1 own.1 known.1,
+)
+
+-- the crates that are not unchecked are those that are selected
+module _ (graph : Graph) (rising : AreRising (ids_of graph)) (choice : Choice) (own : ℕ) (include : Include) where
+  none_selected : (causes : List (Option Unchecked)) (crates : List CrateRecord) → length causes ≡ length crates
+      → ((place : ℕ) (krate : CrateRecord) → slice_get crates place ≡ Some krate → UncheckedIs graph choice own include krate (cause_at causes place))
+      → AllByRecursion (λ (id : List ℕ). Selected graph choice include id) (ids_in (checked_among crates causes))
+  none_selected [] [] counted each = tt
+  none_selected (cause ∷ causes) [] counted each = absurd (omega (arith, counted))
+  none_selected [] (krate ∷ crates) counted each = tt
+  none_selected (Some cause ∷ causes) (krate ∷ crates) counted each = none_selected causes crates (omega (arith, counted)) (λ place one is. each (suc place) one is)
+  none_selected (None ∷ causes) (krate ∷ crates) counted each = (each 0 krate refl, none_selected causes crates (omega (arith, counted)) (λ place one is. each (suc place) one is))

@@ -1,5 +1,5 @@
 -- What the steps of a run for `why` answer. Only the contracts of private calls cite it.
-use Rattle.std.specs.Prelude.{◌≡◌, ◌⊎◌, ℕ, suc, ◌<◌, Bool, true, false, not, ◌&&◌, List, [], ◌∷◌, ◌++◌, length, map, slice_get}
+use Rattle.std.specs.Prelude.{◌≡◌, ◌⊎◌, ℕ, suc, ◌-◌, ◌<◌, take, Bool, true, false, not, ◌&&◌, List, [], ◌∷◌, ◌++◌, length, map, slice_get}
 use Rattle.std.specs.Prelude.{slice_index_or, All, Option, Some, None, option_map, unwrap_or, is_none, if◌then◌else◌}
 use Rattle.std.specs.Prelude.{Result, Ok, Err}
 use Rattle.std.specs.List.{filter_map, flat_map}
@@ -15,7 +15,7 @@ use Rattle.graph_core.specs.selection.Choice.{choice_of}
 use Rattle.graph_core.specs.selection.Places.{standings_in}
 use Rattle.graph_core.specs.selection.Roots.{crates_of}
 use Rattle.graph_walk.specs.declared.unchecked.Unchecked.{Unchecked}
-use Rattle.graph_walk.specs.Shortest.{before_end, kind_left_out, walk_at}
+use Rattle.graph_walk.specs.Shortest.{kind_left_out, walk_at}
 use Rattle.graph_walk.specs.Unchecked.{AreSelecting, UncheckedIs, unchecked_text}
 use Rattle.graph_core.specs.declared.edge.DepKind.{DepKind}
 use Rattle.graph_core.specs.declared.edge.DepKind.TheVariants.{Normal, Dev, Build}
@@ -87,6 +87,10 @@ walks_by told (Some Build) = told.walks.without_build
 abbrev pub followed : GraphTold → List (Option (List ℕ))
 followed told = walks_by told (kind_left_out told.include)
 
+-- the places of a walk before the one that it leads to
+abbrev pub before_last : List ℕ → List ℕ
+before_last places = take (length places - 1) places
+
 -- the titles at some places
 abbrev pub copied_titles : List CrateTitle → List ℕ → List CrateTitle
 copied_titles titles places = filter_map (title_at titles) places
@@ -94,7 +98,7 @@ copied_titles titles places = filter_map (title_at titles) places
 -- of the shortest walk that leads to a crate, without itself
 abbrev pub needed_titles : GraphTold → ℕ → List CrateTitle
 needed_titles told place =
-    option_map_or (λ walk. copied_titles told.titles (before_end walk)) (walk_at (followed told) place) []
+    option_map_or (λ walk. copied_titles told.titles (before_last walk)) (walk_at (followed told) place) []
 
 -- ---- the texts
 
