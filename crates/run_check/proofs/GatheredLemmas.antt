@@ -106,9 +106,10 @@ turns_told policy [] [] last verdicts each are = tt
 turns_told policy [] (license ∷ licenses) last verdicts each are = absurd each
 turns_told policy (own ∷ turns) [] last verdicts each are = absurd each
 turns_told policy (own ∷ turns) (license ∷ licenses) last [] each are = absurd are
-turns_told policy (own ∷ turns) (license ∷ licenses) last (verdict ∷ verdicts) each are =
-    (record { expression = ap expression_of each.0.turn.info; notes = each.0.turn.noted; reads = each.0.turn.read; place = ap license_place each.0.turn.info; exceptions = each.0.turn.counted; kept = each.0.turn.kept },
-    turns_told policy turns licenses last verdicts each.1 are.1)
+turns_told policy (own ∷ turns) (license ∷ licenses) last (verdict ∷ verdicts) each are = (
+  record { expression = ap expression_of each.0.turn.info; notes = each.0.turn.noted; reads = each.0.turn.read; place = ap license_place each.0.turn.info; exceptions = each.0.turn.counted; kept = each.0.turn.kept },
+  turns_told policy turns licenses last verdicts each.1 are.1,
+)
 
 module _ (given : CommandArguments) (policy : ValidConfig) where
   abbrev scanner : Scanner

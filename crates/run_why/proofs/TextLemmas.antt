@@ -249,9 +249,11 @@ module _ (telling : Telling) (words : List (List ℕ)) (asked : AskedMetadata) (
     -- at the id of a crate is the crate, and its title is told
     title_on : (place : ℕ) → place < length graph.nodes → (krate : CrateRecord) × (title_at telling.told.now.titles place ≡ Some (title_of krate)) × (crate_with graph (id_of_node graph place) ≡ Some krate)
     title_on place within =
-        let there = at_within crates place (subst (λ n. place < n) (sym (length-map graph.nodes (λ (node : CrateNode). node.krate))) within) in
-        (there.0, title_is place there.0 there.1,
-        ap (crate_with graph) (id_is place there.0 there.1) ∙ first_with graph.nodes place there.0 rising there.1)
+        let there = at_within crates place (subst (λ n. place < n) (sym (length-map graph.nodes (λ (node : CrateNode). node.krate))) within) in (
+          there.0,
+          title_is place there.0 there.1,
+          ap (crate_with graph) (id_is place there.0 there.1) ∙ first_with graph.nodes place there.0 rising there.1,
+        )
 
     titles_on : (places : List ℕ) → AllByRecursion (λ place. place < length graph.nodes) places
         → copied_titles telling.told.now.titles places ≡ titles_of (crates_with graph (map (id_of_node graph) places))

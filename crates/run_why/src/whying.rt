@@ -17,9 +17,7 @@ use diag_core::Files;
 use diag_print::LogContext;
 use graph_workspace::{Include, UnsupportedPart};
 use run_check::{Report, judged_of, reads_of_reports};
-use run_command::{
-    PolicyUse, crates_of, metadata_found, no_levels, unsupported_in, write_answer,
-};
+use run_command::{PolicyUse, crates_of, metadata_found, no_levels, unsupported_in, write_answer};
 use run_found::{CrateReads, Error};
 use run_request::KrateContext;
 use spdx_core::{Catalog, Identifier};

@@ -6,7 +6,8 @@ use check_verify::{NoReason, VerifyAnswer, verify};
 use deny_text::{Steps, Texts};
 use diag_core::Notes;
 use gather_core::{
-    Diags, KeptFiles, KrateLicense, KrateLicenses, LicenseExprInfo, LicenseExprSource, LicenseInfo, Summary,
+    Diags, KeptFiles, KrateLicense, KrateLicenses, LicenseExprInfo, LicenseExprSource, LicenseInfo,
+    Summary,
 };
 use graph_core::Krate;
 use policy_core::valid::{CountedPolicy, ValidConfig};
