@@ -103,7 +103,7 @@ id_at (node ∷ nodes) zero krate is = same_id node.krate krate is
     same_id one other e = cc
 id_at (node ∷ nodes) (suc place) krate is = id_at nodes place krate is
 
-at_within : {A : Type 0} (xs : List A) (place : ℕ) → place < length xs → (x : A) × (slice_get xs place ≡ Some x)
+pub at_within : {A : Type 0} (xs : List A) (place : ℕ) → place < length xs → (x : A) × (slice_get xs place ≡ Some x)
 at_within [] place within = absurd (omega arith)
 at_within (x ∷ xs) zero within = (x, refl)
 at_within (x ∷ xs) (suc place) within = at_within xs place (omega arith)

@@ -1,5 +1,15 @@
 -- The steps of a run for `why`, and its ends.
-use Rattle.std.proofs.Common.{◌≡◌, inl, inr, subst, sym, ℕ, List, Result, Ok, Err, IfErr}
+use Rattle.std.proofs.Common.{◌≡◌, inl, inr, refl, subst, sym, ap, ℕ, List, [], ◌∷◌, map, Result, Ok, Err, IfErr}
+use Rattle.std.specs.List.{AllByRecursion, AllZip}
+use Rattle.diag_core.specs.File.{File}
+use Rattle.gather_license.specs.expression.Scanned.{Scanner}
+use Rattle.gather_license.specs.files.KnownReads.{known_reads_by}
+use Rattle.gather_core.specs.Calls.{CrateTurn, HasOwnReads, ReadsOfCrate, turn_by, turns_of}
+use Rattle.gather_core.specs.Rules.{GatherRules}
+use Rattle.gather_core.specs.Turns.{files_behind}
+use Rattle.check_core.specs.declared.report.CrateReport.{CrateReport}
+use Rattle.run_check.specs.Report.{TellsSource, TellsTurn}
+use Rattle.run_why.proofs.TextLemmas.{IsTold, krate_of_turn}
 use Rattle.tree_core.specs.texts.Cause.{ReadCounts}
 use Rattle.run_found.specs.declared.error.Error.{Error}
 use Rattle.run_found.specs.declared.error.Error.TheVariants.{Memory}
@@ -44,12 +54,12 @@ put_counts found out (Err error) (inr cut) begun before after = write_counts out
 -- ---- what is found
 
 -- by the reads of its own crate, and what the command identifies texts by
-turns_known : (scanner : Scanner) (all : GatherRules) (files : List File) (crates : List ReadsOfCrate)
+pub turns_known : (scanner : Scanner) (all : GatherRules) (files : List File) (crates : List ReadsOfCrate)
     → AllByRecursion (λ (own : CrateTurn). (own.turn.known_reads ≡ known_reads_by own.reads) × (own.turn.scanner ≡ scanner)) (turns_of scanner all files crates)
 turns_known scanner all files [] = tt
 turns_known scanner all files (one ∷ crates) = ((refl, refl), turns_known scanner all (files_behind (turn_by scanner all files one).turn) crates)
 
-all_told : (scanner : Scanner) (turns : List CrateTurn) (reports : List CrateReport) → AllZip TellsTurn turns reports → AllZip TellsSource turns reports → AllByRecursion HasOwnReads turns
+pub all_told : (scanner : Scanner) (turns : List CrateTurn) (reports : List CrateReport) → AllZip TellsTurn turns reports → AllZip TellsSource turns reports → AllByRecursion HasOwnReads turns
     → AllByRecursion (λ (own : CrateTurn). (own.turn.known_reads ≡ known_reads_by own.reads) × (own.turn.scanner ≡ scanner)) turns → AllZip (IsTold scanner) turns reports
 all_told scanner [] [] told source own known = tt
 all_told scanner [] (report ∷ reports) told source own known = absurd told
@@ -59,13 +69,8 @@ all_told scanner (one ∷ turns) (report ∷ reports) told source own known = (
   all_told scanner turns reports told.1 source.1 own.1 known.1,
 )
 
--- the crates that are not unchecked are those that are selected
-module _ (graph : Graph) (rising : AreRising (ids_of graph)) (choice : Choice) (own : ℕ) (include : Include) where
-  none_selected : (causes : List (Option Unchecked)) (crates : List CrateRecord) → length causes ≡ length crates
-      → ((place : ℕ) (krate : CrateRecord) → slice_get crates place ≡ Some krate → UncheckedIs graph choice own include krate (cause_at causes place))
-      → AllByRecursion (λ (id : List ℕ). Selected graph choice include id) (ids_in (checked_among crates causes))
-  none_selected [] [] counted each = tt
-  none_selected (cause ∷ causes) [] counted each = absurd (omega (arith, counted))
-  none_selected [] (krate ∷ crates) counted each = tt
-  none_selected (Some cause ∷ causes) (krate ∷ crates) counted each = none_selected causes crates (omega (arith, counted)) (λ place one is. each (suc place) one is)
-  none_selected (None ∷ causes) (krate ∷ crates) counted each = (each 0 krate refl, none_selected causes crates (omega (arith, counted)) (λ place one is. each (suc place) one is))
+-- each crate has its turn
+pub krates_turned : (scanner : Scanner) (all : GatherRules) (files : List File) (crates : List ReadsOfCrate)
+    → map krate_of_turn (turns_of scanner all files crates) ≡ map (λ (one : ReadsOfCrate). one.krate) crates
+krates_turned scanner all files [] = refl
+krates_turned scanner all files (one ∷ crates) = ap (λ rest. one.krate ∷ rest) (krates_turned scanner all (files_behind (turn_by scanner all files one).turn) crates)
