@@ -54,7 +54,7 @@ gather_cut scanner policy tree files last graph choice licenses gathered = recor
 -- ---- behind the metadata
 
 -- a refusal of what is carried is none of what is not
-pub carried_error : {X : Type 0} (context : KrateContext) (exclude : List (List ℕ)) (error : KratesError) → unsupported_part context exclude ≡ None → IsRefused {X} context exclude (Err error) → IsCarried error
+pub carried_error : {X : Type 0} (context : KrateContext) (exclude : List (List ℕ)) (error : KratesError) → unsupported_part context exclude ≡ None → IsRefused {X = X} context exclude (Err error) → IsCarried error
 carried_error {X = X} context exclude krates.Memory carried refused = tt
 carried_error {X = X} context exclude (krates.NotCarried what) carried refused = apart (sym carried ∙ (refused what).0 refl)
   where

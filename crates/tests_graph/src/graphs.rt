@@ -206,7 +206,10 @@ fn put_walk(
     match &walks.walk_to(alloc, place) {
         Ok(Some(places)) => {
             for place in places {
-                out.put(crates[*place].id.as_str());
+                match crates.get(*place) {
+                    Some(krate) => out.put(krate.id.as_str()),
+                    None => out.put("no such crate"),
+                }
             }
         }
         Ok(None) => out.put("-"),
