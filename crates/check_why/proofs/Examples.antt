@@ -1,5 +1,7 @@
 -- Computed examples: each row holds as it is there.
 use Rattle.std.proofs.Common.{◌≡◌, ℕ, List, [], ◌∷◌, ◌++◌, codes, Some, None, refl}
+use Rattle.std.specs.Fmt.{char_count, digits, padded_integral}
+use Rattle.json.specs.Print.{escape_byte}
 use Rattle.tree_core.specs.declared.reads.ReadKind.TheVariants.{Manifest, Listing}
 use Rattle.tree_core.specs.file_reads.Heard.{absent, not_utf8, wrong_kind}
 use Rattle.check_why.specs.declared.answer.Asking.TheVariants.{Clarification, Exception}
@@ -84,9 +86,11 @@ needed_by_two : needed_text (globe ∷ pages ∷ []) ≡ codes "globe 1.0.0 > pa
 needed_by_two = refl
 
 known_text : read_line (record { path = codes "/p/LICENSE"; said = said.Known (codes "MIT") 100 }) ≡ codes "  read: /p/LICENSE (MIT, 100)\n"
+unfolding digits
 known_text = refl
 
 unknown_text : read_line (record { path = codes "/p/TERMS"; said = said.Unknown 0 }) ≡ codes "  read: /p/TERMS (no known text, 0)\n"
+unfolding digits
 unknown_text = refl
 
 folder_there : read_line (record { path = codes "/p/LICENSE"; said = said.Folder }) ≡ codes "  read: /p/LICENSE (a folder)\n"
@@ -98,6 +102,7 @@ wrong_hash : unmet_line (record {
   path = codes "TERMS";
   by = by.Hash 489429786 4220868196;
 }) ≡ codes "  clarification at /project/deny.toml:9:3 does not hold: TERMS has hash 0x1d2c1b1a, and 0xfb955664 is wanted\n"
+unfolding padded_integral digits char_count
 wrong_hash = refl
 
 absent_file : unmet_line (record { asking = Exception; place = codes "e:1:1"; path = codes "COPYING"; by = by.NotThere })
@@ -115,11 +120,13 @@ object_of_globe : answer_object globe_answer
     ++ codes "\"terms\":[{\"hit\":\"allowed\",\"place\":\"/project/deny.toml:3:11\",\"text\":\"MIT\"},"
     ++ codes "{\"hit\":\"none\",\"place\":null,\"text\":\"Apache-2.0\"},{\"hit\":\"none\",\"place\":null,\"text\":\"GPL-2.0-only\"}],"
     ++ codes "\"unmet\":[],\"verdict\":\"rejected\",\"version\":\"1.0.0\"}\n"
+unfolding escape_byte digits
 object_of_globe = refl
 
 object_of_pages : unchecked_object pages (codes "only dev-dependencies lead to it")
     ≡ codes "{\"because\":\"only dev-dependencies lead to it\",\"id\":\"pages 0.2.0\",\"name\":\"pages\","
     ++ codes "\"verdict\":\"not checked\",\"version\":\"0.2.0\"}\n"
+unfolding escape_byte
 object_of_pages = refl
 
 -- ---- what came of a read

@@ -2,4 +2,5 @@ mod Examples
 pub mod InsideLemmas
 mod LawLemmas
 pub mod MadeLemmas
+mod PlaceLemmas
 mod UnmetLemmas

@@ -47,21 +47,24 @@ found_same path (first ∷ paths) other e =
     the_same : (x y : List ℕ) → ◌≡◌ {A = Option (List ℕ)} (Some x) (Some y) → y ≡ x
     the_same x y same = cc
 
+-- the first of two is no such file, and so are the others
+not_first : (same : Bool) (path : List ℕ) (rest : Option (List ℕ)) (heard more : ReadResult) → (rest ≡ None → more ≡ absent) → cond same (Some path) rest ≡ None → cond same heard more ≡ absent
+not_first true path rest heard more others none = cc
+not_first false path rest heard more others none = others none
+
 -- where none is found among those that were read, nothing is there
 none_heard : (path : List ℕ) (reads : List AnsweredRead) → find (same_path path) (paths_read (records_of_reads reads)) ≡ None → first_heard (is_read LicenseFile (components_of path)) reads ≡ absent
 none_heard path [] e = refl
 none_heard path (read ∷ reads) e =
+    let others = none_heard path reads in
     elim (is_kind LicenseFile read.recorded.kind)
     as (λ b. find (same_path path) (cons_option (cond b (Some read.recorded.path) None) (paths_read (records_of_reads reads))) ≡ None
     → cond (b && same_path path read.recorded.path) (read_heard read) (first_heard (is_read LicenseFile (components_of path)) reads) ≡ absent) [
-      | true ↦ λ none. at_file (same_path path read.recorded.path) none
-      | false ↦ λ none. none_heard path reads none
+      | true ↦ λ none.
+          not_first (same_path path read.recorded.path) read.recorded.path (find (same_path path) (paths_read (records_of_reads reads))) (read_heard read)
+          (first_heard (is_read LicenseFile (components_of path)) reads) others none
+      | false ↦ λ none. others none
     ] e
-  where
-    at_file : (same : Bool) → cond same (Some read.recorded.path) (find (same_path path) (paths_read (records_of_reads reads))) ≡ None
-        → cond same (read_heard read) (first_heard (is_read LicenseFile (components_of path)) reads) ≡ absent
-    at_file true none = cc
-    at_file false none = none_heard path reads none
 
 -- ---- one file
 

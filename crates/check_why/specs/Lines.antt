@@ -113,17 +113,21 @@ abbrev pub asking_word : Asking → List ℕ
 asking_word Clarification = codes "clarification"
 asking_word Exception = codes "exception"
 
+abbrev pub hash_word : ℕ → List ℕ
+hash_word hash = codes "0x" ++ hash_text hash
+
 abbrev pub unmatched_text : Unmatched → List ℕ
 unmatched_text (by.Hash found wanted) =
-    codes " has hash 0x" ++ hash_text found ++ codes ", and 0x" ++ hash_text wanted ++ codes " is wanted"
+    codes " has hash " ++ hash_word found ++ codes ", and " ++ hash_word wanted ++ codes " is wanted"
 unmatched_text by.NotThere = codes " is not there"
 unmatched_text by.NoText = codes " is no text"
 unmatched_text by.Failed = codes " could not be read"
 
+abbrev pub unmet_head : UnmetAnswer → List ℕ
+unmet_head one = asking_word one.asking ++ codes " at " ++ one.place ++ codes " does not hold: "
+
 abbrev pub unmet_line : UnmetAnswer → List ℕ
-unmet_line one =
-    line (asking_word one.asking ++ codes " at " ++ one.place ++ codes " does not hold: " ++ one.path
-    ++ unmatched_text one.by)
+unmet_line one = line (unmet_head one ++ one.path ++ unmatched_text one.by)
 
 -- ---- all lines
 
@@ -132,12 +136,21 @@ abbrev pub head_lines : CrateTitle → List ℕ → List ℕ
 head_lines title word =
     flat_text (title_text title) ++ codes "\n" ++ line (codes "id: " ++ title.id) ++ line (codes "verdict: " ++ word)
 
+-- the verdict, and what it rests on
+abbrev pub verdict_lines : CrateAnswer → List ℕ
+verdict_lines one =
+    head_lines one.title (verdict_word one.verdict) ++ license_lines one.license ++ flat_map term_line one.terms
+    ++ certificate_lines one.terms one.verdict
+
+-- what is behind that
+abbrev pub rest_lines : CrateAnswer → List ℕ
+rest_lines one =
+    line (codes "needed by: " ++ needed_text one.needed_by) ++ flat_map read_line one.reads
+    ++ flat_map unmet_line one.unmet ++ flat_map note_line one.notes
+
 -- of a crate that is checked
 abbrev pub answer_lines : CrateAnswer → List ℕ
-answer_lines one =
-    head_lines one.title (verdict_word one.verdict) ++ license_lines one.license ++ flat_map term_line one.terms
-    ++ certificate_lines one.terms one.verdict ++ line (codes "needed by: " ++ needed_text one.needed_by)
-    ++ flat_map read_line one.reads ++ flat_map unmet_line one.unmet ++ flat_map note_line one.notes
+answer_lines one = verdict_lines one ++ rest_lines one
 
 -- of one that is not, and why
 abbrev pub unchecked_lines : CrateTitle → List ℕ → List ℕ

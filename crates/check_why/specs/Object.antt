@@ -3,7 +3,6 @@ use Rattle.std.specs.Prelude.{ℕ, List, [], ◌++◌, Option, Some, None, codes
 use Rattle.serde_json.specs.Data.{Data, null, number, unsigned, string, array, object, member, no_members}
 use Rattle.serde_json.specs.View.{items_of}
 use Rattle.serde_json.specs.Written.{compact_text}
-use Rattle.diag_core.specs.texts.Manifest.{hash_text}
 use Rattle.check_why.specs.declared.answer.CrateAnswer.{CrateAnswer}
 use Rattle.check_why.specs.declared.answer.CrateTitle.{CrateTitle}
 use Rattle.check_why.specs.declared.answer.LicenseAnswer.{LicenseAnswer}
@@ -18,7 +17,7 @@ use Rattle.check_why.specs.declared.answer.Unmatched.TheVariants as by
 use Rattle.check_why.specs.declared.answer.UnmetAnswer.{UnmetAnswer}
 use Rattle.check_why.specs.declared.answer.VerdictAnswer.{VerdictAnswer}
 use Rattle.check_why.specs.declared.answer.VerdictAnswer.TheVariants as verdict
-use Rattle.check_why.specs.Lines.{asking_word, verdict_word}
+use Rattle.check_why.specs.Lines.{asking_word, hash_word, verdict_word}
 
 -- a list, number by number, and text by text
 abbrev pub numbers_data : List ℕ → Data
@@ -100,7 +99,7 @@ reason_word by.NoText = codes "no text"
 reason_word by.Failed = codes "could not be read"
 
 abbrev pub hash_data : ℕ → Data
-hash_data hash = string (codes "0x" ++ hash_text hash)
+hash_data hash = string (hash_word hash)
 
 abbrev pub found_data : Unmatched → Data
 found_data (by.Hash found wanted) = hash_data found

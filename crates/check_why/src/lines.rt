@@ -1,5 +1,5 @@
 //! What is said of a crate, in lines for a person.
-ghost use Rattle.std.specs.Prelude.{◌≡◌, ◌++◌, IfOk, OnOk, codes, string_bytes};
+ghost use Rattle.std.specs.Prelude.{◌≡◌, ◌++◌, IfOk, OnOk, codes, decimal, string_bytes};
 ghost use Rattle.std.specs.List.{flat_map};
 ghost use Rattle.graph_core.specs.Krate as graph;
 ghost use Rattle.diag_print.specs.Human.{note_line};
@@ -63,6 +63,23 @@ fn push_head(
     push_line(out, verdict.as_str())
 }
 
+/// Appends the line of where an expression comes from.
+fn push_from(out: &mut String, alloc: Global, license: &LicenseAnswer) -> Result<(), AllocError>
+    ensures { OnOk result (string_bytes out.new ≡ string_bytes out.old
+        ++ spec.line (codes "from: " ++ license.now.source ++ codes ", " ++ license.now.place)) }
+{
+    let from = format!(in alloc; "from: {}, {}", license.source, license.place)?;
+    push_line(out, from.as_str())
+}
+
+/// Appends the line of an expression.
+fn push_expression(out: &mut String, alloc: Global, text: &Text) -> Result<(), AllocError>
+    ensures { OnOk result (string_bytes out.new ≡ string_bytes out.old ++ spec.line (codes "license: " ++ text.now)) }
+{
+    let line = format!(in alloc; "license: {text}")?;
+    push_line(out, line.as_str())
+}
+
 /// Appends the lines of the expression, where there is one.
 fn push_license(
     out: &mut String,
@@ -71,13 +88,13 @@ fn push_license(
 ) -> Result<(), AllocError>
     ensures { OnOk result (string_bytes out.new ≡ string_bytes out.old ++ spec.license_lines license.now) }
 {
-    if let Some(license) = license {
-        let text = format!(in alloc; "license: {}", license.text)?;
-        push_line(out, text.as_str())?;
-        let from = format!(in alloc; "from: {}, {}", license.source, license.place)?;
-        push_line(out, from.as_str())?;
+    match license {
+        Some(license) => {
+            push_expression(out, alloc, &license.text)?;
+            push_from(out, alloc, license)
+        }
+        None => Ok(()),
     }
-    Ok(())
 }
 
 /// What allows a term, with its place.
@@ -224,13 +241,21 @@ fn push_needed(out: &mut String, alloc: Global, titles: &[CrateTitle]) -> Result
     push_line(out, text.as_str())
 }
 
+/// The name that is taken for a text, and its score.
+fn known_text(alloc: Global, name: &Text, score: u8) -> Result<String, AllocError>
+    ensures { IfOk result (λ text. string_bytes text
+        ≡ codes " (" ++ name.now ++ codes ", " ++ decimal score ++ codes ")") }
+{
+    format!(in alloc; " ({name}, {score})")
+}
+
 /// What came of a read, behind its path.
 fn said_text(alloc: Global, said: &ReadSaid) -> Result<String, AllocError>
     ensures { IfOk result (λ text. string_bytes text ≡ spec.said_text said.now) }
 {
     match said {
         ReadSaid::Read => Ok(String::new(alloc)),
-        ReadSaid::Known { name, score } => format!(in alloc; " ({name}, {score})"),
+        ReadSaid::Known { name, score } => known_text(alloc, name, *score),
         ReadSaid::Unknown { score } => format!(in alloc; " (no known text, {score})"),
         ReadSaid::NotThere => String::from_str(alloc, " (not there)"),
         ReadSaid::Folder => String::from_str(alloc, " (a folder)"),
@@ -268,27 +293,49 @@ pub(crate) fn asking_word(asking: Asking) -> &'static str
     }
 }
 
+/// A hash as it is written in a policy.
+fn hash_word(alloc: Global, hash: u32) -> Result<String, AllocError>
+    ensures { IfOk result (λ text. string_bytes text ≡ spec.hash_word hash) }
+{
+    format!(in alloc; "0x{hash:08x}")
+}
+
+/// That a file has another hash than the one that is wanted.
+fn hash_text(alloc: Global, found: u32, wanted: u32) -> Result<String, AllocError>
+    ensures { IfOk result (λ text. string_bytes text
+        ≡ codes " has hash " ++ spec.hash_word found ++ codes ", and " ++ spec.hash_word wanted ++ codes " is wanted") }
+{
+    let found = hash_word(alloc, found)?;
+    let wanted = hash_word(alloc, wanted)?;
+    format!(in alloc; " has hash {found}, and {wanted} is wanted")
+}
+
 /// Why a file does not match, behind its path.
 fn unmatched_text(alloc: Global, by: Unmatched) -> Result<String, AllocError>
     ensures { IfOk result (λ text. string_bytes text ≡ spec.unmatched_text by) }
 {
     match by {
-        Unmatched::Hash { found, wanted } => {
-            format!(in alloc; " has hash 0x{found:08x}, and 0x{wanted:08x} is wanted")
-        }
+        Unmatched::Hash { found, wanted } => hash_text(alloc, found, wanted),
         Unmatched::NotThere => String::from_str(alloc, " is not there"),
         Unmatched::NoText => String::from_str(alloc, " is no text"),
         Unmatched::Failed => String::from_str(alloc, " could not be read"),
     }
 }
 
+/// What does not hold, and where it names the crate.
+fn unmet_head(alloc: Global, one: &UnmetAnswer) -> Result<String, AllocError>
+    ensures { IfOk result (λ text. string_bytes text ≡ spec.unmet_head one.now) }
+{
+    let word = asking_word(one.asking);
+    format!(in alloc; "{word} at {} does not hold: ", one.place)
+}
+
 fn push_unmet_one(out: &mut String, alloc: Global, one: &UnmetAnswer) -> Result<(), AllocError>
     ensures { OnOk result (string_bytes out.new ≡ string_bytes out.old ++ spec.unmet_line one.now) }
 {
-    let word = asking_word(one.asking);
+    let head = unmet_head(alloc, one)?;
     let by = unmatched_text(alloc, one.by)?;
-    let (place, path) = (one.place.as_str(), one.path.as_path());
-    let text = format!(in alloc; "{word} at {place} does not hold: {path}{by}")?;
+    let text = format!(in alloc; "{head}{}{by}", one.path.as_path())?;
     push_line(out, text.as_str())
 }
 
@@ -313,18 +360,32 @@ fn push_notes(out: &mut String, notes: &[Text]) -> Result<(), AllocError>
     Ok(())
 }
 
-/// Appends all lines of a crate that is checked.
-pub fn push_lines(out: &mut String, alloc: Global, one: &CrateAnswer) -> Result<(), AllocError>
-    ensures { OnOk result (string_bytes out.new ≡ string_bytes out.old ++ spec.answer_lines one.now) }
+/// Appends the lines of the verdict, and of what it rests on.
+fn push_verdict(out: &mut String, alloc: Global, one: &CrateAnswer) -> Result<(), AllocError>
+    ensures { OnOk result (string_bytes out.new ≡ string_bytes out.old ++ spec.verdict_lines one.now) }
 {
     push_head(out, alloc, &one.title, verdict_word(&one.verdict))?;
     push_license(out, alloc, &one.license)?;
     push_terms(out, alloc, one.terms.items())?;
-    push_certificate(out, alloc, one.terms.items(), &one.verdict)?;
+    push_certificate(out, alloc, one.terms.items(), &one.verdict)
+}
+
+/// Appends the lines behind that.
+fn push_rest(out: &mut String, alloc: Global, one: &CrateAnswer) -> Result<(), AllocError>
+    ensures { OnOk result (string_bytes out.new ≡ string_bytes out.old ++ spec.rest_lines one.now) }
+{
     push_needed(out, alloc, one.needed_by.items())?;
     push_reads(out, alloc, one.reads.items())?;
     push_unmet(out, alloc, one.unmet.items())?;
     push_notes(out, one.notes.items())
+}
+
+/// Appends all lines of a crate that is checked.
+pub fn push_lines(out: &mut String, alloc: Global, one: &CrateAnswer) -> Result<(), AllocError>
+    ensures { OnOk result (string_bytes out.new ≡ string_bytes out.old ++ spec.answer_lines one.now) }
+{
+    push_verdict(out, alloc, one)?;
+    push_rest(out, alloc, one)
 }
 
 /// Appends all lines of a crate that is not checked.

@@ -67,9 +67,11 @@ contains_id : (crates : List CrateRecord) (id : List ℕ) → Contains (ids_in c
 contains_id crates id (k, below, is) =
     let within : k < length crates = subst (λ n. k < n) (length-map crates (λ (krate : CrateRecord). krate.id)) below in
     let there = at_within crates k within in
-    let got = get_or_from_slice_get crates k there.0 there.0 there.1 in
-    (there.0, subst (Contains crates) got (Contains-get_or crates k there.0 within),
-    sym (get_or_from_slice_get (ids_in crates) k there.0.id id (slice_get-map (λ (krate : CrateRecord). krate.id) crates k ∙ ap (option_map (λ (krate : CrateRecord). krate.id)) there.1)) ∙ is)
+    let got = get_or_from_slice_get crates k there.0 there.0 there.1 in (
+      there.0,
+      subst (Contains crates) got (Contains-get_or crates k there.0 within),
+      sym (get_or_from_slice_get (ids_in crates) k there.0.id id (slice_get-map (λ (krate : CrateRecord). krate.id) crates k ∙ ap (option_map (λ (krate : CrateRecord). krate.id)) there.1)) ∙ is,
+    )
 
 module _ (graph : Graph) (rising : AreRising (ids_of graph)) (choice : Choice) (own : ℕ) (include : Include) (causes : List (Option Unchecked)) (counted : length causes ≡ length (crates_of graph))
     (each : (place : ℕ) (krate : CrateRecord) → slice_get (crates_of graph) place ≡ Some krate → UncheckedIs graph choice own include krate (cause_at causes place)) where
