@@ -63,6 +63,14 @@ metadata "$top/examples/policy"
 compare policy-old "$top/examples/policy" "'$program' deny --metadata-path '$room/metadata.json' --config old.toml check licenses"
 compare policy-info "$top/examples/policy" "'$program' deny -L info --metadata-path '$room/metadata.json' check licenses"
 
+# What verdicts rest on: a rejected crate, and one whose clarification has the hash of another text.
+metadata "$top/examples/rejected"
+compare why "$top/examples/rejected" "'$program' deny --metadata-path '$room/metadata.json' why globe"
+folder="$room/files"
+cp -R "$top/examples/files" "$folder"
+metadata "$folder"
+compare why-hash "$folder" "sed -i s/any/each/ libs/coins/TERMS && '$program' deny --metadata-path '$room/metadata.json' why coins"
+
 # A bill, and whether it has changed under another policy.
 metadata "$top/examples/workspace"
 asks="'$program' --metadata-path '$room/metadata.json'"

@@ -66,7 +66,7 @@ in_file files file span part None points =
     record { source = points.source; is_source = points.is_source; ordered = points.cuts.ordered; starts = points.cuts.starts; ends = points.cuts.ends }
 in_file files file span part (Some whole) points = points.0
 
-pointing_lies : (files : List File) (nfo : LicenseExprInfo) (part : List ℕ) (label : Label) → LabelPoints files nfo part label → LabelLies files label
+pub pointing_lies : (files : List File) (nfo : LicenseExprInfo) (part : List ℕ) (label : Label) → LabelPoints files nfo part label → LabelLies files label
 pointing_lies files nfo part label points = lies_in files nfo.file_id label points.of_file (in_file files nfo.file_id label.range part nfo.whole points.points)
 
 -- ---- the labels of an expression

@@ -10,5 +10,5 @@ pub mod told;
 
 pub use pack::pack_of;
 pub use place::fits;
-pub use source::source_text;
+pub use source::{push_with_commas, source_text};
 pub use told::{finding, judged, skipped, unlicensed};

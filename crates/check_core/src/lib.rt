@@ -12,4 +12,4 @@ pub mod unused;
 
 pub use check::{CheckCtx, judge_all};
 pub use crate_check::{Checker, JudgedCrate};
-pub use report::{CrateReport, CrateReports};
+pub use report::{CrateReport, CrateReports, ExpressionPlace};

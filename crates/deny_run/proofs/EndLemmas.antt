@@ -3,7 +3,7 @@ use Rattle.std.proofs.Common.{◌≡◌, ◌∙◌, ◌⊎◌, inl, inr, refl, s
 use Rattle.std.specs.Prelude.{⊤}
 use Rattle.run_found.specs.declared.error.Error.{Error}
 use Rattle.deny_run.specs.declared.outcome.RunEnd.{RunEnd}
-use Rattle.deny_run.specs.declared.outcome.RunEnd.TheVariants.{Checked, Listed, Sampled, Recorded, Verified, Billed, Noticed, Shown, Usage, Refused}
+use Rattle.deny_run.specs.declared.outcome.RunEnd.TheVariants.{Checked, Listed, Sampled, Recorded, Verified, Billed, Noticed, Told, Shown, Usage, Refused}
 use Rattle.run_check.specs.declared.report.Report.{Report}
 use Rattle.deny_run.specs.Complete.{EndsAs}
 use Rattle.deny_run.specs.Ends.{HasLabels, as_end, end_of}
@@ -41,6 +41,9 @@ billed_apart value error e = absurd (cc)
 
 pub noticed_apart : IsNoRefusal Noticed
 noticed_apart value error e = absurd (cc)
+
+pub told_apart : IsNoRefusal Told
+told_apart value error e = absurd (cc)
 
 same_refusal : {error own : Error} → Refused own ≡ Refused error → own ≡ error
 same_refusal e = cc
@@ -87,6 +90,9 @@ billed_other value report e = absurd (cc)
 
 pub noticed_other : IsNoCheck Noticed
 noticed_other value report e = absurd (cc)
+
+pub told_other : IsNoCheck Told
+told_other value report e = absurd (cc)
 
 pub unchecked : {X : Type 0} (end_by : X → RunEnd) → IsNoCheck end_by → (value : Result X Error) (report : Report) → end_of (as_end end_by value) ≡ Checked report → ⊥
 unchecked {X} end_by apart (Ok value) report e = apart value report e

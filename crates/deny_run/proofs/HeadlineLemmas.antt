@@ -7,7 +7,7 @@ use Rattle.diag_stats.specs.ExitCode.{has_errors}
 use Rattle.run_request.specs.declared.check.CheckArgs.{CheckArgs}
 use Rattle.run_request.specs.declared.request.Request.{Request}
 use Rattle.run_request.specs.declared.request.Subcommand.{Subcommand}
-use Rattle.run_request.specs.declared.request.Subcommand.TheVariants.{Check, List as Listing, Sample, Record, Verify, Bill, Notice}
+use Rattle.run_request.specs.declared.request.Subcommand.TheVariants.{Check, List as Listing, Sample, Record, Verify, Bill, Notice, Why}
 use Rattle.run_overrides.specs.Levels.{HasNoOverrides}
 use Rattle.run_found.specs.declared.error.Error.{Error}
 use Rattle.run_found.specs.Hearing.{RequestHearing, TreeSeen}
@@ -25,7 +25,7 @@ use Rattle.run_check.specs.Script.{WritesCheck}
 use Rattle.run_check.proofs.HeadlineLemmas.{headline_read}
 use Rattle.deny_run.specs.declared.outcome.Outcome.{Outcome}
 use Rattle.deny_run.specs.declared.outcome.RunEnd.{RunEnd}
-use Rattle.deny_run.specs.declared.outcome.RunEnd.TheVariants.{Checked, Listed, Sampled, Recorded, Verified, Billed, Noticed, Shown, Usage}
+use Rattle.deny_run.specs.declared.outcome.RunEnd.TheVariants.{Checked, Listed, Sampled, Recorded, Verified, Billed, Noticed, Told, Shown, Usage}
 use Rattle.deny_run.specs.Check.{Checks, refused, reported}
 use Rattle.deny_run.specs.Ends.{Answers, AnswersOf, IsOutcome, end_of}
 use Rattle.deny_run.specs.Given.{RunArguments, asked_of}
@@ -33,7 +33,7 @@ use Rattle.deny_run.specs.Headline.{AsksCheck, HasVerdictsIn, HasVerdictsRead, H
 use Rattle.deny_run.specs.Run.{exit_status}
 use Rattle.deny_run.specs.Seen.{RunSeen, sink_to}
 use Rattle.deny_run.specs.Words.{AnswersNone, lost, mistaken, shown, unshown}
-use Rattle.deny_run.proofs.EndLemmas.{billed_other, checked_as, listed_other, noticed_other, recorded_other, sampled_other, unchecked, verified_other}
+use Rattle.deny_run.proofs.EndLemmas.{billed_other, checked_as, listed_other, noticed_other, recorded_other, sampled_other, told_other, unchecked, verified_other}
 
 -- ---- a check
 
@@ -117,6 +117,7 @@ module _ (given : RunArguments) (seen : RunSeen) (outcome : Outcome) (is : IsOut
       by_command (Verify path) command_is runs = absurd (unchecked Verified verified_other runs.value report (sym (ap end_of runs.is) ∙ e))
       by_command (Bill args) command_is runs = absurd (unchecked Billed billed_other runs.value report (sym (ap end_of runs.is) ∙ e))
       by_command Notice command_is runs = absurd (unchecked Noticed noticed_other runs.value report (sym (ap end_of runs.is) ∙ e))
+      by_command (Why words) command_is runs = absurd (unchecked Told told_other runs.value report (sym (ap end_of runs.is) ∙ e))
 
   check_of : (report : Report) → outcome.ended ≡ Checked report → IsCheckOf given outcome seen.tree report
   check_of report e = by_answer outcome.request refl is.answers report (sym is.is ∙ e)

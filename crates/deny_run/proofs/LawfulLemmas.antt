@@ -9,7 +9,7 @@ use Rattle.spdx_terms.specs.declared.catalog.identifier.Match.{Match}
 use Rattle.run_request.specs.declared.list.ListArgs.{ListArgs}
 use Rattle.run_request.specs.declared.request.Request.{Request}
 use Rattle.run_request.specs.declared.request.Subcommand.{Subcommand}
-use Rattle.run_request.specs.declared.request.Subcommand.TheVariants.{Check, List as Listing, Sample, Record, Verify, Bill, Notice}
+use Rattle.run_request.specs.declared.request.Subcommand.TheVariants.{Check, List as Listing, Sample, Record, Verify, Bill, Notice, Why}
 use Rattle.run_found.specs.declared.error.Error.{Error}
 use Rattle.run_found.specs.declared.error.Error.TheVariants.{Memory}
 use Rattle.run_found.specs.declared.reads.CrateRead.{CrateRead}
@@ -29,10 +29,10 @@ use Rattle.run_list.specs.Listing.{IsListing}
 use Rattle.run_record.specs.Recorded.{IsRecorded, file_in, reads_in}
 use Rattle.deny_run.specs.declared.outcome.Outcome.{Outcome}
 use Rattle.deny_run.specs.declared.outcome.RunEnd.{RunEnd}
-use Rattle.deny_run.specs.declared.outcome.RunEnd.TheVariants.{Checked, Listed, Recorded, Verified, Billed, Noticed}
+use Rattle.deny_run.specs.declared.outcome.RunEnd.TheVariants.{Checked, Listed, Recorded, Verified, Billed, Noticed, Told}
 use Rattle.deny_run.specs.Check.{Checks}
-use Rattle.deny_run.specs.Complete.{AsksCommand, EndsAs, EndsLawful, IsComplete, IsWanting, MayEndBill, MayEndNotice, MayEndVerify}
-use Rattle.deny_run.specs.Ends.{Answers, AnswersOf, BillsAs, Ends, IsOutcome, ListsAs, NoticesAs, RecordsAs, RunsByTexts, VerifiesAs, end_of}
+use Rattle.deny_run.specs.Complete.{AsksCommand, EndsAs, EndsLawful, IsComplete, IsWanting, MayEndBill, MayEndNotice, MayEndVerify, MayEndWhy}
+use Rattle.deny_run.specs.Ends.{Answers, AnswersOf, BillsAs, Ends, IsOutcome, ListsAs, NoticesAs, RecordsAs, RunsByTexts, TellsAs, VerifiesAs, end_of}
 use Rattle.deny_run.specs.Given.{RunArguments, asked_of, options_of}
 use Rattle.deny_run.specs.Seen.{IsWithoutFault, RunSeen, sink_to}
 use Rattle.deny_run.specs.Words.{HasRequest}
@@ -42,6 +42,7 @@ use Rattle.deny_run.proofs.EndLemmas.{EndsBy, ends_as}
 use Rattle.deny_run.proofs.NoticeLemmas.{notice_wanting, notices_lawful, notices_made}
 use Rattle.deny_run.proofs.RunLemmas.{lists_made, records_made}
 use Rattle.deny_run.proofs.VerifyLemmas.{verifies_lawful, verifies_made, verify_wanting}
+use Rattle.deny_run.proofs.WhyLemmas.{tells_lawful, tells_made, why_wanting}
 use Rattle.deny_run.proofs.WordLemmas.{none_answered, same_request}
 
 -- what is lawful, by what was read or by a content
@@ -103,6 +104,9 @@ module _ (lists : CatalogLists) (match_of : List ℕ → Match) (text_of : List 
   request_lawful Notice runs options is lawful =
       run_lawful Noticed _ NoticesAs seen answer runs MayEndNotice notice_wanting (λ lists own rest is_done. notices_made lists.texts.text_of own rest seen.err seen.out runs.value is_done)
       (λ lists own rest apart is_done. notices_lawful lists.texts.text_of own rest seen.err seen.out apart out_quiet err_quiet runs.value is_done) (at_options _ options is lawful)
+  request_lawful (Why words) runs options is lawful =
+      run_lawful Told _ (λ out err lists. TellsAs words out err) seen answer runs MayEndWhy why_wanting (λ lists own rest is_done. tells_made (record { command = own; words = words }) rest seen.err seen.out runs.value is_done)
+      (λ lists own rest apart is_done. tells_lawful (record { command = own; words = words }) rest seen.err seen.out apart out_quiet err_quiet runs.value is_done) (at_options _ options is lawful)
 
 -- ---- a run
 
@@ -118,6 +122,7 @@ lost_lawful Record answer is = lost_as Recorded IsWanting tt answer is
 lost_lawful (Verify path) answer is = lost_as Verified MayEndVerify tt answer is
 lost_lawful (Bill args) answer is = lost_as Billed MayEndBill tt answer is
 lost_lawful Notice answer is = lost_as Noticed MayEndNotice tt answer is
+lost_lawful (Why words) answer is = lost_as Told MayEndWhy tt answer is
 
 module _ (given : RunArguments) (seen : RunSeen) (outcome : Outcome) (is : IsOutcome given seen outcome.request outcome.ended) where
   abbrev first : RunSeen

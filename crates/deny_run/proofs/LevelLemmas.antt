@@ -99,7 +99,7 @@ module _ (given : CommandArguments) (level : LevelFilter) (found : RequestHearin
     }
 
     is_report_as : IsReport given found report → IsReport other found report
-    is_report_as own = record { verdicts = verdicts_as own.verdicts; own = own.own; sources = own.sources; tells = own.tells }
+    is_report_as own = record { verdicts = verdicts_as own.verdicts; own = own.own; sources = own.sources; turns = own.turns; tells = own.tells }
 
 pub level_law : LevelChangesNoReport
 level_law given level tree hearing had report ran is = (

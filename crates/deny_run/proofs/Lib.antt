@@ -9,5 +9,6 @@ pub mod OutcomeLemmas
 pub mod RunLemmas
 pub mod SummaryLemmas
 pub mod VerifyLemmas
+pub mod WhyLemmas
 pub mod WordLemmas
 pub mod YesLemmas

@@ -10,7 +10,7 @@ use Rattle.spdx_terms.specs.declared.catalog.identifier.Match.{Match}
 use Rattle.run_request.specs.declared.list.ListArgs.{ListArgs}
 use Rattle.run_request.specs.declared.request.Request.{Request}
 use Rattle.run_request.specs.declared.request.Subcommand.{Subcommand}
-use Rattle.run_request.specs.declared.request.Subcommand.TheVariants.{Check, List as Listing, Sample, Record, Verify, Bill, Notice}
+use Rattle.run_request.specs.declared.request.Subcommand.TheVariants.{Check, List as Listing, Sample, Record, Verify, Bill, Notice, Why}
 use Rattle.run_found.specs.declared.error.Error.{Error}
 use Rattle.run_found.specs.declared.error.Error.TheVariants.{ConfigRead, Memory, NotCarried}
 use Rattle.run_found.specs.declared.reads.CrateRead.{CrateRead}
@@ -29,19 +29,20 @@ use Rattle.run_list.specs.Listing.{IsListing}
 use Rattle.run_record.specs.Recorded.{IsRecorded, file_in, reads_in}
 use Rattle.run_record.specs.declared.verdicts.VerifiedCrates.{VerifiedCrates}
 use Rattle.deny_run.specs.declared.outcome.RunEnd.{RunEnd}
-use Rattle.deny_run.specs.declared.outcome.RunEnd.TheVariants.{Checked, Listed, Sampled, Recorded, Verified, Billed, Noticed, Shown, Usage, Refused}
+use Rattle.deny_run.specs.declared.outcome.RunEnd.TheVariants.{Checked, Listed, Sampled, Recorded, Verified, Billed, Noticed, Told, Shown, Usage, Refused}
 use Rattle.deny_run.specs.Check.{Checks}
 use Rattle.deny_run.specs.Complete.{AsksCommand}
-use Rattle.deny_run.specs.Ends.{Answers, AnswersOf, BillsAs, IsEndBy, ListsAs, NoticesAs, RecordsAs, RunsByTexts, VerifiesAs, as_end, end_of}
+use Rattle.deny_run.specs.Ends.{Answers, AnswersOf, BillsAs, IsEndBy, ListsAs, NoticesAs, RecordsAs, RunsByTexts, TellsAs, VerifiesAs, as_end, end_of}
 use Rattle.deny_run.specs.Given.{RunArguments, options_of}
 use Rattle.deny_run.specs.Sample.{Samples}
 use Rattle.deny_run.specs.Seen.{RunSeen}
 use Rattle.deny_run.specs.Words.{AnswersNone, IsUnshown, lost, mistaken, shown, unshown}
 use Rattle.deny_run.proofs.BillLemmas.{bills_made, bills_never}
 use Rattle.deny_run.proofs.CheckLemmas.{checks_made, checks_never}
-use Rattle.deny_run.proofs.EndLemmas.{IsNoRefusal, billed_apart, checked_apart, listed_apart, noticed_apart, recorded_apart, refused_as, refused_end, sampled_apart, verified_apart}
+use Rattle.deny_run.proofs.EndLemmas.{IsNoRefusal, billed_apart, checked_apart, listed_apart, noticed_apart, recorded_apart, refused_as, refused_end, sampled_apart, told_apart, verified_apart}
 use Rattle.deny_run.proofs.NoticeLemmas.{notices_made, notices_never}
 use Rattle.deny_run.proofs.VerifyLemmas.{verifies_made, verifies_never}
+use Rattle.deny_run.proofs.WhyLemmas.{tells_made, tells_never}
 
 -- ---- of each command
 
@@ -91,6 +92,7 @@ module _ (lists : CatalogLists) (match_of : List ℕ → Match) (text_of : List 
   request_made (Sample size) ends = some_made ends.is_so.0
   request_made Record runs = run_made Recorded _ (λ out err lists. RecordsAs out err) seen answer runs (λ lists own rest value done. records_made seen.out seen.err own rest value done)
   request_made (Verify path) runs = run_made Verified _ (λ out err lists. VerifiesAs path out err) seen answer runs (λ lists own rest value done. verifies_made own path rest seen.err seen.out value done)
+  request_made (Why words) runs = run_made Told _ (λ out err lists. TellsAs words out err) seen answer runs (λ lists own rest value done. tells_made (record { command = own; words = words }) rest seen.err seen.out value done)
   request_made Notice runs = run_made Noticed _ NoticesAs seen answer runs (λ lists own rest value done. notices_made lists.texts.text_of own rest seen.err seen.out value done)
   request_made (Bill args) runs = run_made Billed _ (λ out err lists. BillsAs args out err) seen answer runs (λ lists own rest value done. bills_made own args rest seen.err seen.out value done)
 
@@ -110,6 +112,7 @@ module _ (lists : CatalogLists) (match_of : List ℕ → Match) (text_of : List 
   request_never (Sample size) ends = λ e. sample_never size ends.value ends.is_so.1 (refused_as Sampled sampled_apart ends.value (ConfigRead Absent) (sym (ap end_of ends.is) ∙ e))
   request_never Record runs = run_never Recorded _ (λ out err lists. RecordsAs out err) seen answer runs recorded_apart (λ lists own rest done. writes_never own rest seen.err seen.out (IsRecorded own) file_in reads_in done.0)
   request_never (Verify path) runs = run_never Verified _ (λ out err lists. VerifiesAs path out err) seen answer runs verified_apart (λ lists own rest done. verifies_never own path rest seen.err seen.out done)
+  request_never (Why words) runs = run_never Told _ (λ out err lists. TellsAs words out err) seen answer runs told_apart (λ lists own rest done. tells_never (record { command = own; words = words }) rest seen.err seen.out done)
   request_never Notice runs = run_never Noticed _ NoticesAs seen answer runs noticed_apart (λ lists own rest done. notices_never lists.texts.text_of own rest seen.err seen.out done)
   request_never (Bill args) runs = run_never Billed _ (λ out err lists. BillsAs args out err) seen answer runs billed_apart (λ lists own rest done. bills_never own args rest seen.err seen.out done)
 
@@ -123,6 +126,7 @@ module _ (lists : CatalogLists) (match_of : List ℕ → Match) (text_of : List 
       value_ends (Err refusal) found own error is own_is = absurd (cc)
   request_ends Record runs = run_ends Recorded _ (λ out err lists. RecordsAs out err) seen answer runs recorded_apart
   request_ends (Verify path) runs = run_ends Verified _ (λ out err lists. VerifiesAs path out err) seen answer runs verified_apart
+  request_ends (Why words) runs = run_ends Told _ (λ out err lists. TellsAs words out err) seen answer runs told_apart
   request_ends Notice runs = run_ends Noticed _ NoticesAs seen answer runs noticed_apart
   request_ends (Bill args) runs = run_ends Billed _ (λ out err lists. BillsAs args out err) seen answer runs billed_apart
 
@@ -136,6 +140,7 @@ module _ (lists : CatalogLists) (match_of : List ℕ → Match) (text_of : List 
   request_unsupported (Sample size) ends options what is none = absurd (cc)
   request_unsupported Record runs options what is none = run_unsupported Recorded _ (λ out err lists. RecordsAs out err) seen answer runs what (ap (λ (own : CommandOptions). own.unsupported) (same_options is) ∙ none)
   request_unsupported (Verify path) runs options what is none = run_unsupported Verified _ (λ out err lists. VerifiesAs path out err) seen answer runs what (ap (λ (own : CommandOptions). own.unsupported) (same_options is) ∙ none)
+  request_unsupported (Why words) runs options what is none = run_unsupported Told _ (λ out err lists. TellsAs words out err) seen answer runs what (ap (λ (own : CommandOptions). own.unsupported) (same_options is) ∙ none)
   request_unsupported Notice runs options what is none = run_unsupported Noticed _ NoticesAs seen answer runs what (ap (λ (own : CommandOptions). own.unsupported) (same_options is) ∙ none)
   request_unsupported (Bill args) runs options what is none = run_unsupported Billed _ (λ out err lists. BillsAs args out err) seen answer runs what (ap (λ (own : CommandOptions). own.unsupported) (same_options is) ∙ none)
 

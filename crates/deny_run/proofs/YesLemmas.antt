@@ -8,7 +8,7 @@ use Rattle.tree_core.proofs.MadeLemmas.{made_as, made_joined}
 use Rattle.check_verify.specs.declared.answer.VerifyAnswer.TheVariants.{Yes}
 use Rattle.run_request.specs.declared.request.Request.{Request}
 use Rattle.run_request.specs.declared.request.Subcommand.{Subcommand}
-use Rattle.run_request.specs.declared.request.Subcommand.TheVariants.{Check, List as Listing, Sample, Record, Verify, Bill, Notice}
+use Rattle.run_request.specs.declared.request.Subcommand.TheVariants.{Check, List as Listing, Sample, Record, Verify, Bill, Notice, Why}
 use Rattle.run_found.specs.declared.error.Error.{Error}
 use Rattle.run_found.specs.Hearing.{MadeOn, TreeSeen}
 use Rattle.run_found.specs.Written.{SinkSeen}
@@ -26,7 +26,7 @@ use Rattle.run_record.specs.Yes.{TellsRight}
 use Rattle.run_record.proofs.YesLemmas.{yes_reads}
 use Rattle.deny_run.specs.declared.outcome.Outcome.{Outcome}
 use Rattle.deny_run.specs.declared.outcome.RunEnd.{RunEnd}
-use Rattle.deny_run.specs.declared.outcome.RunEnd.TheVariants.{Checked, Listed, Sampled, Recorded, Verified, Billed, Noticed, Shown, Usage}
+use Rattle.deny_run.specs.declared.outcome.RunEnd.TheVariants.{Checked, Listed, Sampled, Recorded, Verified, Billed, Noticed, Told, Shown, Usage}
 use Rattle.deny_run.specs.Ends.{Answers, AnswersOf, IsOutcome, VerifiesAs, as_end, end_of}
 use Rattle.deny_run.specs.Given.{RunArguments, asked_of}
 use Rattle.deny_run.specs.Seen.{RunSeen, sink_to}
@@ -56,6 +56,9 @@ billed_other value crates e = absurd (cc)
 
 noticed_other : IsNoVerify Noticed
 noticed_other value crates e = absurd (cc)
+
+told_other : IsNoVerify Told
+told_other value crates e = absurd (cc)
 
 unverified : {X : Type 0} (end_by : X → RunEnd) → IsNoVerify end_by → (value : Result X Error) (crates : VerifiedCrates) → end_of (as_end end_by value) ≡ Verified crates → ⊥
 unverified {X} end_by apart (Ok value) crates e = apart value crates e
@@ -150,6 +153,7 @@ module _ (given : RunArguments) (seen : RunSeen) (outcome : Outcome) (is : IsOut
         by_command Record command_is runs = absurd (unverified Recorded recorded_other runs.value crates (sym (ap end_of runs.is) ∙ e))
         by_command (Bill args) command_is runs = absurd (unverified Billed billed_other runs.value crates (sym (ap end_of runs.is) ∙ e))
         by_command Notice command_is runs = absurd (unverified Noticed noticed_other runs.value crates (sym (ap end_of runs.is) ∙ e))
+        by_command (Why words) command_is runs = absurd (unverified Told told_other runs.value crates (sym (ap end_of runs.is) ∙ e))
         by_command (Verify path) command_is runs =
             let asked = asked_of given request (plain_options request.log_ctx request.krate_ctx) in
             let value_is = verified_as runs.value crates (sym (ap end_of runs.is) ∙ e) in

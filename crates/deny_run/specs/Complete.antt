@@ -8,9 +8,9 @@ use Rattle.tree_core.specs.Content.{Content}
 use Rattle.run_request.specs.declared.request.Request.{Request}
 use Rattle.run_request.specs.declared.request.Subcommand.{Subcommand}
 use Rattle.run_request.specs.declared.request.Subcommand.TheVariants.{Check, List as Listing, Sample, Record, Verify}
-use Rattle.run_request.specs.declared.request.Subcommand.TheVariants.{Bill, Notice}
+use Rattle.run_request.specs.declared.request.Subcommand.TheVariants.{Bill, Notice, Why}
 use Rattle.run_found.specs.declared.error.Error.{Error}
-use Rattle.run_found.specs.declared.error.Error.TheVariants.{NotAccepted, NoText, RecordRead, RecordSyntax}
+use Rattle.run_found.specs.declared.error.Error.TheVariants.{NoSuchCrate, NotAccepted, NoText, RecordRead, RecordSyntax}
 use Rattle.run_found.specs.declared.error.Error.TheVariants.{BillText, BillRead, BillSyntax}
 use Rattle.run_found.specs.Error.{MayEndLawful, cause_of}
 use Rattle.run_found.specs.own_names.Given.{ListsGiven}
@@ -20,7 +20,7 @@ use Rattle.run_command.specs.Stops.{PolicyAndCrates}
 use Rattle.deny_run.specs.declared.outcome.Outcome.{Outcome}
 use Rattle.deny_run.specs.declared.outcome.RunEnd.{RunEnd}
 use Rattle.deny_run.specs.declared.outcome.RunEnd.TheVariants.{Checked, Listed, Recorded, Verified, Billed}
-use Rattle.deny_run.specs.declared.outcome.RunEnd.TheVariants.{Noticed, Refused}
+use Rattle.deny_run.specs.declared.outcome.RunEnd.TheVariants.{Noticed, Told, Refused}
 use Rattle.deny_run.specs.Given.{RunArguments, asked_of, options_of}
 use Rattle.deny_run.specs.Seen.{IsWithoutFault, RunSeen}
 use Rattle.deny_run.specs.Words.{HasRequest}
@@ -52,6 +52,11 @@ MayEndNotice (NotAccepted id reads) = ⊤
 MayEndNotice (NoText id key reads own) = ⊤
 MayEndNotice error = IsWanting error
 
+-- a word names no crate, or memory was wanting
+abbrev pub MayEndWhy : Error → Type 0
+MayEndWhy (NoSuchCrate word) = ⊤
+MayEndWhy error = IsWanting error
+
 -- how a command ends; of a sample it is said where that is described
 abbrev pub EndsLawful : Subcommand → RunEnd → Type 0
 EndsLawful (Check args) ended = EndsAs Checked IsWanting ended
@@ -61,6 +66,7 @@ EndsLawful Record ended = EndsAs Recorded IsWanting ended
 EndsLawful (Verify path) ended = EndsAs Verified MayEndVerify ended
 EndsLawful (Bill args) ended = EndsAs Billed MayEndBill ended
 EndsLawful Notice ended = EndsAs Noticed MayEndNotice ended
+EndsLawful (Why words) ended = EndsAs Told MayEndWhy ended
 
 -- the words ask for a command with these options
 pub record AsksCommand (given : RunArguments) (request : Request) (options : CommandOptions) : Type 0 where

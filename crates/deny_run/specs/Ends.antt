@@ -9,7 +9,7 @@ use Rattle.run_request.specs.declared.list.ListArgs.{ListArgs}
 use Rattle.run_request.specs.declared.request.Request.{Request}
 use Rattle.run_request.specs.declared.request.Subcommand.{Subcommand}
 use Rattle.run_request.specs.declared.request.Subcommand.TheVariants.{Check, List as Listing, Sample, Record, Verify}
-use Rattle.run_request.specs.declared.request.Subcommand.TheVariants.{Bill, Notice}
+use Rattle.run_request.specs.declared.request.Subcommand.TheVariants.{Bill, Notice, Why}
 use Rattle.run_found.specs.declared.error.Error.{Error}
 use Rattle.run_found.specs.declared.error.Error.TheVariants.{Memory}
 use Rattle.run_found.specs.declared.reads.CrateRead.{CrateRead}
@@ -30,10 +30,12 @@ use Rattle.run_bill.specs.declared.billed.BilledCrates.{BilledCrates}
 use Rattle.run_bill.specs.Billed.{Bills}
 use Rattle.run_notice.specs.declared.noticed.NoticedCrates.{NoticedCrates}
 use Rattle.run_notice.specs.Noticed.{Notices}
+use Rattle.run_why.specs.Given.{why_options}
+use Rattle.run_why.specs.Why.{Tells}
 use Rattle.deny_run.specs.declared.answer.Answered.{Answered}
 use Rattle.deny_run.specs.declared.outcome.RunEnd.{RunEnd}
 use Rattle.deny_run.specs.declared.outcome.RunEnd.TheVariants.{Checked, Listed, Sampled, Recorded, Verified, Billed}
-use Rattle.deny_run.specs.declared.outcome.RunEnd.TheVariants.{Noticed, Refused}
+use Rattle.deny_run.specs.declared.outcome.RunEnd.TheVariants.{Noticed, Told, Refused}
 use Rattle.deny_run.specs.Check.{Checks}
 use Rattle.deny_run.specs.Given.{RunArguments}
 use Rattle.deny_run.specs.Sample.{Samples}
@@ -95,6 +97,11 @@ abbrev pub NoticesAs : SinkSeen → SinkSeen → ListsGiven → CommandArguments
     → Type 0
 NoticesAs out err lists own tree value = Notices lists.texts.text_of own tree err out value
 
+-- and what verdicts rest on
+abbrev pub TellsAs : List (List ℕ) → SinkSeen → SinkSeen → CommandArguments → TreeSeen → Result (List CrateRead) Error
+    → Type 0
+TellsAs words out err own tree value = Tells (record { command = own; words = words }) tree err out value
+
 -- what a run over a request answers, by its command; a sample makes no call on the tree
 abbrev pub Answers : CatalogLists → (List ℕ → Match) → (List ℕ → Option (List ℕ)) → Request → Subcommand → RunSeen
     → Result RunEnd Error → Type 0
@@ -118,6 +125,10 @@ Answers lists match_of text_of request (Bill args) seen answer =
 Answers lists match_of text_of request Notice seen answer =
     RunsByTexts Noticed (command_asked lists match_of text_of request (plain_options request.log_ctx request.krate_ctx))
     NoticesAs seen answer
+Answers lists match_of text_of request (Why words) seen answer =
+    RunsAs Told
+    (command_asked lists match_of text_of request (why_options request.log_ctx request.krate_ctx words))
+    (TellsAs words) seen answer
 
 -- ---- words
 

@@ -6,12 +6,13 @@ use Rattle.spdx_terms.specs.declared.catalog.identifier.Match.{Match}
 use Rattle.run_request.specs.declared.request.Request.{Request}
 use Rattle.run_request.specs.declared.request.Subcommand.{Subcommand}
 use Rattle.run_request.specs.declared.request.Subcommand.TheVariants.{Check, List as Listing, Sample, Record, Verify}
-use Rattle.run_request.specs.declared.request.Subcommand.TheVariants.{Bill, Notice}
+use Rattle.run_request.specs.declared.request.Subcommand.TheVariants.{Bill, Notice, Why}
 use Rattle.run_request.specs.Given.{texts}
 use Rattle.run_command.specs.Carried.{plain_options}
 use Rattle.run_command.specs.Given.{CommandRequest, CommandOptions, command_asked}
 use Rattle.run_check.specs.Given.{check_options}
 use Rattle.run_list.specs.Given.{list_options}
+use Rattle.run_why.specs.Given.{why_options}
 
 -- the catalogue's lists, what the identifier says of each text, the text that it keeps under each name, the words and
 -- the working folder
@@ -36,6 +37,7 @@ options_of request Record = Some (plain_options request.log_ctx request.krate_ct
 options_of request (Verify path) = Some (plain_options request.log_ctx request.krate_ctx)
 options_of request (Bill args) = Some (plain_options request.log_ctx request.krate_ctx)
 options_of request Notice = Some (plain_options request.log_ctx request.krate_ctx)
+options_of request (Why words) = Some (why_options request.log_ctx request.krate_ctx words)
 
 -- what a request asks of a command with these options
 abbrev pub asked_of : RunArguments → Request → CommandOptions → CommandRequest

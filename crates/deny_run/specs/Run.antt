@@ -15,7 +15,7 @@ use Rattle.run_command.specs.Prelude.{IsUntouched}
 use Rattle.deny_run.specs.declared.outcome.Outcome.{Outcome}
 use Rattle.deny_run.specs.declared.outcome.RunEnd.{RunEnd}
 use Rattle.deny_run.specs.declared.outcome.RunEnd.TheVariants.{Checked, Listed, Sampled, Recorded, Verified, Billed}
-use Rattle.deny_run.specs.declared.outcome.RunEnd.TheVariants.{Noticed}
+use Rattle.deny_run.specs.declared.outcome.RunEnd.TheVariants.{Noticed, Told}
 use Rattle.deny_run.specs.declared.outcome.RunEnd.TheVariants.{Shown, Usage, Refused}
 use Rattle.deny_run.specs.Complete.{AsksCommand, IsComplete}
 use Rattle.deny_run.specs.Ends.{HasLabels, IsOutcome}
@@ -33,7 +33,8 @@ answer_status Yes = 0
 answer_status (No reason) = 4
 
 -- 4 where the check of licences has errors, and where a bill has changed, else 0; that of an answer; 0 after a listing,
--- a sample, a verdict file, help and the version; 2 after a mistake in the words; 1 after a refusal
+-- a sample, a verdict file, a notice, what verdicts rest on, help and the version; 2 after a mistake in the words; 1
+-- after a refusal
 abbrev pub exit_status : RunEnd → ℕ
 exit_status (Checked report) = if has_errors report.stats then 4 else 0
 exit_status (Listed reads) = 0
@@ -42,6 +43,7 @@ exit_status (Recorded reads) = 0
 exit_status (Verified crates) = answer_status crates.answer
 exit_status (Billed crates) = if crates.same then 0 else 4
 exit_status (Noticed crates) = 0
+exit_status (Told reads) = 0
 exit_status Shown = 0
 exit_status Usage = 2
 exit_status (Refused error) = 1

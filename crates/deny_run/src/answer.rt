@@ -10,7 +10,9 @@ ghost use Rattle.deny_run.specs.Given.{run_arguments_of};
 ghost use Rattle.deny_run.specs.Seen.{run_seen};
 
 use crate::check::check_request;
-use crate::commands::{bill_request, list_request, notice_request, record_request, verify_request};
+use crate::commands::{
+    bill_request, list_request, notice_request, record_request, verify_request, why_request,
+};
 use crate::outcome::RunEnd;
 use crate::words::{show, write_usage};
 use run_found::Error;
@@ -81,6 +83,12 @@ fn answer_request<T: Tree, O: Sink, E: Sink, C: Catalog, I: Identifier + TextLoo
         Subcommand::Notice => {
             match notice_request(alloc, request, tree, out, err, catalog, identifier) {
                 Ok(crates) => Ok(RunEnd::Noticed(crates)),
+                Err(error) => Err(error),
+            }
+        }
+        Subcommand::Why(crates) => {
+            match why_request(alloc, request, crates, tree, out, err, catalog, identifier) {
+                Ok(reads) => Ok(RunEnd::Told(reads)),
                 Err(error) => Err(error),
             }
         }

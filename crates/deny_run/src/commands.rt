@@ -1,5 +1,5 @@
-//! The commands `list`, `record`, `verify`, `bill` and `notice` of a request, behind what comes before each.
-//! Called by `answer_request` of `answer`; each of the five may change by itself, `Runs` ties none to another.
+//! The commands `list`, `record`, `verify`, `bill`, `notice` and `why` of a request, behind what comes before each.
+//! Called by `answer_request` of `answer`; each of the six may change by itself, `Runs` ties none to another.
 ghost use Rattle.std.specs.Prelude.{◌≤◌, IfErr};
 ghost use Rattle.tree_core.specs.texts.Cause.{ReadCounts};
 ghost use Rattle.run_found.specs.Error.{cause_of};
@@ -9,8 +9,10 @@ ghost use Rattle.run_command.specs.Carried.{plain_options};
 ghost use Rattle.run_command.specs.Given.{command_asked};
 ghost use Rattle.run_command.specs.Prelude.{Runs, RunsBy};
 ghost use Rattle.run_list.specs.Given.{list_options};
-ghost use Rattle.deny_run.specs.Ends.{BillsAs, ListsAs, NoticesAs, RecordsAs, VerifiesAs};
+ghost use Rattle.run_why.specs.Given.{why_options};
+ghost use Rattle.deny_run.specs.Ends.{BillsAs, ListsAs, NoticesAs, RecordsAs, TellsAs, VerifiesAs};
 
+use deny_text::Texts;
 use run_bill::{BilledCrates, bill_since};
 use run_command::{lists_of_request, unsupported_in};
 use run_found::{CrateReads, Error};
@@ -20,6 +22,7 @@ use run_record::{VerifiedCrates, record_since, verify_since};
 use run_request::Request;
 use run_request::bill::BillArgs;
 use run_request::list::ListArgs;
+use run_why::{unsupported_words, why_since};
 use spdx_core::{Catalog, Identifier, TextLookup};
 use std::alloc::Global;
 use tree_core::{Sink, Tree};
@@ -230,6 +233,49 @@ pub(crate) fn notice_request<T: Tree, O: Sink, E: Sink, C: Catalog, I: Identifie
             &found.identifier,
             request.log_ctx,
             &request.krate_ctx,
+        ),
+    }
+}
+
+/// What the verdicts on the crates of a request rest on is written to `out`, and what is printed of the policy's load to
+/// `err`.
+pub(crate) fn why_request<T: Tree, O: Sink, E: Sink, C: Catalog, I: Identifier + TextLookup>(
+    alloc: Global,
+    request: &Request,
+    words: &Texts,
+    tree: &mut T,
+    out: &mut O,
+    err: &mut E,
+    catalog: &C,
+    identifier: &I,
+) -> Result<CrateReads, Error>
+    ensures runs { Runs
+        (command_asked (C.lists catalog.now) (I.match_of identifier.now) (I.text_of identifier.now) request.now
+        (why_options request.now.log_ctx request.now.krate_ctx words.now))
+        (TellsAs words.now
+        (sink_between O.written O.fault_count out.old out.new)
+        (sink_between E.written E.fault_count err.old err.new))
+        (seen_between T.content T.fault_count T.trace tree.old tree.new)
+        (sink_between E.written E.fault_count err.old err.new)
+        (sink_between O.written O.fault_count out.old out.new) result }
+    ensures counts { IfErr result (λ error. ReadCounts
+        (T.fault_count tree.old) (T.fault_count tree.old) (T.fault_count tree.new) (cause_of error)) }
+    ensures out_later { O.fault_count out.old ≤ O.fault_count out.new }
+    ensures err_later { E.fault_count err.old ≤ E.fault_count err.new }
+{
+    let unsupported = unsupported_words(request.log_ctx, &request.krate_ctx, words);
+    match lists_of_request(alloc, tree, request, unsupported, catalog, identifier) {
+        Err(error) => Err(error),
+        Ok(found) => why_since(
+            alloc,
+            tree,
+            out,
+            err,
+            &found.catalog,
+            &found.identifier,
+            request.log_ctx,
+            &request.krate_ctx,
+            words,
         ),
     }
 }

@@ -26,6 +26,8 @@ pub enum RunEnd {
     Billed(BilledCrates),
     /// The licences that the crates are used under were written, with their texts.
     Noticed(NoticedCrates),
+    /// It was told what the verdicts on crates rest on; the reads of each checked crate are reported.
+    Told(CrateReads),
     /// Help or the version was written.
     Shown,
     /// The words are none that are taken.
@@ -38,10 +40,10 @@ pub enum RunEnd {
 #[derive(Drop)]
 pub struct Outcome {
     /// The exit status of the program: 0 after a report in which nothing is an error, after a verdict file that is
-    /// right, after a bill that has not changed, after a listing, a sample, a verdict file, a bill or a notice that
-    /// was written, after help and after the version; 4 after a report in which something is an error, after a
-    /// verdict file that is not right, and after a bill that has changed; 2 after words that are not taken; 1 after a
-    /// refusal.
+    /// right, after a bill that has not changed, after a listing, a sample, a verdict file, a bill, a notice or what
+    /// verdicts rest on that was written, after help and after the version; 4 after a report in which something is an
+    /// error, after a verdict file that is not right, and after a bill that has changed; 2 after words that are not
+    /// taken; 1 after a refusal.
     pub status: u8,
     /// What the words ask for, where they were taken and ask for something; in a refusal too.
     pub request: Option<Request>,

@@ -45,8 +45,8 @@ fn answer_status(answer: &VerifyAnswer) -> u8
 }
 
 /// The status of an end: 0 where the check of licences has no errors, where a verdict file is right, and where a bill
-/// has not changed, 4 where not; 0 after a listing, a sample, a verdict file, a bill, a notice, help and the version, 2
-/// after a mistake in the words, 1 after a refusal.
+/// has not changed, 4 where not; 0 after a listing, a sample, a verdict file, a bill, a notice, what verdicts rest on,
+/// help and the version, 2 after a mistake in the words, 1 after a refusal.
 fn exit_status(ended: &RunEnd) -> u8
     ensures { result ≡ run.exit_status ended.now }
 {
@@ -58,6 +58,7 @@ fn exit_status(ended: &RunEnd) -> u8
         | RunEnd::Sampled(_)
         | RunEnd::Recorded(_)
         | RunEnd::Noticed(_)
+        | RunEnd::Told(_)
         | RunEnd::Shown => 0,
         RunEnd::Usage => 2,
         RunEnd::Refused(_) => 1,

@@ -1,5 +1,5 @@
 //! The lines of a finding for a person.
-ghost use Rattle.std.specs.Prelude.{◌≡◌, ◌++◌, OnOk, All, codes, string_bytes};
+ghost use Rattle.std.specs.Prelude.{◌≡◌, ◌++◌, IfOk, OnOk, All, codes, string_bytes};
 ghost use Rattle.std.specs.List.{flat_map};
 ghost use Rattle.diag_print.specs.Human.{severity_word, pointer_of, in_brackets, behind_colon, headline_of};
 ghost use Rattle.diag_print.specs.Human.{place_text, label_line, note_line, human_lines};
@@ -9,7 +9,7 @@ use crate::flat::push_flat;
 use crate::place::{file_name, start};
 use deny_text::Text;
 use diag_core::{Diagnostic, Files, Label, LabelStyle, Severity};
-use std::alloc::AllocError;
+use std::alloc::{AllocError, Global};
 
 /// The severity in a word.
 pub(crate) fn severity_word(severity: Severity) -> &'static str
@@ -77,6 +77,16 @@ fn push_place(out: &mut String, files: &Files, label: &Label) -> Result<(), Allo
     let column = place.column;
     push_flat(out, file_name(files, label))?;
     write!(out, ":{line}:{column}")
+}
+
+/// Where a label begins: the name of its file, the line and the column, both from 1.
+pub fn place_of(alloc: Global, files: &Files, label: &Label) -> Result<Text, AllocError>
+    requires { LabelIsInside files.now label.now }
+    ensures { IfOk result (λ text. text ≡ place_text files.now label.now) }
+{
+    let mut text = String::new(alloc);
+    push_place(&mut text, files, label)?;
+    Ok(Text::from(text))
 }
 
 /// Appends the line of a label.

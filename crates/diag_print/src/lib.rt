@@ -13,6 +13,7 @@ pub mod printer;
 pub use context::{Color, Format, LogContext};
 pub use findings::{index_packs, print_findings, print_packs};
 pub use flat::push_flat;
+pub use human::place_of;
 pub use lines::push_printed;
 pub use place::{labels_are_inside, pack_labels_are_inside};
 pub use printer::{DiagPrinter, OutputLock, PrintError};

@@ -21,6 +21,7 @@ use Rattle.gather_license.specs.files.Steps.{Agrees, file_record, with_path}
 use Rattle.gather_license.specs.files.View.{PackView, paths_read}
 use Rattle.gather_license.proofs.files.CallLemmas.{agrees_before, map_option, paths_read-append, same_lost}
 use Rattle.gather_license.proofs.files.PathLemmas.{looks_behind}
+use Rattle.gather_license.specs.expression.Kept.{file_kept, kept_where}
 use Rattle.gather_license.specs.expression.Scanned.{Scanner}
 use Rattle.gather_license.specs.location.Calls.{manifest_by}
 use Rattle.gather_license.specs.location.Location.{PointsAt, located_by}
@@ -139,7 +140,7 @@ module _ (scanner : Scanner) (clarifications : List ClarificationView) (rules : 
 
     module _ {tells : Option Content} {after : ℕ} {new : List Call} where
       -- what was taken is what the turn asks for, by all its reads
-      pub own_counted : (taken : TakenLicense) → Keeps located taken → CountsBy mid tells middle after between new rules krate (is_nothing clarifications) located taken
+      pub own_counted : (taken : TakenLicense) → Keeps located taken → CountsBy mid tells middle after between new scanner rules krate (is_nothing clarifications) located taken
           → IsByOwnReads told tells before after old new (folder_of krate) taken.reads (λ known_reads manifest. IsTaken (turn_at known_reads manifest) taken left)
       own_counted taken keeps counts =
           let more = counts.goes.reads in
@@ -151,16 +152,25 @@ module _ (scanner : Scanner) (clarifications : List ClarificationView) (rules : 
           let paths : paths_read (records_of_reads more) ≡ paths_behind (turn_at known_reads manifest) =
           same_behind (paths_read located.pack.reads) (paths_read (records_of_reads more)) (paths_behind (turn_at known_reads manifest))
           (sym (paths_of_pack more counts.left takes) ∙ counts.paths known_reads agrees ∙ wanted_behind known_reads manifest begun) in
+          let reads : taken.reads ≡ records_in (turn_at known_reads manifest) =
+          counts.reads
+          ∙ ap₂ (λ (front back : List ReadRecord). front ++ back) (begun_reads (turn_at known_reads manifest) located left begun)
+          (takes.of_files known_reads agrees ∙ ap (map (file_record known_reads)) paths) in
+          let paths_are : paths_read counts.left.reads ≡ paths_read (records_in (turn_at known_reads manifest)) =
+          paths_of_pack more counts.left takes
+          ∙ sym (ap paths_read counts.reads ∙ paths_read-append begun_records (records_of_reads more)
+          ∙ ap (λ (first : List (List ℕ)). first ++ paths_read (records_of_reads more)) (paths_before known_reads manifest begun))
+          ∙ ap paths_read reads in
           let is : IsTaken (turn_at known_reads manifest) taken left =
           record {
             by = keeps.by ∙ begun.by;
             missing = keeps.missing ∙ begun.missing;
             location = keeps.location ∙ begun.location;
             counted = counts.counted known_reads agrees;
-            reads =
-                counts.reads
-                ∙ ap₂ (λ (front back : List ReadRecord). front ++ back) (begun_reads (turn_at known_reads manifest) located left begun)
-                (takes.of_files known_reads agrees ∙ ap (map (file_record known_reads)) paths);
+            reads = reads;
+            kept =
+                counts.kept known_reads agrees
+                ∙ ap (λ (files : List (List ℕ)). kept_where scanner.keeps (map (file_kept scanner known_reads) files)) paths_are;
             table = begun.table;
           } in
           record {
@@ -225,10 +235,10 @@ module _ {told mid : Option Content} {before middle : ℕ} {old between : List C
     (tells : Option Content) (after : ℕ) (new : List Call)
     (by : IsByOwnReads told mid before middle old between (folder_of krate) (begun_records scanner clarifications rules krate files located left) (IsBegunAt scanner clarifications rules krate files located left)) where
   pub own_taken : (result : Result TakenLicense AllocError) (manifest_first : Bool) → manifest_first ≡ is_nothing clarifications → IfOk result (λ taken. Keeps located taken)
-      → IfOk result (λ taken. CountsBy mid tells middle after between new rules krate manifest_first located taken)
+      → IfOk result (λ taken. CountsBy mid tells middle after between new scanner rules krate manifest_first located taken)
       → IfOk result (λ taken. IsByOwnReads told tells before after old new (folder_of krate) taken.reads (λ known_reads manifest. IsTaken (turn_with scanner clarifications rules krate known_reads manifest files) taken left))
   own_taken (Ok taken) manifest_first is keeps counts =
-      own_counted scanner clarifications rules krate files located left by taken keeps (subst (λ (b : Bool). CountsBy mid tells middle after between new rules krate b located taken) is counts)
+      own_counted scanner clarifications rules krate files located left by taken keeps (subst (λ (b : Bool). CountsBy mid tells middle after between new scanner rules krate b located taken) is counts)
   own_taken (Err error) manifest_first is keeps counts = tt
 
   pub starves_taken : (result : Result TakenLicense AllocError)

@@ -45,8 +45,8 @@ pub told_turn : (turn : TurnInput) (license : KrateLicense) (faults : List Parse
     → points ≡ points_for turn.krate faults taken.location old taken.by → new ≡ files_left turn.krate faults taken.location old taken.by
     → license.lic_info ≡ info_by taken.location (unwrap_or points.expression no_place) taken.by → license.notes ≡ notes_of (answer_in taken.by)
     → license.diags ≡ missing_findings taken.missing ++ points.findings → license.exceptions ≡ taken.exceptions → license.reads ≡ taken.reads
-    → IsTurn turn license new
-told_turn turn license faults taken points old new faults_are is found files_are info notes diags exceptions reads =
+    → license.kept ≡ taken.kept → IsTurn turn license new
+told_turn turn license faults taken points old new faults_are is found files_are info notes diags exceptions reads kept =
     let all_points : points ≡ points_in turn = points_are turn faults taken points old faults_are is found in
     record {
       info =
@@ -61,6 +61,7 @@ told_turn turn license faults taken points old new faults_are is found files_are
           ∙ ap (λ (points : PlacedFindings). missing_findings (missing_of turn.known_reads turn.clarifications) ++ points.findings) all_points;
       counted = exceptions ∙ is.counted;
       read = reads ∙ is.reads;
+      kept = kept ∙ is.kept;
       table =
           files_are
           ∙ ap (λ (faults : List ParseError). files_left turn.krate faults taken.location old taken.by) faults_are

@@ -1,5 +1,5 @@
 -- The licences of all crates that are selected.
-use Rattle.std.specs.Prelude.{◌≡◌, ℕ, ℤ, pos, negsuc, nat_le, List, None, option_copied, if◌then◌else◌}
+use Rattle.std.specs.Prelude.{◌≡◌, ℕ, ℤ, pos, negsuc, nat_le, false, List, None, option_copied, if◌then◌else◌}
 use Rattle.std.specs.List.{flat_map}
 use Rattle.spdx_terms.specs.catalog.Catalog.{CatalogLists}
 use Rattle.spdx_terms.specs.declared.catalog.identifier.Match.{Match}
@@ -23,9 +23,9 @@ abbrev pub threshold_of : ℤ → ℕ
 threshold_of (pos n) = if nat_le n 100 then n else 100
 threshold_of (negsuc n) = 0
 
--- no store, and 80 hundredths
+-- no store, 80 hundredths, and nothing is kept
 abbrev pub IsDefault : {I : Type 0} → Gatherer I → Type 0
-IsDefault gatherer = gatherer ≡ record { store = None; threshold = 80 }
+IsDefault gatherer = gatherer ≡ record { store = None; threshold = 80; keeps = false }
 
 -- what texts are identified by
 abbrev pub scanner_of_gatherer : {I : Type 0} → CatalogLists → (I → List ℕ → Match) → Gatherer I → Scanner
@@ -33,6 +33,7 @@ scanner_of_gatherer lists match_of gatherer = record {
   lists = lists;
   match_of = match_by match_of (option_copied gatherer.store);
   threshold = gatherer.threshold;
+  keeps = gatherer.keeps;
 }
 
 -- ---- what of a policy gathering depends on

@@ -10,6 +10,7 @@ use Rattle.gather_license.specs.files.Calls.{GoesBy}
 use Rattle.gather_license.specs.files.KnownReads.{FolderReads}
 use Rattle.gather_license.specs.files.Steps.{Agrees, with_path}
 use Rattle.gather_license.specs.files.View.{PackView, paths_read}
+use Rattle.gather_license.specs.expression.Kept.{kept_by}
 use Rattle.gather_license.specs.expression.Scanned.{Scanner}
 use Rattle.diag_core.specs.File.{File}
 use Rattle.gather_license.specs.declared.location.location.LocatedField.{LocatedField}
@@ -22,7 +23,7 @@ use Rattle.gather_core.specs.declared.turn.LocatedLicense.{LocatedLicense}
 use Rattle.gather_core.specs.declared.turn.TakenLicense.{TakenLicense}
 use Rattle.gather_core.specs.Exceptions.{ExceptionRules, counted_of, named_for}
 use Rattle.gather_core.specs.Turns.{TurnInput, files_located, files_where, in_order, located_in, located_where}
-use Rattle.gather_core.specs.Turns.{basis_in, records_in}
+use Rattle.gather_core.specs.Turns.{basis_in, kept_in, records_in}
 
 abbrev pub is_clarified : LicenseBasis → Bool
 is_clarified (Clarified held) = true
@@ -79,16 +80,19 @@ pub record Keeps (located : LocatedLicense) (taken : TakenLicense) : Type 0 wher
   pub location : taken.location ≡ located.location
 
 -- The pack went on over a tree to one that is left, and no other call was made; by whatever known reads agree with that
--- one, the exceptions that count and the files that were looked at are those of the rules. The reads in order are those
--- before, and then these.
-pub record CountsBy (told tells : Option Content) (before after : ℕ) (old new : List Call) (rules : ExceptionRules)
-    (krate : CrateRecord) (manifest_first : Bool) (located : LocatedLicense) (taken : TakenLicense) : Type 0 where
+-- one, the exceptions that count and the files that were looked at are those of the rules, and of its files it is kept
+-- what the scanner asks for. The reads in order are those before, and then these.
+pub record CountsBy (told tells : Option Content) (before after : ℕ) (old new : List Call) (scanner : Scanner)
+    (rules : ExceptionRules) (krate : CrateRecord) (manifest_first : Bool) (located : LocatedLicense)
+    (taken : TakenLicense) : Type 0 where
   pub left : PackView
   pub goes : GoesBy told tells before after old new located.pack left
   pub counted : (known_reads : FolderReads) → Agrees known_reads left
       → taken.exceptions ≡ counted_of rules krate known_reads
   pub paths : (known_reads : FolderReads) → Agrees known_reads left
       → paths_read left.reads ≡ fold with_path (paths_read located.pack.reads) (named_for rules krate known_reads)
+  pub kept : (known_reads : FolderReads) → Agrees known_reads left
+      → taken.kept ≡ kept_by scanner known_reads left.reads
   pub reads : taken.reads
       ≡ in_order manifest_first located.manifest located.pack.reads ++ records_of_reads goes.reads
 
@@ -101,4 +105,5 @@ pub record IsTaken (turn : TurnInput) (taken : TakenLicense) (files : List File)
   pub location : taken.location ≡ (located_in turn).location
   pub counted : taken.exceptions ≡ counted_of turn.exceptions turn.krate turn.known_reads
   pub reads : taken.reads ≡ records_in turn
+  pub kept : taken.kept ≡ kept_in turn
   pub table : files ≡ files_located turn

@@ -10,6 +10,8 @@ use Rattle.tree_core.specs.file_reads.Heard.{ReadResult}
 use Rattle.gather_license.specs.files.KnownReads.{FolderReads}
 use Rattle.gather_license.specs.files.Steps.{file_record}
 use Rattle.gather_license.specs.files.View.{paths_read}
+use Rattle.gather_license.specs.declared.expression.kept.KeptFile.{KeptFile}
+use Rattle.gather_license.specs.expression.Kept.{kept_by}
 use Rattle.gather_license.specs.expression.Scanned.{Scanner}
 use Rattle.diag_core.specs.declared.label.Coord.{Coord}
 use Rattle.diag_core.specs.declared.pack.Diag.{Diag}
@@ -102,6 +104,10 @@ paths_behind turn =
 -- all reads of the turn; no path is read twice as a licence file
 abbrev pub records_in : TurnInput → List ReadRecord
 records_in turn = records_before turn ++ map (file_record turn.known_reads) (paths_behind turn)
+
+-- what is kept of the licence files among them
+abbrev pub kept_in : TurnInput → List KeptFile
+kept_in turn = kept_by turn.scanner turn.known_reads (records_in turn)
 
 -- ---- what is found
 
@@ -202,4 +208,5 @@ pub record IsTurn (turn : TurnInput) (license : KrateLicense) (files : List File
   pub found : license.diags ≡ findings_in turn
   pub counted : license.exceptions ≡ counted_of turn.exceptions turn.krate turn.known_reads
   pub read : license.reads ≡ records_in turn
+  pub kept : license.kept ≡ kept_in turn
   pub table : files ≡ files_behind turn

@@ -38,6 +38,7 @@ use tree_core::Tree;
 pub struct Gatherer<'i, I> {
     store: Option<&'i I>,
     threshold: u8,
+    keeps: bool,
 }
 
 /// The least score of a name that is joined: a number of hundredths, cut to 0..100.
@@ -156,6 +157,7 @@ impl<'i, I> Gatherer<'i, I> {
         Gatherer {
             store: Some(store),
             threshold: self.threshold,
+            keeps: self.keeps,
         }
     }
 
@@ -166,6 +168,18 @@ impl<'i, I> Gatherer<'i, I> {
         Gatherer {
             store: self.store,
             threshold: cut_threshold(hundredths),
+            keeps: self.keeps,
+        }
+    }
+
+    /// A gatherer that keeps what each licence file is, or does not. Each text is identified anew for that.
+    pub fn keeping_files(self, keeps: bool) -> Gatherer<'i, I>
+        ensures { result ≡ record self.entry { keeps = keeps } }
+    {
+        Gatherer {
+            store: self.store,
+            threshold: self.threshold,
+            keeps,
         }
     }
 }
@@ -223,13 +237,14 @@ impl<'i, I: Identifier> Gatherer<'i, I> {
             identifier: self.store,
             threshold: self.threshold,
             catalog,
+            keeps: self.keeps,
         };
         let nfos = gather_all(alloc, tree, files, &scan, &rules, selected.items())?;
         Ok(Summary { nfos })
     }
 }
 
-/// A gatherer without a store, which identifies no licence file, and with a threshold of 80.
+/// A gatherer without a store, which identifies no licence file, with a threshold of 80, and which keeps nothing.
 impl<'i, I> Default for Gatherer<'i, I> {
     ghost use Rattle.gather_core.specs.Gathered.{IsDefault};
 
@@ -239,6 +254,7 @@ impl<'i, I> Default for Gatherer<'i, I> {
         Gatherer {
             store: None,
             threshold: 80,
+            keeps: false,
         }
     }
 }

@@ -13,5 +13,6 @@ mod told;
 mod turn;
 
 pub use crate::findings::{Diags, LicenseExprInfo, LicenseExprSource, LicenseInfo};
+pub use gather_license::{KeptFile, KeptFiles, KeptText};
 pub use gatherer::{Gatherer, cut_threshold};
 pub use summary::{KrateLicense, KrateLicenses, Summary};

@@ -2,6 +2,7 @@
 use crate::findings::{Diags, LicenseInfo};
 use deny_text::ListOf;
 use diag_core::Notes;
+use gather_license::KeptFiles;
 use graph_core::Krate;
 use policy_parts::spec::Places;
 use tree_core::Reads;
@@ -20,6 +21,8 @@ pub struct KrateLicense<'k> {
     pub reads: Reads,
     /// The places, in the policy's list, of the exceptions that count for the crate.
     pub exceptions: Places,
+    /// What is kept of the licence files among the reads, in their order; nothing where it is not asked for.
+    pub kept: KeptFiles,
 }
 
 /// Licences of crates.

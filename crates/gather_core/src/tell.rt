@@ -149,5 +149,6 @@ pub(crate) fn tell<'k>(
         diags,
         reads: taken.reads,
         exceptions: taken.exceptions,
+        kept: taken.kept,
     })
 }

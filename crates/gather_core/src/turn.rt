@@ -23,7 +23,9 @@ use deny_text::ListOf;
 use diag_core::{Coord, Files};
 use gather_license::files::LicensePack;
 use gather_license::location::{LocatedField, locate};
-use gather_license::{ClarificationRef, Coords, LicenseBasis, Scan, settle_license};
+use gather_license::{
+    ClarificationRef, Coords, KeptFiles, LicenseBasis, Scan, kept_files, settle_license,
+};
 use graph_core::Krate;
 use policy_parts::spec::Places;
 use spdx_core::{Catalog, Expression};
@@ -45,8 +47,8 @@ pub(crate) struct LocatedLicense {
     pub(crate) reads_made: usize,
 }
 
-/// What settles a crate's licence, where its manifest writes its field, which exceptions count for it, and
-/// the reads of its turn.
+/// What settles a crate's licence, where its manifest writes its field, which exceptions count for it, the
+/// reads of its turn, and what is kept of the licence files among them.
 #[derive(Drop)]
 pub(crate) struct TakenLicense {
     pub(crate) by: LicenseBasis,
@@ -54,6 +56,7 @@ pub(crate) struct TakenLicense {
     pub(crate) location: Option<Coord>,
     pub(crate) exceptions: Places,
     pub(crate) reads: Reads,
+    pub(crate) kept: KeptFiles,
 }
 
 /// Items behind others.
@@ -302,10 +305,11 @@ fn take_located<T: Tree, I: Identifier, C: Catalog>(
 }
 
 /// The exceptions that count for a crate, whose files are looked at behind all else, and all reads in order:
-/// with the manifest's first, or behind those that settled the licence.
-fn take_exceptions<T: Tree>(
+/// with the manifest's first, or behind those that settled the licence. The texts of the files are let go.
+fn take_exceptions<T: Tree, I: Identifier, C: Catalog>(
     alloc: Global,
     tree: &mut T,
+    scan: &Scan<'_, I, C>,
     krate: &Krate,
     exceptions: &ExceptionIndex<'_>,
     manifest_first: bool,
@@ -316,7 +320,7 @@ fn take_exceptions<T: Tree>(
     // over any tree, by whatever known reads agree with what was read
     ensures counted { IfOk result (λ taken. CountsBy (T.content tree.old) (T.content tree.new) (T.fault_count tree.old)
         (T.fault_count tree.new) (T.trace tree.old) (T.trace tree.new)
-        exceptions.now (record_of krate.now) manifest_first located taken) }
+        (scanner_of_scan C.lists I.match_of scan.now) exceptions.now (record_of krate.now) manifest_first located taken) }
     ensures no_memory { OnErr result (Starves (T.content tree.old) (T.content tree.new) (T.fault_count tree.old)
         (T.fault_count tree.new) (T.trace tree.old) (T.trace tree.new)
         located.pack (λ known_reads. fold with_path (paths_read located.pack.reads)
@@ -324,6 +328,7 @@ fn take_exceptions<T: Tree>(
 {
     let place = manifest_place(manifest_first, located.reads_made);
     let counted = exceptions.counted(alloc, tree, krate, located.pack)?;
+    let kept = kept_files(alloc, scan, &counted.pack)?;
     let reads = with_manifest(counted.pack.into_reads(), place, located.manifest)?;
     Ok(TakenLicense {
         by: located.by,
@@ -331,6 +336,7 @@ fn take_exceptions<T: Tree>(
         location: located.location,
         exceptions: counted.places,
         reads,
+        kept,
     })
 }
 
@@ -366,5 +372,13 @@ pub(crate) fn take<T: Tree, I: Identifier, C: Catalog>(
 {
     let manifest_first = is_nothing(clarifications);
     let located = take_located(alloc, tree, files, scan, krate, clarifications, field)?;
-    take_exceptions(alloc, tree, krate, exceptions, manifest_first, located)
+    take_exceptions(
+        alloc,
+        tree,
+        scan,
+        krate,
+        exceptions,
+        manifest_first,
+        located,
+    )
 }

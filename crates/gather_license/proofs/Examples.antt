@@ -31,6 +31,7 @@ scanner = record {
   lists = record { licenses = []; exceptions = []; imprecise = [] };
   match_of = λ normal. record { name = None; score = 0 };
   threshold = 80;
+  keeps = false;
 }
 
 -- a crate in the folder `/w`, without a field

@@ -19,6 +19,7 @@ scanner_of_scan lists_of match_of scan = record {
   lists = lists_of scan.catalog.now;
   match_of = match_by match_of (option_copied scan.identifier);
   threshold = scan.threshold;
+  keeps = scan.keeps;
 }
 
 -- ---- files of clarifications that are not there

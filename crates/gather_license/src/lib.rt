@@ -13,6 +13,7 @@ pub mod settling;
 pub mod texts;
 
 pub use clarification::{ClarificationRef, FileRef, HeldClarification};
+pub use expression::{KeptFile, KeptFiles, KeptText, TextKept, kept_files};
 pub use scan::Scan;
 pub use settle::{Coords, SettledLicense, folder, settle_license};
 pub use settling::{FilesSeen, JoinedNames, LicenseBasis};

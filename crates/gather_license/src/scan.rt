@@ -8,4 +8,6 @@ pub struct Scan<'a, I, C> {
     /// The least score of a name that is joined, in hundredths.
     pub threshold: u8,
     pub catalog: &'a C,
+    /// Whether it is kept what each licence file is.
+    pub keeps: bool,
 }

@@ -73,7 +73,7 @@ fn seen_of<I: Identifier, C: Catalog>(
     match pack.unlisted() {
         Some(error) => Ok(FilesSeen::Unlisted(error)),
         None => {
-            let files = scan_pack(alloc, scan.identifier, scan.threshold, pack, scan.catalog)?;
+            let files = scan_pack(alloc, scan, pack)?;
             Ok(FilesSeen::Listed(files))
         }
     }

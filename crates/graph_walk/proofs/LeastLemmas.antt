@@ -1,8 +1,8 @@
 -- Once all that was found is followed, the walk that is kept for a crate is the shortest, and what has none is not reached.
-use Rattle.std.proofs.Common.{◌≡◌, ℕ, suc, ◌<◌, ◌≤◌, List, [], ◌∷◌, ◌++◌, map, reverse, length, IsTrue, is_le, Option, Some, None, option_map, refl, sym, ◌∙◌, ap, subst, inl, inr, append_assoc, append-nil, arith}
+use Rattle.std.proofs.Common.{◌≡◌, ℕ, suc, ◌<◌, ◌≤◌, List, [], ◌∷◌, ◌++◌, map, reverse, length, All, IfSome, IsTrue, is_le, Option, Some, None, option_map, refl, sym, ◌∙◌, ap, subst, inl, inr, append_assoc, append-nil, arith}
 use Rattle.std.specs.List.{AllByRecursion}
-use Rattle.std.proofs.lemmas.List.{length-map, get_or-map}
-use Rattle.std.proofs.lemmas.List.Elements.{recursion_from_All}
+use Rattle.std.proofs.lemmas.List.{length-map, get_or-map, map-id}
+use Rattle.std.proofs.lemmas.List.Elements.{All-nil, All-push, All-same, recursion_from_All}
 use Rattle.std.proofs.lemmas.Option.{same_Some, none-some}
 use Rattle.graph_core.specs.declared.edge.DepKind.{DepKind}
 use Rattle.graph_core.specs.Metadata.{Graph, AreRising, ids_of, id_of_node}
@@ -16,6 +16,16 @@ use Rattle.graph_walk.proofs.Comparisons.{upto-le}
 use Rattle.graph_walk.proofs.PutLemmas.{IsFound}
 use Rattle.graph_walk.proofs.TurnLemmas.{IsDone, IsLed, IsUnderWay}
 use Rattle.graph_walk.proofs.UnderWay.{IsKept, IsListed}
+
+-- what is so of each place of a walk is so the other way round
+all-shown : (P : ℕ → Type 0) (walk : List ℕ) → AllByRecursion P walk → All P (shown (λ place. place) walk)
+all-shown P [] all = All-nil P
+all-shown P (place ∷ walk) all = All-push P (shown (λ one. one) walk) place (all-shown P walk all.1) all.0
+
+all-reversed : (P : ℕ → Type 0) (walk : List ℕ) → AllByRecursion P walk → All P (reverse walk)
+all-reversed P walk all =
+    All-same P (reverse walk) (shown (λ place. place) walk) (sym (map-id (reverse walk)) ∙ shown-reverse (λ place. place) walk)
+    (all-shown P walk all)
 
 -- A walk by its places leads to the crate with the id, visits these crates, and the one that is kept for its end is not after it.
 pub record IsMet (graph : Graph) (best : List (Option (List ℕ))) (id : List ℕ) (crates : List (List ℕ)) : Type 0 where
@@ -178,9 +188,18 @@ module _ (graph : Graph) (choice : Choice) (named : Option DepKind) (rising : Ar
       let same : met.place ≡ place = same-place place met.place within met.within.0 met.named_so in
       none-some met.found.walk (sym is ∙ (ap (best_at seen.best) (sym same) ∙ met.found.is))
 
+  inside-by : (place : ℕ) → place < length graph.nodes → (o : Option (List ℕ)) → best_at seen.best place ≡ o
+      → IfSome (option_map reverse o) (All (λ one. one < length graph.nodes))
+  inside-by place within (Some walk) is = all-reversed (λ one. one < length graph.nodes) walk (listed place walk within is).walked.inside
+  inside-by place within None is = tt
+
   pub are-shortest : AreShortest graph choice named (from_roots seen.best)
   are-shortest = record {
     counted = length-map seen.best (option_map reverse) ∙ over.walks.counted;
+    inside = λ place within.
+        subst (λ walk. IfSome walk (All (λ one. one < length graph.nodes)))
+        (sym (get_or-map (option_map reverse) seen.best place None None (subst (λ n. place < n) (sym over.walks.counted) within)))
+        (inside-by place within (best_at seen.best place) refl);
     each = λ place within.
         subst (λ walk. ShortestWalk graph choice named (id_of_node graph place) (ids_on graph walk))
         (sym (get_or-map (option_map reverse) seen.best place None None (subst (λ n. place < n) (sym over.walks.counted) within)))

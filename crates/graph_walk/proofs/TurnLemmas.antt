@@ -93,8 +93,9 @@ module _ (graph : Graph) (choice : Choice) (named : Option DepKind) where
   nothing-earlier : (places : List ℕ) → AreEarlier [] places (nothing_found (length graph.nodes))
   nothing-earlier places i below = absurd (omega arith)
 
-  root-walked : (place : ℕ) → IsRoot graph choice (id_of_node graph place) → IsWalked graph choice named (place ∷ [])
-  root-walked place root = record {
+  root-walked : (place : ℕ) → place < length graph.nodes → IsRoot graph choice (id_of_node graph place) → IsWalked graph choice named (place ∷ [])
+  root-walked place within root = record {
+    inside = (within, tt);
     reached = record {
       root = id_of_node graph place;
       begins = root;
@@ -106,12 +107,13 @@ module _ (graph : Graph) (choice : Choice) (named : Option DepKind) where
   }
 
   -- one edge more
-  walked-more : (walk : List ℕ) (place : ℕ) (kinds : Kinds) → IsWalked graph choice named walk
+  walked-more : (walk : List ℕ) (place : ℕ) (kinds : Kinds) → place < length graph.nodes → IsWalked graph choice named walk
       → MayBeTaken graph choice named (record { from = id_of_node graph (end_of walk); to = id_of_node graph place; kinds = kinds })
       → IsWalked graph choice named (place ∷ walk)
-  walked-more walk place kinds walked taken =
+  walked-more walk place kinds within walked taken =
       let step : Step = record { from = id_of_node graph (end_of walk); to = id_of_node graph place; kinds = kinds } in
       record {
+        inside = (within, walked.inside);
         reached = record {
           root = walked.reached.root;
           begins = walked.reached.begins;
@@ -140,7 +142,7 @@ module _ (graph : Graph) (choice : Choice) (named : Option DepKind) (rising : Ar
       let there = node-at graph rising root.index within in
       subst (IsReady graph choice named []) same (
         within,
-        root-walked graph choice named root.index (with-at graph rising (is_root graph choice) root.index there.0 there.1
+        root-walked graph choice named root.index within (with-at graph rising (is_root graph choice) root.index there.0 there.1
             (sym (ap is_root_standing (standing-is graph rising choice root.index there.0 there.1)) ∙ root.is_root)),
       )
 
@@ -230,7 +232,7 @@ module _ (graph : Graph) (choice : Choice) (named : Option DepKind) (rising : Ar
         All-contains (λ (e : Edge). e.to < length graph.nodes) followed.edges edge followed.lead_within found.one in
         subst (IsReady graph choice named walk) found.leads (
           within,
-          walked-more graph choice named walk edge.to edge.kinds listed.walked
+          walked-more graph choice named walk edge.to edge.kinds within listed.walked
               (may-take graph choice named rising place listed.within followed.edges followed.lead_within followed.told edge found.one passes_it),
         )
 

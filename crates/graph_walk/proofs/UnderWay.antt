@@ -1,5 +1,6 @@
 -- What holds of the walks that were found so far, and that it still holds when one more is found.
 use Rattle.std.proofs.Common.{◌≡◌, ◌≢◌, ℕ, zero, suc, ◌+◌, ◌<◌, List, [], ◌∷◌, ◌++◌, length, slice_set, slice_index_or, Option, Some, None, refl, sym, ◌∙◌, ap, subst, inl, inr, arith}
+use Rattle.std.specs.List.{AllByRecursion}
 use Rattle.std.proofs.lemmas.Bool.{cases_eq}
 use Rattle.std.proofs.lemmas.List.{length-set, length-append, get_or-set_same, get_or-set_other, get_or_append_left, get_or_push}
 use Rattle.std.proofs.lemmas.Option.{same_Some, none-some}
@@ -38,8 +39,9 @@ some-walk [] place walk is = absurd (none-some walk is)
 some-walk (first ∷ best) zero walk is = omega arith
 some-walk (first ∷ best) (suc place) walk is = let below : place < length best = some-walk best place walk is in omega arith
 
--- a walk from a root that may be taken visits these places
+-- a walk from a root that may be taken visits these places, each of which is that of a crate
 pub record IsWalked (graph : Graph) (choice : Choice) (named : Option DepKind) (walk : List ℕ) : Type 0 where
+  pub inside : AllByRecursion (λ place. place < length graph.nodes) walk
   pub reached : Reached graph choice named (id_of_node graph (end_of walk))
   pub shows : visited reached.root reached.steps ≡ shown (id_of_node graph) walk
 

@@ -1,6 +1,6 @@
 -- The shortest walk to a crate: no walk from a root to it is shorter, and of those that are as short it is the first.
 use Rattle.std.specs.Prelude.{◌≡◌, ℕ, ◌-◌, ◌<◌, ◌≤◌, cond, List, ◌∷◌, map, length, take, slice_index_or, IsTrue, Option}
-use Rattle.std.specs.Prelude.{Some, None, option_map}
+use Rattle.std.specs.Prelude.{Some, None, option_map, All, IfSome}
 use Rattle.std.specs.Ordering.{nat_cmp, is_le}
 use Rattle.std.specs.declared.cmp.Ordering.{Ordering}
 use Rattle.std.specs.Cmp.Lexicographic.{slice_cmp}
@@ -49,10 +49,12 @@ walk_at walks place = slice_index_or walks place None
 abbrev pub ids_on : Graph → Option (List ℕ) → Option (List (List ℕ))
 ids_on graph walk = option_map (map (id_of_node graph)) walk
 
--- of each crate, in the order of the graph, the shortest walk to it
+-- of each crate, in the order of the graph, the shortest walk to it, by places of crates
 pub record AreShortest (graph : Graph) (choice : Choice) (named : Option DepKind) (walks : List (Option (List ℕ)))
     : Type 0 where
   pub counted : length walks ≡ length graph.nodes
+  pub inside : (place : ℕ) → place < length graph.nodes
+      → IfSome (walk_at walks place) (All (λ one. one < length graph.nodes))
   pub each : (place : ℕ) → place < length graph.nodes
       → ShortestWalk graph choice named (id_of_node graph place) (ids_on graph (walk_at walks place))
 

@@ -17,7 +17,7 @@ use Rattle.tree_core.specs.declared.texts.fault.ReadFault.TheVariants.{Failed, A
 use Rattle.graph_workspace.specs.declared.error.KratesError.{KratesError}
 use Rattle.graph_workspace.specs.declared.error.KratesError.TheVariants.{Memory, NotCarried, MetadataRead, MetadataSyntax, MetadataShape, NoRoots}
 use Rattle.tree_core.specs.texts.Cause.{heard_cause, ReadCounts}
-use Rattle.graph_workspace.specs.Krates.{krates_cause, error_of_build, error_of_records, graph_in, graph_or_error, sparse_dir, AreFrom, GathersBy, AnswersGraph}
+use Rattle.graph_workspace.specs.Krates.{krates_cause, error_of_build, error_of_records, graph_in, graph_or_error, sparse_dir, AreFrom, GathersBy, ReadsGraphBy, AnswersGraph}
 
 -- ---- what is reported
 
@@ -106,3 +106,29 @@ gathered_by choice begun after old new path heard (Err (MetadataRead fault)) rea
 gathered_by choice begun after old new path heard (Err MetadataSyntax) read from = record { heard = heard; read = read; from = from }
 gathered_by choice begun after old new path heard (Err (MetadataShape fault)) read from = record { heard = heard; read = read; from = from }
 gathered_by choice begun after old new path heard (Err (NoRoots base excluded unpublished)) read from = record { heard = heard; read = read; from = from }
+
+-- ---- the graph alone
+
+pub graph_counts : (begun before after : ℕ) (heard : Result (List ℕ) ReadFault) (result : Result Graph KratesError)
+    → ReadCounts begun before after (heard_cause heard) → AnswersGraph (graph_in heard) result → IfErr result (λ error. ReadCounts begun before after (krates_cause error))
+graph_counts begun before after heard (Ok graph) counts tells = tt
+graph_counts begun before after heard (Err Memory) counts tells = tt
+graph_counts begun before after heard (Err (NotCarried what)) counts tells = tt
+graph_counts begun before after heard (Err (MetadataRead (Failed first last))) counts tells =
+    subst (λ one. ReadCounts begun before after (heard_cause one)) (read_fault heard (Failed first last) tells) counts
+graph_counts begun before after heard (Err (MetadataRead Absent)) counts tells = tt
+graph_counts begun before after heard (Err (MetadataRead Folder)) counts tells = tt
+graph_counts begun before after heard (Err (MetadataRead (NotUtf8 at))) counts tells = tt
+graph_counts begun before after heard (Err MetadataSyntax) counts tells = tt
+graph_counts begun before after heard (Err (MetadataShape fault)) counts tells = tt
+graph_counts begun before after heard (Err (NoRoots base excluded unpublished)) counts tells = tt
+
+pub graph_by : (begun after : ℕ) (old new : List Call) (path : List ℕ) (heard : Result (List ℕ) ReadFault) (result : Result Graph KratesError)
+    → IsTextRead begun after old new path heard → AnswersGraph (graph_in heard) result → ReadsGraphBy begun after old new path result
+graph_by begun after old new path heard (Ok graph) read told = record { heard = heard; read = read; told = told }
+graph_by begun after old new path heard (Err Memory) read told = (read.answer, read.made)
+graph_by begun after old new path heard (Err (NotCarried what)) read told = record { heard = heard; read = read; told = told }
+graph_by begun after old new path heard (Err (MetadataRead fault)) read told = record { heard = heard; read = read; told = told }
+graph_by begun after old new path heard (Err MetadataSyntax) read told = record { heard = heard; read = read; told = told }
+graph_by begun after old new path heard (Err (MetadataShape fault)) read told = record { heard = heard; read = read; told = told }
+graph_by begun after old new path heard (Err (NoRoots base excluded unpublished)) read told = record { heard = heard; read = read; told = told }

@@ -1,1 +1,1 @@
-mod KratesLemmas
+pub mod KratesLemmas

@@ -87,6 +87,20 @@ AreOf choice asked (Err error) = asked ≡ Err error
 abbrev pub AreFrom : Choice → Result (List ℕ) ReadFault → Result ReachedCrates KratesError → Type 0
 AreFrom choice heard result = AreOf choice (graph_in heard) result
 
+-- ---- the graph that is read from a tree, by what it answered
+
+-- one call was made, the read of the path; what its answer says, and what the graph is by it
+pub record IsGraphRead (begun after : ℕ) (old new : List Call) (path : List ℕ) (result : Result Graph KratesError)
+    : Type 0 where
+  pub heard : Result (List ℕ) ReadFault
+  pub read : IsTextRead begun after old new path heard
+  pub told : AnswersGraph (graph_in heard) result
+
+-- the same, unless memory was refused: then the read was made too, whatever was answered
+abbrev pub ReadsGraphBy : ℕ → ℕ → List Call → List Call → List ℕ → Result Graph KratesError → Type 0
+ReadsGraphBy begun after old new path (Err Memory) = (answer : CallAnswer) × (new ≡ old ++ read_of path answer ∷ [])
+ReadsGraphBy begun after old new path result = IsGraphRead begun after old new path result
+
 -- ---- the crates that are gathered from a tree, by what it answered
 
 -- one call was made, the read of the path; what its answer says, and the crates from it

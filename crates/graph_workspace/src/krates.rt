@@ -4,7 +4,7 @@ ghost use Rattle.tree_core.specs.Hearing.{MadeSome};
 ghost use Rattle.graph_core.specs.selection.Choice.{choice_of};
 ghost use Rattle.tree_core.specs.texts.Cause.{ReadCounts};
 ghost use Rattle.graph_workspace.specs.Krates.{krates_cause, graph_in, sparse_dir, IsCarried};
-ghost use Rattle.graph_workspace.specs.Krates.{GathersBy, AreFrom, AnswersGraph};
+ghost use Rattle.graph_workspace.specs.Krates.{GathersBy, AreFrom, AnswersGraph, ReadsGraphBy};
 
 use crate::error::KratesError;
 use graph_core::Metadata;
@@ -39,6 +39,28 @@ fn krates_of(alloc: Global, heard: TextHeard, selection: &Selection) -> Result<K
 {
     let metadata = metadata_of(alloc, heard)?;
     Ok(Krates::build(alloc, metadata, selection)?)
+}
+
+/// What the metadata of the file at a path tells. `begun` is the tree's count of faults when the run began.
+///
+/// It is refused where the file is not read, is no JSON or has not the stated shape, and for want of memory.
+pub fn metadata_at<T: Tree>(
+    alloc: Global,
+    tree: &mut T,
+    path: &str,
+    begun: u64,
+) -> Result<Metadata, KratesError>
+    requires { begun ≤ T.fault_count tree.old }
+    ensures carried { IfErr result IsCarried }
+    ensures read { ReadsGraphBy begun (T.fault_count tree.new)
+        (T.trace tree.old) (T.trace tree.new) path.now result }
+    ensures made { MadeSome (T.content tree.old) (T.content tree.new) (T.fault_count tree.old)
+        (T.fault_count tree.new) (T.trace tree.old) (T.trace tree.new) }
+    ensures counts { IfErr result (λ error.
+        ReadCounts begun (T.fault_count tree.old) (T.fault_count tree.new) (krates_cause error)) }
+{
+    let heard = read_file_text(alloc, tree, path, begun)?;
+    metadata_of(alloc, heard)
 }
 
 /// The crates that a selection reaches in the metadata of the file at a path. `begun` is the tree's count of

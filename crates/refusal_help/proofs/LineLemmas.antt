@@ -10,7 +10,7 @@ use Rattle.diag_core.specs.declared.position.Location.{Location}
 use Rattle.diag_core.specs.declared.severity.Severity.{Severity}
 use Rattle.diag_print.specs.Human.{flat_byte, flat_text}
 use Rattle.graph_metadata.specs.declared.fault.MetaFault.{MetaFault}
-use Rattle.run_found.specs.declared.error.Error.TheVariants.{Memory, NotCarried, ManifestPath, ManifestRead, CatalogRead, CatalogSyntax, StoreRead, ConfigRead, ConfigSyntax, ConfigShape, ConfigInvalid, OverrideTwice, MetadataRead, MetadataSyntax, MetadataShape, NoRoots, NotAccepted, NoText, RecordRead, RecordSyntax, BillText, BillRead, BillSyntax, WriteFault}
+use Rattle.run_found.specs.declared.error.Error.TheVariants.{Memory, NotCarried, ManifestPath, ManifestRead, CatalogRead, CatalogSyntax, StoreRead, ConfigRead, ConfigSyntax, ConfigShape, ConfigInvalid, OverrideTwice, MetadataRead, MetadataSyntax, MetadataShape, NoRoots, NoSuchCrate, NotAccepted, NoText, RecordRead, RecordSyntax, BillText, BillRead, BillSyntax, WriteFault}
 use Rattle.spdx_own_names.specs.declared.error.StoreFault.{StoreFault}
 use Rattle.toml_subset.specs.declared.error.SyntaxError.{SyntaxError}
 use Rattle.tree_core.specs.declared.texts.fault.ReadFault.{ReadFault}
@@ -173,6 +173,7 @@ help_lines request again (MetadataRead fault) = record { lines = file_if_lines r
 help_lines request again MetadataSyntax = record { lines = file_if_lines request.krate_ctx.metadata_path (codes "is no JSON"); few = known_few request.krate_ctx.metadata_path }
 help_lines request again (MetadataShape fault) = record { lines = shape_lines request.krate_ctx.metadata_path fault; few = both_few request.krate_ctx.metadata_path (is_unresolved fault) }
 help_lines request again (NoRoots base excluded unpublished) = record { lines = roots_lines base excluded unpublished; few = one_few }
+help_lines request again (NoSuchCrate word) = record { lines = advice_lines (codes "'" ++ word ++ codes "' is no crate's name, name@version or name:version"); few = one_few }
 help_lines request again (NotAccepted id reads) = record { lines = advice_lines (id ++ codes " is rejected or unlicensed: check licenses says why"); few = one_few }
 help_lines request again (NoText id key reads own) = record { lines = missing_lines request.store id key; few = one_few }
 help_lines request again (RecordRead fault reads) = record { lines = file_if_lines (file_of request.command) (read_words fault); few = known_few (file_of request.command) }

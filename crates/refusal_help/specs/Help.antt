@@ -16,8 +16,8 @@ use Rattle.run_found.specs.declared.error.Error.TheVariants.{Memory, NotCarried,
 use Rattle.run_found.specs.declared.error.Error.TheVariants.{CatalogRead, CatalogSyntax, StoreRead, ConfigRead}
 use Rattle.run_found.specs.declared.error.Error.TheVariants.{ConfigSyntax, ConfigShape, ConfigInvalid, OverrideTwice}
 use Rattle.run_found.specs.declared.error.Error.TheVariants.{MetadataRead, MetadataSyntax, MetadataShape, NoRoots}
-use Rattle.run_found.specs.declared.error.Error.TheVariants.{NotAccepted, NoText, RecordRead, RecordSyntax, BillText}
-use Rattle.run_found.specs.declared.error.Error.TheVariants.{BillRead, BillSyntax, WriteFault}
+use Rattle.run_found.specs.declared.error.Error.TheVariants.{NoSuchCrate, NotAccepted, NoText, RecordRead}
+use Rattle.run_found.specs.declared.error.Error.TheVariants.{RecordSyntax, BillText, BillRead, BillSyntax, WriteFault}
 use Rattle.run_request.specs.declared.request.Request.{Request}
 use Rattle.run_request.specs.declared.request.Subcommand.{Subcommand}
 use Rattle.run_request.specs.declared.request.Subcommand.TheVariants.{Verify, Bill}
@@ -137,6 +137,12 @@ file_of _ = None
 abbrev pub name_help : List ℕ → List ℕ
 name_help id = advice (id ++ codes ": its name is empty or has the end of a line")
 
+-- ---- what verdicts rest on
+
+-- a word that names no crate
+abbrev pub named_help : List ℕ → List ℕ
+named_help word = advice (codes "'" ++ word ++ codes "' is no crate's name, name@version or name:version")
+
 -- ---- a notice
 
 -- a crate that is not accepted
@@ -202,6 +208,7 @@ help_of request again (MetadataRead fault) = at_file_if request.krate_ctx.metada
 help_of request again MetadataSyntax = at_file_if request.krate_ctx.metadata_path (codes "is no JSON")
 help_of request again (MetadataShape fault) = shape_help request.krate_ctx.metadata_path fault
 help_of request again (NoRoots base excluded unpublished) = roots_help base excluded unpublished
+help_of request again (NoSuchCrate word) = named_help word
 help_of request again (NotAccepted id reads) = accepted_help id
 help_of request again (NoText id key reads own) = missing_help request.store id key
 help_of request again (RecordRead fault reads) = at_file_if (file_of request.command) (read_words fault)

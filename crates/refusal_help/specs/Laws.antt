@@ -7,8 +7,8 @@ use Rattle.run_found.specs.declared.error.Error.TheVariants.{Memory, NotCarried,
 use Rattle.run_found.specs.declared.error.Error.TheVariants.{CatalogRead, CatalogSyntax, StoreRead, ConfigRead}
 use Rattle.run_found.specs.declared.error.Error.TheVariants.{ConfigSyntax, ConfigShape, ConfigInvalid, OverrideTwice}
 use Rattle.run_found.specs.declared.error.Error.TheVariants.{MetadataRead, MetadataSyntax, MetadataShape, NoRoots}
-use Rattle.run_found.specs.declared.error.Error.TheVariants.{NotAccepted, NoText, RecordRead, RecordSyntax, BillText}
-use Rattle.run_found.specs.declared.error.Error.TheVariants.{BillRead, BillSyntax, WriteFault}
+use Rattle.run_found.specs.declared.error.Error.TheVariants.{NoSuchCrate, NotAccepted, NoText, RecordRead}
+use Rattle.run_found.specs.declared.error.Error.TheVariants.{RecordSyntax, BillText, BillRead, BillSyntax, WriteFault}
 use Rattle.run_request.specs.declared.request.Request.{Request}
 use Rattle.refusal_help.specs.declared.again.Again.{Again}
 use Rattle.refusal_help.specs.Help.{help_of, is_unresolved, file_of}
@@ -60,6 +60,7 @@ line_count request again MetadataSyntax = if_known request.krate_ctx.metadata_pa
 line_count request again (MetadataShape fault) =
     if_known request.krate_ctx.metadata_path + if_so (is_unresolved fault)
 line_count request again (NoRoots base excluded unpublished) = 1
+line_count request again (NoSuchCrate word) = 1
 line_count request again (NotAccepted id reads) = 1
 line_count request again (NoText id key reads own) = 1
 line_count request again (RecordRead fault reads) = if_known (file_of request.command)

@@ -6,7 +6,8 @@ ghost use Rattle.std.specs.String.{string_bytes};
 ghost use Rattle.refusal_help.specs.Help.{advice, at_file, at_file_if, fault_at, help_of, is_unresolved};
 ghost use Rattle.refusal_help.specs.Help.{line_and_column, place_text, resolve_help, roots_help, roots_words};
 ghost use Rattle.refusal_help.specs.Help.{catalog_words, line_help, store_help, store_place, syntax_help};
-ghost use Rattle.refusal_help.specs.Help.{absent_help, absent_words, accepted_help, missing_help, text_place, unstored_help};
+ghost use Rattle.refusal_help.specs.Help.{absent_help, absent_words, accepted_help, missing_help};
+ghost use Rattle.refusal_help.specs.Help.{named_help, text_place, unstored_help};
 ghost use Rattle.refusal_help.specs.Help.{file_of, name_help, policy_help, shape_help, twice_help, unknown_help};
 ghost use Rattle.refusal_help.specs.Words.{manifest_words, read_words};
 
@@ -206,6 +207,14 @@ fn push_name(alloc: Global, text: &mut String, id: &Text) -> Result<(), AllocErr
     ensures { OnOk result (string_bytes text.new ≡ string_bytes text.old ++ name_help id.now) }
 {
     let told = format!(in alloc; "{id}: its name is empty or has the end of a line")?;
+    push_advice(text, told.as_str())
+}
+
+/// A word that names no crate.
+fn push_named(alloc: Global, text: &mut String, word: &Text) -> Result<(), AllocError>
+    ensures { OnOk result (string_bytes text.new ≡ string_bytes text.old ++ named_help word.now) }
+{
+    let told = format!(in alloc; "'{word}' is no crate's name, name@version or name:version")?;
     push_advice(text, told.as_str())
 }
 
@@ -480,6 +489,7 @@ fn push_help(
             excluded,
             unpublished,
         } => push_roots(alloc, text, *base, *excluded, *unpublished),
+        Error::NoSuchCrate(word) => push_named(alloc, text, word),
         Error::NotAccepted { id, .. } => push_accepted(alloc, text, id),
         Error::NoText { id, key, .. } => push_missing(alloc, text, &request.store, id, key),
         Error::RecordRead { fault, .. } => push_asked_read(alloc, text, &request.command, *fault),

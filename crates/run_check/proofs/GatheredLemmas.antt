@@ -24,7 +24,7 @@ use Rattle.gather_core.proofs.ZipLemmas.{all_left, same_maps}
 use Rattle.check_core.specs.declared.report.CrateReport.{CrateReport}
 use Rattle.spdx_core.specs.declared.certificates.verdict.Verdict.{Verdict}
 use Rattle.check_core.specs.Check.{AreVerdicts}
-use Rattle.check_core.specs.Reports.{license_source, reports_of}
+use Rattle.check_core.specs.Reports.{license_place, license_source, reports_of}
 use Rattle.check_core.specs.Summary.{gathered_of_licenses, gathered_of_license}
 use Rattle.check_core.specs.Turns.{GatheredCrate, expression_of}
 use Rattle.check_core.specs.Verdicts.{IsVerdict}
@@ -33,7 +33,7 @@ use Rattle.run_command.specs.Found.{scanner_of_given}
 use Rattle.run_command.specs.Given.{CommandArguments}
 use Rattle.run_command.proofs.TurnLemmas.{turn_at, turns_at}
 use Rattle.run_check.specs.Found.{all_gathered, gathered_in}
-use Rattle.run_check.specs.Report.{IsReportOf, TellsSource, source_in}
+use Rattle.run_check.specs.Report.{IsReportOf, TellsSource, TellsTurn, source_in}
 
 -- the verdicts that reports tell
 pub verdicts_reported : (policy : Policy) (licenses : List KrateLicense) (verdicts : List Verdict) → AreVerdicts policy (gathered_of_licenses licenses) verdicts
@@ -98,6 +98,18 @@ sources_told policy (own ∷ turns) [] last verdicts each are = absurd each
 sources_told policy (own ∷ turns) (license ∷ licenses) last [] each are = absurd are
 sources_told policy (own ∷ turns) (license ∷ licenses) last (verdict ∷ verdicts) each are =
     (ap license_source each.0.turn.info, sources_told policy turns licenses last verdicts each.1 are.1)
+
+-- and what else it has of its turn
+pub turns_told : (policy : Policy) (turns : List CrateTurn) (licenses : List KrateLicense) (last : List File) (verdicts : List Verdict) → AllZip (IsTurnBy last) turns licenses
+    → AreVerdicts policy (gathered_of_licenses licenses) verdicts → AllZip TellsTurn turns (reports_of licenses verdicts)
+turns_told policy [] [] last verdicts each are = tt
+turns_told policy [] (license ∷ licenses) last verdicts each are = absurd each
+turns_told policy (own ∷ turns) [] last verdicts each are = absurd each
+turns_told policy (own ∷ turns) (license ∷ licenses) last [] each are = absurd are
+turns_told policy (own ∷ turns) (license ∷ licenses) last (verdict ∷ verdicts) each are = (
+  record { expression = ap expression_of each.0.turn.info; notes = each.0.turn.noted; reads = each.0.turn.read; place = ap license_place each.0.turn.info; exceptions = each.0.turn.counted; kept = each.0.turn.kept },
+  turns_told policy turns licenses last verdicts each.1 are.1,
+)
 
 module _ (given : CommandArguments) (policy : ValidConfig) where
   abbrev scanner : Scanner

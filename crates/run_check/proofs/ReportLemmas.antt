@@ -45,7 +45,7 @@ use Rattle.run_check.specs.Judged.{IsJudged, Judges}
 use Rattle.run_check.specs.Report.{IsReport, Reports, TellsFindings, verdicts_in}
 use Rattle.run_check.specs.Steps.{IsCheckOf, IsCheckedOn, checked_by, report_with}
 use Rattle.run_check.proofs.OrderAlike.{lists_alike}
-use Rattle.run_check.proofs.GatheredLemmas.{all_looked, labels_cut, reported_by, sources_told, verdicts_reported}
+use Rattle.run_check.proofs.GatheredLemmas.{all_looked, labels_cut, reported_by, sources_told, turns_told, verdicts_reported}
 
 -- the least score of a text leaves the policy's file
 file_at : (threshold : Option ℤ) (policy : ValidConfig) → (at_threshold threshold policy).file_id ≡ policy.file_id
@@ -103,6 +103,7 @@ module _ (given : CommandArguments) (hearing : RequestHearing) (policy : ValidCo
       };
       own = own_turns (files_loaded given.request hearing) turns licenses last settled.turns;
       sources = sources_told (policy_of policy) turns licenses last verdicts settled.turns.each are;
+      turns = turns_told (policy_of policy) turns licenses last verdicts settled.turns.each are;
       tells = findings_are;
     }
 

@@ -1,5 +1,5 @@
 -- What a check is given, but for its files: what each command is, by its own options.
-use Rattle.std.specs.Prelude.{ℕ, true, List, Option, None}
+use Rattle.std.specs.Prelude.{ℕ, true, false, List, Option, None}
 use Rattle.spdx_terms.specs.catalog.Catalog.{CatalogLists}
 use Rattle.spdx_terms.specs.declared.catalog.identifier.Match.{Match}
 use Rattle.diag_print.specs.declared.context.LogContext.{LogContext}
@@ -13,7 +13,7 @@ use Rattle.run_check.specs.Carried.{unsupported_of}
 -- the policy counts as it is, with its flags, and findings come out at these levels
 abbrev pub report_options : LintLevels → Option UnsupportedPart → CommandOptions
 report_options levels unsupported =
-    record { unsupported = unsupported; levels = levels; with_flags = true; threshold = None }
+    record { unsupported = unsupported; levels = levels; with_flags = true; threshold = None; keeps = false }
 
 -- the options of `check`
 abbrev pub check_options : LogContext → CheckArgs → KrateContext → CommandOptions

@@ -10,11 +10,13 @@ use Rattle.diag_stats.specs.Counts.{counts_of}
 use Rattle.gather_license.specs.Priority.{ExpressionSource, LicenseAnswer}
 use Rattle.gather_core.specs.Calls.{ReadsOfCrate, CrateTurn, HasOwnReads, files_behind_all}
 use Rattle.gather_core.specs.Told.{notes_of, source_view}
-use Rattle.gather_core.specs.Turns.{IsCutOut, info_in}
+use Rattle.gather_core.specs.Exceptions.{counted_of}
+use Rattle.gather_core.specs.Turns.{IsCutOut, info_in, kept_in, notes_in, records_in}
 use Rattle.gather_core.specs.declared.summary.KrateLicense.{KrateLicense}
 use Rattle.check_core.specs.Check.{AreVerdicts, findings_of}
-use Rattle.check_core.specs.Reports.{license_source}
+use Rattle.check_core.specs.Reports.{license_place, license_source}
 use Rattle.check_core.specs.Labels.{PackLies, VerdictPoints}
+use Rattle.check_core.specs.Turns.{expression_of}
 use Rattle.check_core.specs.Verdicts.{IsVerdict}
 use Rattle.run_overrides.specs.Levels.{packs_at}
 use Rattle.run_request.specs.declared.level.LintLevels.{LintLevels}
@@ -55,6 +57,16 @@ pub record IsReportOf (given : CommandArguments) (policy : ValidConfig) (one : R
 abbrev pub TellsSource : CrateTurn → CrateReport → Type 0
 TellsSource own report = report.source ≡ license_source (info_in own.turn)
 
+-- What a report has, by the crate's turn: the expression, where that is, what is noted of it, the exceptions that count,
+-- the reads, and what is kept of the licence files.
+pub record TellsTurn (own : CrateTurn) (report : CrateReport) : Type 0 where
+  pub expression : report.expression ≡ expression_of (info_in own.turn)
+  pub notes : report.notes ≡ notes_in own.turn
+  pub reads : report.reads ≡ records_in own.turn
+  pub place : report.place ≡ license_place (info_in own.turn)
+  pub exceptions : report.exceptions ≡ counted_of own.turn.exceptions own.turn.krate own.turn.known_reads
+  pub kept : report.kept ≡ kept_in own.turn
+
 -- ---- all crates
 
 -- The policy is file 0. Each crate has its one report by it, in the same order, and the findings are counted.
@@ -90,12 +102,13 @@ pub record TellsVerdicts (given : CommandArguments) (hearing : RequestHearing) (
   pub gives : GivesVerdicts given hearing report
 
 -- The report is what is asked for by what was read: it gives the verdicts; the crates' reads are those that their turns
--- ask for, with the manifests that the file table lacks; and it tells the sources of the expressions, and what was
--- found.
+-- ask for, with the manifests that the file table lacks; and it tells the sources of the expressions, where these are,
+-- which exceptions count, what is kept of licence files, and what was found.
 pub record IsReport (given : CommandArguments) (hearing : RequestHearing) (report : Report) : Type 0 where
   pub verdicts : TellsVerdicts given hearing report
   pub own : All HasOwnReads (turns_in given hearing report.policy)
   pub sources : AllZip TellsSource (turns_in given hearing report.policy) report.crates
+  pub turns : AllZip TellsTurn (turns_in given hearing report.policy) report.crates
   pub tells : TellsFindings given.options.levels (files_loaded given.request hearing)
       (turns_in given hearing report.policy) report
 

@@ -17,7 +17,9 @@ use Rattle.run_request.specs.declared.level.LintLevels.{LintLevels}
 use Rattle.run_overrides.specs.Levels.{packs_at}
 use Rattle.run_found.specs.Hearing.{TreeSeen}
 use Rattle.run_found.specs.Licenses.{IsGatheredOn}
+use Rattle.run_command.specs.declared.crates.CratesFound.{CratesFound}
 use Rattle.run_check.specs.declared.check.CheckedCrates.{CheckedCrates}
+use Rattle.run_check.specs.declared.judged.JudgedCrates.{JudgedCrates}
 use Rattle.run_check.specs.declared.report.Report.{Report}
 
 -- ---- one crate after another
@@ -56,3 +58,11 @@ pub record IsCheckedOn (scanner : Scanner) (levels : LintLevels) (policy : Valid
   pub gathered : IsGatheredOn scanner policy tree files last graph choice licenses
   pub check : IsCheckOf levels policy licenses checked
   pub points : All (VerdictPoints last (policy_of policy)) (gathered_of_licenses licenses)
+
+-- the report is that of this check, and the crates beside it are those that were looked at
+pub record IsJudgedOn (scanner : Scanner) (levels : LintLevels) (found : CratesFound) (tree : TreeSeen)
+    (files : List File) (graph : Graph) (choice : Choice) (judged : JudgedCrates) : Type 0 where
+  pub checked : CheckedCrates
+  pub is : IsCheckedOn scanner levels found.policy tree files judged.report.files graph choice checked
+  pub report : judged.report ≡ report_with checked judged.report.files
+  pub krates : judged.krates ≡ found.krates

@@ -48,6 +48,7 @@ fn judge_and_report(
     // of any levels that the overrides put findings at
     ensures check { IfOk result (λ checked. (levels : LintLevels) → PutAtLevels levels overrides
         → IsCheckOf levels policy summary.entry.nfos checked) }
+    ensures policy { IfOk result (λ checked. checked.policy ≡ policy) }
     ensures terms { IfOk result (λ _.
         All (VerdictPoints files.now (policy_of policy)) (gathered_of_licenses summary.entry.nfos)) }
     ensures labels { IfOk result (λ checked. All (PackLies files.now) checked.findings) }
@@ -71,6 +72,7 @@ fn judge_and_report(
 /// settled.
 pub(crate) fn settle_and_judge<T: Tree, C: Catalog, I: Identifier>(
     alloc: Global,
+    keeps: bool,
     policy: ValidConfig,
     overrides: DiagnosticOverrides,
     krates: &Krates,
@@ -83,15 +85,18 @@ pub(crate) fn settle_and_judge<T: Tree, C: Catalog, I: Identifier>(
     // of each graph and choice that the crates are of, and of any levels that the overrides put findings at
     ensures checked { IfOk result (λ checked. (graph : Graph) (choice : Choice) (levels : LintLevels)
         → IsChosen graph choice krates.now → PutAtLevels levels overrides
-        → IsCheckedOn (scanner_of_policy (C.lists catalog.now) (I.match_of identifier.now) policy) levels policy
+        → IsCheckedOn (scanner_of_policy keeps (C.lists catalog.now) (I.match_of identifier.now) policy) levels policy
         (seen_between T.content T.fault_count T.trace tree.old tree.new)
         files.old files.new graph choice checked) }
     ensures cut { OnErr result ((graph : Graph) (choice : Choice) → IsChosen graph choice krates.now
-        → IsGatherCut (scanner_of_policy (C.lists catalog.now) (I.match_of identifier.now) policy) policy
+        → IsGatherCut (scanner_of_policy keeps (C.lists catalog.now) (I.match_of identifier.now) policy) policy
         (seen_between T.content T.fault_count T.trace tree.old tree.new)
         files.old graph choice) }
     ensures labels { IfOk result (λ checked. All (PackLies files.new) checked.findings) }
+    ensures stands { IfOk result (λ checked. PolicyStands files.new checked.policy) }
 {
-    let summary = licenses_found(alloc, &policy, krates, files, tree, catalog, identifier)?;
+    let summary = licenses_found(
+        alloc, keeps, &policy, krates, files, tree, catalog, identifier,
+    )?;
     judge_and_report(alloc, policy, overrides, krates, files, summary)
 }

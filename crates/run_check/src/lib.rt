@@ -10,7 +10,7 @@ pub mod reads;
 pub mod report;
 
 pub use carried::unsupported_in;
-pub use command::{check_since, cmd, judged_since, report_since};
+pub use command::{check_since, cmd, judged_of, judged_since, report_since};
 pub use judged::JudgedCrates;
 pub use reads::reads_of_reports;
 pub use report::{CrateReport, Report};

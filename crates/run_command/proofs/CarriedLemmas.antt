@@ -50,7 +50,7 @@ plain_carried log context carried =
 
 -- but for what is not carried and the levels
 abbrev plain_with : Option UnsupportedPart → LintLevels → CommandOptions
-plain_with unsupported levels = record { unsupported = unsupported; levels = levels; with_flags = true; threshold = None }
+plain_with unsupported levels = record { unsupported = unsupported; levels = levels; with_flags = true; threshold = None; keeps = false }
 
 -- all of its request is carried
 pub plain_use : (log : LogContext) (context : KrateContext) (levels : LintLevels) → levels ≡ no_levels → unsupported_of log context ≡ None → plain_with None levels ≡ plain_options log context

@@ -10,7 +10,7 @@ use Rattle.tree_core.specs.Trace.{Says}
 use Rattle.tree_core.specs.texts.Cause.{Cause, no_memory, failed_read, refused_write}
 use Rattle.tree_core.specs.texts.Cause as causes
 use Rattle.run_found.specs.declared.error.Error.{Error}
-use Rattle.run_found.specs.declared.error.Error.TheVariants.{Memory, NotCarried, ManifestPath, ManifestRead, CatalogRead, CatalogSyntax, StoreRead, ConfigRead, ConfigSyntax, ConfigShape, ConfigInvalid, OverrideTwice, MetadataRead, MetadataSyntax, MetadataShape, NoRoots, NotAccepted, NoText, RecordRead, RecordSyntax, BillText, BillRead, BillSyntax, WriteFault}
+use Rattle.run_found.specs.declared.error.Error.TheVariants.{Memory, NotCarried, ManifestPath, ManifestRead, CatalogRead, CatalogSyntax, StoreRead, ConfigRead, ConfigSyntax, ConfigShape, ConfigInvalid, OverrideTwice, MetadataRead, MetadataSyntax, MetadataShape, NoRoots, NoSuchCrate, NotAccepted, NoText, RecordRead, RecordSyntax, BillText, BillRead, BillSyntax, WriteFault}
 use Rattle.run_found.specs.Error.{MayEndLawful, cause_of}
 use Rattle.run_found.specs.Found.{PolicyAndGraph}
 use Rattle.run_found.specs.Hearing.{RequestHearing, TellsContent, TreeSeen}
@@ -45,6 +45,7 @@ module _ (given : CommandArguments) (hearing : RequestHearing) (asked : PolicyAn
   selection_apart MetadataSyntax refuses = refuses
   selection_apart (MetadataShape fault) refuses = refuses
   selection_apart (NoRoots base excluded unpublished) refuses = refuses.none asks.root
+  selection_apart (NoSuchCrate word) refuses = refuses
   selection_apart (NotAccepted id reads) refuses = refuses
   selection_apart (NoText id key reads own) refuses = refuses
   selection_apart (RecordRead fault reads) refuses = refuses

@@ -6,6 +6,7 @@ pub mod FoundLemmas
 pub mod HeardAlike
 pub mod LawfulLemmas
 pub mod ManifestLemmas
+pub mod MetadataLemmas
 pub mod OwnLemmas
 pub mod PreludeLemmas
 pub mod RiseLemmas

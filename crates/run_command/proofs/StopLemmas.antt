@@ -1,6 +1,6 @@
 -- A command that is refused before it does its own: no policy is found, a code or a level is there twice, or there are
 -- no crates.
-use Rattle.std.proofs.Common.{◌≡◌, ◌∙◌, refl, sym, ap, subst, ℕ, ℤ, true, List, [], ◌++◌, append-nil, Option, Some, None, Result, Ok, Err}
+use Rattle.std.proofs.Common.{◌≡◌, ◌∙◌, refl, sym, ap, subst, ℕ, ℤ, true, List, [], ◌++◌, append-nil, length, Option, Some, None, Result, Ok, Err}
 use Rattle.tree_core.specs.Call.{CallAnswer, Call}
 use Rattle.tree_core.specs.Content.{Content}
 use Rattle.tree_core.specs.Faults.{Gained, GainedPrefix}
@@ -8,7 +8,8 @@ use Rattle.tree_core.specs.Hearing.{Made, MadeSome}
 use Rattle.tree_core.specs.Trace.{fault_behind}
 use Rattle.tree_core.proofs.MadeLemmas.{made_as, made_joined, made_these, some_made}
 use Rattle.graph_core.specs.Metadata.{Graph}
-use Rattle.graph_core.specs.selection.Choice.{Choice}
+use Rattle.std.specs.List.{filter_map}
+use Rattle.graph_core.specs.selection.Choice.{Choice, choice_of, spec_read}
 use Rattle.graph_core.specs.selection.Listed.{ReachedCrates, IsChosen}
 use Rattle.tree_core.specs.texts.Cause.{Cause, no_memory, told, failed_read, refused_write}
 use Rattle.tree_core.specs.texts.Heard.{text_answered}
@@ -26,7 +27,8 @@ use Rattle.policy_core.specs.Policy.{PolicyFound}
 use Rattle.policy_core.specs.declared.load.LoadedPolicy.{LoadedPolicy}
 use Rattle.policy_load.specs.Answer.{IsPolicyOf}
 use Rattle.policy_core.specs.validate.Order.{PutsPolicyInOrder}
-use Rattle.run_context.specs.Asked.{choice_asked}
+use Rattle.run_context.specs.Asked.{IsMetadataAsked, choice_asked}
+use Rattle.run_context.specs.declared.gather.AskedMetadata.{AskedMetadata}
 use Rattle.run_overrides.specs.Overrides.{IsFirstTold}
 use Rattle.run_overrides.specs.Twice.{first_twice}
 use Rattle.run_overrides.specs.declared.error.OverrideError.{OverrideError}
@@ -45,7 +47,8 @@ use Rattle.run_found.proofs.FoundLemmas.{count-behind}
 use Rattle.run_found.proofs.StageLemmas.{graph_told}
 use Rattle.run_found.proofs.StepLemmas.{IsFree}
 use Rattle.run_command.specs.declared.crates.CratesFound.{CratesFound}
-use Rattle.run_command.specs.Crates.{HasCrates}
+use Rattle.run_command.specs.declared.crates.MetadataFound.{MetadataFound}
+use Rattle.run_command.specs.Crates.{HasCrates, HasMetadata}
 use Rattle.run_command.specs.Found.{HearsAllDue, IsHeard, at_threshold, calls_of, choice_in, input_of, left_by, load_heard, metadata_due, policy_asked}
 use Rattle.run_command.specs.Given.{CommandArguments}
 use Rattle.run_command.specs.Stops.{IsGivenUp, IsRefusal, IsRefusedBy, Refuses, Stops, StopsAt, at_metadata, at_policy}
@@ -325,6 +328,35 @@ module _ (given : CommandArguments) (once : first_twice given.options.levels ≡
           graph_is = drawn_at answer tells_graph.heard gathers.from.graph tells_graph.hears tells_graph.tells;
           root = subst (HasRoot gathers.from.graph) same gathers.from.rooted;
           chosen = subst (λ own. IsChosen gathers.from.graph own found.krates) same (subst (IsChosen gathers.from.graph choice) (sym krates_are) gathers.from.reached);
+          files_are = finds.files_are;
+          written = finds.written;
+        }
+
+  -- ---- the metadata alone
+
+  module _ (made : MadeSome middle tells mid after between more) (asked : AskedMetadata)
+      (reads : IsMetadataAsked given.request.context (left_by given.options.with_flags policy.graph) begun after between more path asked) where
+    pub metadata_are : (found : MetadataFound) → found.policy ≡ at_threshold given.options.threshold policy.licenses → found.asked ≡ asked → HasMetadata given whole err files found
+    metadata_are found policy_is asked_is =
+        let text = reads.read in
+        let answer = text.read.answer in
+        let own_made = made_these made text.read.made in
+        let answered = subst (λ n. text_answered begun n answer ≡ Some text.heard) own_made.counts text.read.hears in
+        record {
+          heard = finds.heard;
+          answer = answer;
+          made = made_all (Some answer) own_made;
+          due = due_at answer (heard_where answer begun (fault_behind mid answer) text.heard answered);
+          policy = finds.found;
+          policy_is = finds.is;
+          once = once;
+          ordered = subst (PutsPolicyInOrder (at_threshold given.options.threshold finds.found.licenses)) (sym policy_is)
+              (in_order_at given.options.threshold finds.found.licenses policy.licenses finds.valid.licenses);
+          graph_is = subst (λ (own : AskedMetadata). graph_heard (metadata_heard given.request (hears (Some answer))) ≡ Ok own.metadata) (sym asked_is)
+              (drawn_at answer text.heard asked.metadata answered text.told);
+          choice_is = subst (λ (own : AskedMetadata). choice_of own.selection ≡ choice_in given finds.found) (sym asked_is)
+              (reads.choice ∙ same_choice given finds.found policy finds.valid);
+          own = subst (λ (own : AskedMetadata). own.own_specs ≡ length (filter_map spec_read given.request.context.exclude)) (sym asked_is) reads.own;
           files_are = finds.files_are;
           written = finds.written;
         }

@@ -107,7 +107,8 @@ load_heard given hearing = load_told given.request hearing
 
 -- what texts are identified by, under a policy
 abbrev pub scanner_of_given : CommandArguments → ValidConfig → Scanner
-scanner_of_given given policy = scanner_of_policy given.request.lists given.match_of policy
+scanner_of_given given policy =
+    scanner_of_policy given.options.keeps given.request.lists given.match_of policy
 
 -- the turns of the crates, one after another, each by its own reads
 abbrev pub turns_in : CommandArguments → RequestHearing → ValidConfig → List CrateTurn

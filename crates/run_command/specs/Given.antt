@@ -11,13 +11,14 @@ use Rattle.run_request.specs.declared.request.Request.{Request}
 use Rattle.run_found.specs.own_names.Given.{ListsAsked, ListsGiven, lists_asked, lists_given, texts_given}
 
 -- In what commands differ before they do their own: the first part of the request that is not carried, the codes and
--- levels that are asked for, whether the flags of the policy's graph leave crates out, and the least score of a text,
--- where that is not the policy's.
+-- levels that are asked for, whether the flags of the policy's graph leave crates out, the least score of a text, where
+-- that is not the policy's, and whether it is kept what each licence file is.
 pub record CommandOptions : Type 0 where
   pub unsupported : Option UnsupportedPart
   pub levels : LintLevels
   pub with_flags : Bool
   pub threshold : Option ℤ
+  pub keeps : Bool
 
 -- what each command is given, by the names and the texts that count
 pub record CommandArguments : Type 0 where

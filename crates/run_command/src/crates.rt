@@ -1,20 +1,22 @@
 //! The policy of a command, and the crates that it looks at.
 //! Called by `run_list`, `run_check` and `run_record`; the threshold may be put in once the policy is there.
-ghost use Rattle.std.specs.Prelude.{◌≡◌, ◌≤◌, ℕ, List, [], IfErr, IfOk, None};
+ghost use Rattle.std.specs.Prelude.{◌≡◌, ◌≤◌, ℕ, List, [], IfErr, IfOk, None, Ok};
 ghost use Rattle.tree_core.specs.Hearing.{MadeSome};
 ghost use Rattle.tree_core.specs.texts.Cause.{ReadCounts};
 ghost use Rattle.spdx_terms.specs.declared.catalog.identifier.Match.{Match};
-ghost use Rattle.graph_workspace.specs.Krates.{krates_cause};
+ghost use Rattle.diag_core.specs.File.{File};
+ghost use Rattle.graph_core.specs.selection.Choice.{choice_of};
+ghost use Rattle.graph_workspace.specs.Krates.{AreOf, krates_cause};
 ghost use Rattle.policy_core.specs.Places.{PolicyStands};
-ghost use Rattle.run_context.specs.Asked.{IsAnswerBy, IsRefused, unsupported_part};
+ghost use Rattle.run_context.specs.Asked.{IsAnswerBy, IsMetadataBy, IsRefused, left_out, unsupported_part};
 ghost use Rattle.run_overrides.specs.Levels.{PutAtLevels};
 ghost use Rattle.run_found.specs.Error.{cause_of};
-ghost use Rattle.run_found.specs.Hearing.{seen_between};
-ghost use Rattle.run_found.specs.Written.{sink_between};
-ghost use Rattle.run_command.specs.Crates.{FindsCrates, options_of};
+ghost use Rattle.run_found.specs.Hearing.{TreeSeen, seen_between};
+ghost use Rattle.run_found.specs.Written.{SinkSeen, sink_between};
+ghost use Rattle.run_command.specs.Crates.{FindsChosen, FindsCrates, FindsMetadata, HasMetadata, IsTold, options_of};
 ghost use Rattle.run_command.specs.Found as spec;
 ghost use Rattle.run_command.specs.Found.{left_by};
-ghost use Rattle.run_command.specs.Given.{command_arguments_of};
+ghost use Rattle.run_command.specs.Given.{CommandArguments, command_arguments_of};
 
 use diag_core::{DiagnosticOverrides, Files};
 use diag_print::LogContext;
@@ -22,7 +24,7 @@ use graph_workspace::{Krates, KratesError};
 use policy_core::valid::ValidConfig;
 use policy_load::LoadedPolicy;
 use policy_parts::GraphConfig;
-use run_context::{LeftOut, gather_krates_since};
+use run_context::{AskedMetadata, LeftOut, gather_krates_since, gather_metadata_since};
 use run_found::{Error, policy_found};
 use run_overrides::overrides_of;
 use run_request::{KrateContext, LintLevels};
@@ -39,6 +41,8 @@ pub struct PolicyUse<'l> {
     pub with_flags: bool,
     /// The least score at which a text is taken for a licence, in hundredths, where it is not the policy's.
     pub threshold: Option<i64>,
+    /// Whether it is kept what each licence file is.
+    pub keeps: bool,
 }
 
 /// The policy of a command, its lists in order; the overrides that are asked for; and the crates that the command
@@ -48,6 +52,14 @@ pub struct CratesFound {
     pub policy: ValidConfig,
     pub overrides: DiagnosticOverrides,
     pub krates: Krates,
+}
+
+/// The same, where the crates are still to be chosen from what the metadata tells.
+#[derive(Drop)]
+pub struct MetadataFound {
+    pub policy: ValidConfig,
+    pub overrides: DiagnosticOverrides,
+    pub asked: AskedMetadata,
 }
 
 /// A policy, with the least score that a command asks for in the place of its own.
@@ -61,6 +73,17 @@ fn at_threshold(threshold: Option<i64>, policy: ValidConfig) -> ValidConfig
             policy.confidence_threshold = threshold;
             policy
         }
+    }
+}
+
+/// What a policy's graph leaves out, by its flags too or by its specs alone.
+fn leaves(with_flags: bool, graph: &GraphConfig) -> LeftOut<'_>
+    ensures { left_out result ≡ left_by with_flags graph.entry.now }
+{
+    LeftOut {
+        exclude: &graph.exclude,
+        exclude_dev: with_flags && graph.exclude_dev,
+        exclude_unpublished: with_flags && graph.exclude_unpublished,
     }
 }
 
@@ -83,12 +106,30 @@ fn krates_left<T: Tree>(
     ensures counts { IfErr result (λ error. ReadCounts begun
         (T.fault_count tree.old) (T.fault_count tree.new) (krates_cause error)) }
 {
-    let leaves = LeftOut {
-        exclude: &graph.exclude,
-        exclude_dev: with_flags && graph.exclude_dev,
-        exclude_unpublished: with_flags && graph.exclude_unpublished,
-    };
+    let leaves = leaves(with_flags, graph);
     gather_krates_since(context, alloc, tree, &leaves, begun)
+}
+
+/// What the metadata that a request names tells, with what the request and its policy select of it.
+fn metadata_left<T: Tree>(
+    alloc: Global,
+    context: &KrateContext,
+    with_flags: bool,
+    graph: &GraphConfig,
+    tree: &mut T,
+    begun: u64,
+) -> Result<AskedMetadata, KratesError>
+    requires { begun ≤ T.fault_count tree.old }
+    ensures refused { IsRefused context.now graph.now.exclude result }
+    ensures read { IsMetadataBy context.now (left_by with_flags graph.now) begun
+        (T.fault_count tree.new) (T.trace tree.old) (T.trace tree.new) result }
+    ensures made { MadeSome (T.content tree.old) (T.content tree.new) (T.fault_count tree.old)
+        (T.fault_count tree.new) (T.trace tree.old) (T.trace tree.new) }
+    ensures counts { IfErr result (λ error. ReadCounts begun
+        (T.fault_count tree.old) (T.fault_count tree.new) (krates_cause error)) }
+{
+    let leaves = leaves(with_flags, graph);
+    gather_metadata_since(context, alloc, tree, &leaves, begun)
 }
 
 /// The policy of a command, and the crates that it looks at, of a request all of which is carried: the
@@ -133,6 +174,83 @@ pub fn crates_found<T: Tree, S: Sink, C: Catalog>(
     let LoadedPolicy { licenses, .. } = loaded;
     Ok(CratesFound {
         policy: at_threshold(use_of.threshold, licenses),
+        overrides,
+        krates,
+    })
+}
+
+/// The policy of a command, and what the metadata tells, of a request all of which is carried: what `crates_found`
+/// comes to before the crates are chosen.
+pub fn metadata_found<T: Tree, S: Sink, C: Catalog>(
+    alloc: Global,
+    context: &KrateContext,
+    log_ctx: LogContext,
+    use_of: &PolicyUse<'_>,
+    files: &mut Files,
+    tree: &mut T,
+    err: &mut S,
+    catalog: &C,
+) -> Result<MetadataFound, Error>
+    requires empty { files.old ≡ [] }
+    requires carried { unsupported_part context.now [] ≡ None }
+    // whatever identifies texts
+    ensures found { (match_of : List ℕ → Match) → FindsMetadata
+        (command_arguments_of (C.lists catalog.now) match_of log_ctx context.now (options_of use_of.now))
+        (seen_between T.content T.fault_count T.trace tree.old tree.new)
+        (sink_between S.written S.fault_count err.old err.new)
+        files.new result }
+    // Each place that the policy keeps lies in its file.
+    ensures places { IfOk result (λ found. PolicyStands files.new found.policy) }
+    ensures overrides { IfOk result (λ found. PutAtLevels use_of.now.levels.now found.overrides) }
+    ensures counts { IfErr result (λ error. ReadCounts
+        (T.fault_count tree.old) (T.fault_count tree.old) (T.fault_count tree.new) (cause_of error)) }
+    ensures later { S.fault_count err.old ≤ S.fault_count err.new }
+{
+    let begun = tree.faults();
+    let loaded = policy_found(alloc, context, log_ctx, files, tree, err, catalog)?;
+    let overrides = overrides_of(alloc, use_of.levels)?;
+    let asked = metadata_left(
+        alloc,
+        context,
+        use_of.with_flags,
+        &loaded.graph,
+        tree,
+        begun,
+    )?;
+    let LoadedPolicy { licenses, .. } = loaded;
+    Ok(MetadataFound {
+        policy: at_threshold(use_of.threshold, licenses),
+        overrides,
+        asked,
+    })
+}
+
+fn krates_of(alloc: Global, asked: AskedMetadata) -> Result<Krates, KratesError>
+    ensures { AreOf (choice_of asked.selection) (Ok asked.metadata) result }
+{
+    let AskedMetadata {
+        metadata,
+        selection,
+        ..
+    } = asked;
+    Ok(Krates::build(alloc, metadata, &selection)?)
+}
+
+/// The crates that are chosen from what the metadata tells, with the policy. It is refused where no root is left.
+pub fn crates_of(alloc: Global, found: MetadataFound) -> Result<CratesFound, Error>
+    ensures found { (given : CommandArguments) (tree : TreeSeen) (err : SinkSeen) (files : List File)
+        → HasMetadata given tree err files found → FindsChosen given tree err files found result }
+    ensures same { IfOk result (λ crates. (crates.policy ≡ found.policy) × (crates.overrides ≡ found.overrides)) }
+    ensures told { IfErr result (λ error. IsTold (cause_of error)) }
+{
+    let MetadataFound {
+        policy,
+        overrides,
+        asked,
+    } = found;
+    let krates = krates_of(alloc, asked)?;
+    Ok(CratesFound {
+        policy,
         overrides,
         krates,
     })

@@ -10,6 +10,6 @@ pub mod prelude;
 mod written;
 
 pub use carried::{no_levels, unsupported_in};
-pub use crates::{CratesFound, PolicyUse, crates_found};
+pub use crates::{CratesFound, MetadataFound, PolicyUse, crates_found, crates_of, metadata_found};
 pub use prelude::lists_of_request;
 pub use written::write_answer;

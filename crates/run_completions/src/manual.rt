@@ -19,6 +19,7 @@ cargo\\-deny \\- checks the licences of a project\\(aqs crates against a policy
 \\fBcargo deny\\fR [\\fIoptions\\fR] \\fBverify\\fR \\fIfile\\fR
 \\fBcargo deny\\fR [\\fIoptions\\fR] \\fBbill\\fR \\fIoptions\\fR
 \\fBcargo deny\\fR [\\fIoptions\\fR] \\fBnotice\\fR
+\\fBcargo deny\\fR [\\fIoptions\\fR] \\fBwhy\\fR [\\fIcrate\\fR]..
 \\fBcargo deny\\fR [\\fIoptions\\fR] \\fBsample\\fR \\fInumber\\fR
 .fi
 .SH DESCRIPTION
@@ -44,6 +45,8 @@ says whether the verdicts of such a file are right.
 writes an SPDX 2.3 document of the crates to standard output, or says whether one has changed.
 .B notice
 writes to standard output which licence each accepted crate is used under, and each licence text once.
+.B why
+writes to standard output what the verdicts on crates rest on, without a name of those that are rejected or have no licence.
 .B sample
 reads no file. No command uses the network, starts a program or writes a file.
 .PP

@@ -1,17 +1,18 @@
 -- What a request asks for, and the crates that it looks at.
-use Rattle.std.specs.Prelude.{◌≡◌, ◌↔◌, ◌⊎◌, ℕ, ◌||◌, Bool, false, List, ◌++◌, Option, Some, None, is_none, Result, Err}
+use Rattle.std.specs.Prelude.{◌≡◌, ◌↔◌, ◌⊎◌, ℕ, ◌||◌, Bool, false, List, ◌++◌, length, Option, Some, None, is_none, Result, Ok, Err}
 use Rattle.std.specs.Prelude.{if◌then◌else◌}
 use Rattle.std.specs.List.{filter_map, list_any}
 use Rattle.tree_core.specs.Call.{Call}
 use Rattle.run_request.specs.declared.context.KrateContext.{KrateContext}
+use Rattle.run_context.specs.declared.gather.AskedMetadata.{AskedMetadata}
 use Rattle.run_context.specs.declared.gather.LeftOut.{LeftOut}
-use Rattle.graph_core.specs.selection.Choice.{Choice, is_unsupported, spec_read}
+use Rattle.graph_core.specs.selection.Choice.{Choice, choice_of, is_unsupported, spec_read}
 use Rattle.graph_core.specs.selection.Listed.{ReachedCrates}
 use Rattle.graph_workspace.specs.declared.error.KratesError.{KratesError}
 use Rattle.graph_workspace.specs.declared.error.KratesError.TheVariants.{Memory, NotCarried}
 use Rattle.graph_workspace.specs.declared.error.UnsupportedPart.{UnsupportedPart}
 use Rattle.graph_workspace.specs.declared.error.UnsupportedPart.TheVariants.{MetadataPath, ExcludeSpec}
-use Rattle.graph_workspace.specs.Krates.{GathersBy}
+use Rattle.graph_workspace.specs.Krates.{GathersBy, ReadsGraphBy}
 
 -- ---- what is not carried
 
@@ -55,8 +56,8 @@ choice_asked context policy = record {
 -- ---- what is answered
 
 -- a request is refused as not carried exactly for the first such part
-abbrev pub IsRefused : KrateContext → List (List ℕ) → Result ReachedCrates KratesError → Type 0
-IsRefused context cfg_excludes result =
+abbrev pub IsRefused : {X : Type 0} → KrateContext → List (List ℕ) → Result X KratesError → Type 0
+IsRefused {X} context cfg_excludes result =
     (what : UnsupportedPart) → (result ≡ Err (NotCarried what)) ↔ (unsupported_part context cfg_excludes ≡ Some what)
 
 -- where a part is not carried, no call is made
@@ -71,3 +72,26 @@ abbrev pub IsAnswerBy : KrateContext → LeavesOut → ℕ → ℕ → List Call
 IsAnswerBy context policy before after old new result =
     (path : List ℕ) → context.metadata_path ≡ Some path → unsupported_part context policy.exclude ≡ None
     → ((result ≡ Err Memory) × (new ≡ old)) ⊎ GathersBy (choice_asked context policy) before after old new path result
+
+-- ---- the metadata alone
+
+-- what the metadata tells is this graph, and this is selected of it, by so many specs of the request
+pub record IsMetadataAsked (context : KrateContext) (policy : LeavesOut) (before after : ℕ) (old new : List Call)
+    (path : List ℕ) (asked : AskedMetadata) : Type 0 where
+  pub read : ReadsGraphBy before after old new path (Ok asked.metadata)
+  pub choice : choice_of asked.selection ≡ choice_asked context policy
+  pub own : asked.own_specs ≡ length (filter_map spec_read context.exclude)
+
+abbrev pub ReadsMetadataBy : KrateContext → LeavesOut → ℕ → ℕ → List Call → List Call → List ℕ
+    → Result AskedMetadata KratesError → Type 0
+ReadsMetadataBy context policy before after old new path (Ok asked) =
+    IsMetadataAsked context policy before after old new path asked
+ReadsMetadataBy context policy before after old new path (Err error) =
+    ReadsGraphBy before after old new path (Err error)
+
+-- where all parts are carried, the file at the path is read; memory may be wanting before the read
+abbrev pub IsMetadataBy : KrateContext → LeavesOut → ℕ → ℕ → List Call → List Call → Result AskedMetadata KratesError
+    → Type 0
+IsMetadataBy context policy before after old new result =
+    (path : List ℕ) → context.metadata_path ≡ Some path → unsupported_part context policy.exclude ≡ None
+    → ((result ≡ Err Memory) × (new ≡ old)) ⊎ ReadsMetadataBy context policy before after old new path result

@@ -5,9 +5,11 @@
 pub mod gather;
 pub mod paths;
 
-pub use gather::{LeftOut, gather_krates, gather_krates_since};
+pub use gather::{
+    AskedMetadata, LeftOut, gather_krates, gather_krates_since, gather_metadata_since,
+};
 pub use graph_workspace::{
-    ExcludeSpec, ExcludeSpecs, Krates, KratesError, ReadFault, Selection, UnsupportedPart,
+    ExcludeSpec, ExcludeSpecs, Krates, KratesError, Metadata, ReadFault, Selection, UnsupportedPart,
 };
 pub use paths::{
     config_path_since, exceptions_path_since, get_config_path, get_local_exceptions_path,

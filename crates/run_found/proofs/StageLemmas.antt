@@ -54,16 +54,16 @@ gather_cut scanner policy tree files last graph choice licenses gathered = recor
 -- ---- behind the metadata
 
 -- a refusal of what is carried is none of what is not
-pub carried_error : (context : KrateContext) (exclude : List (List ℕ)) (error : KratesError) → unsupported_part context exclude ≡ None → IsRefused context exclude (Err error) → IsCarried error
-carried_error context exclude krates.Memory carried refused = tt
-carried_error context exclude (krates.NotCarried what) carried refused = apart (sym carried ∙ (refused what).0 refl)
+pub carried_error : {X : Type 0} (context : KrateContext) (exclude : List (List ℕ)) (error : KratesError) → unsupported_part context exclude ≡ None → IsRefused {X = X} context exclude (Err error) → IsCarried error
+carried_error {X = X} context exclude krates.Memory carried refused = tt
+carried_error {X = X} context exclude (krates.NotCarried what) carried refused = apart (sym carried ∙ (refused what).0 refl)
   where
     apart : ◌≡◌ {A = Option UnsupportedPart} None (Some what) → ⊥
     apart e = absurd (cc)
-carried_error context exclude (krates.MetadataRead fault) carried refused = tt
-carried_error context exclude krates.MetadataSyntax carried refused = tt
-carried_error context exclude (krates.MetadataShape fault) carried refused = tt
-carried_error context exclude (krates.NoRoots base excluded unpublished) carried refused = tt
+carried_error {X = X} context exclude (krates.MetadataRead fault) carried refused = tt
+carried_error {X = X} context exclude krates.MetadataSyntax carried refused = tt
+carried_error {X = X} context exclude (krates.MetadataShape fault) carried refused = tt
+carried_error {X = X} context exclude (krates.NoRoots base excluded unpublished) carried refused = tt
 
 -- crates come of what was read
 pub gathers_chosen : (choice : Choice) (begun after : ℕ) (old new : List Call) (path : List ℕ) (chosen : ReachedCrates)

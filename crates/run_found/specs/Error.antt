@@ -23,8 +23,8 @@ use Rattle.run_found.specs.declared.error.Error.TheVariants.{Memory, NotCarried,
 use Rattle.run_found.specs.declared.error.Error.TheVariants.{CatalogRead, CatalogSyntax, StoreRead, ConfigRead}
 use Rattle.run_found.specs.declared.error.Error.TheVariants.{ConfigSyntax, ConfigShape, ConfigInvalid, OverrideTwice}
 use Rattle.run_found.specs.declared.error.Error.TheVariants.{MetadataRead, MetadataSyntax, MetadataShape, NoRoots}
-use Rattle.run_found.specs.declared.error.Error.TheVariants.{NotAccepted, NoText, RecordRead, RecordSyntax, BillText}
-use Rattle.run_found.specs.declared.error.Error.TheVariants.{BillRead, BillSyntax, WriteFault}
+use Rattle.run_found.specs.declared.error.Error.TheVariants.{NoSuchCrate, NotAccepted, NoText, RecordRead}
+use Rattle.run_found.specs.declared.error.Error.TheVariants.{RecordSyntax, BillText, BillRead, BillSyntax, WriteFault}
 use Rattle.run_found.specs.declared.policy.PolicyRefusal.{PolicyRefusal}
 use Rattle.run_found.specs.declared.policy.PolicyRefusal.TheVariants as refusal
 
@@ -45,6 +45,7 @@ error_text (MetadataRead fault) = codes "the metadata could not be read"
 error_text MetadataSyntax = codes "the metadata could not be parsed"
 error_text (MetadataShape fault) = codes "the metadata has not the stated shape"
 error_text (NoRoots base excluded unpublished) = codes "no root crate is left"
+error_text (NoSuchCrate word) = codes "no crate of the metadata is named so"
 error_text (NotAccepted id reads) = codes "a crate is not accepted"
 error_text (NoText id key reads own) = codes "a license text is missing"
 error_text (RecordRead fault reads) = codes "the record could not be read"

@@ -1,5 +1,5 @@
 -- The licences of crates, turn after turn.
-use Rattle.std.specs.Prelude.{◌≡◌, ◌⊎◌, ℕ, true, List, [], ◌∷◌, ◌++◌, map, All, Option, IfSome, option_map}
+use Rattle.std.specs.Prelude.{◌≡◌, ◌⊎◌, ℕ, Bool, true, List, [], ◌∷◌, ◌++◌, map, All, Option, IfSome, option_map}
 use Rattle.std.specs.Option.{option_to_list}
 use Rattle.tree_core.specs.Call.{Call}
 use Rattle.tree_core.specs.declared.reads.ReadKind.TheVariants.{Manifest}
@@ -32,10 +32,11 @@ use Rattle.gather_core.specs.Turns.{asks_manifest, in_order, records_in}
 use Rattle.gather_core.specs.declared.summary.KrateLicense.{KrateLicense}
 use Rattle.run_found.specs.Hearing.{MadeOn, TreeSeen}
 
--- What texts are identified by: the catalogue, the identifier, and the least score that the policy asks for.
-abbrev pub scanner_of_policy : CatalogLists → (List ℕ → Match) → ValidConfig → Scanner
-scanner_of_policy lists match_of policy =
-    record { lists = lists; match_of = match_of; threshold = threshold_of policy.confidence_threshold }
+-- What texts are identified by: the catalogue, the identifier, and the least score that the policy asks for; and
+-- whether it is kept what each licence file is.
+abbrev pub scanner_of_policy : Bool → CatalogLists → (List ℕ → Match) → ValidConfig → Scanner
+scanner_of_policy keeps lists match_of policy =
+    record { lists = lists; match_of = match_of; threshold = threshold_of policy.confidence_threshold; keeps = keeps }
 
 -- ---- one crate
 

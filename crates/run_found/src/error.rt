@@ -67,6 +67,8 @@ pub enum Error {
         /// Those of the others that are published nowhere, where these are left out.
         unpublished: usize,
     },
+    /// No crate of the metadata is named so. The text is the first such word.
+    NoSuchCrate(Text),
     /// A crate is rejected, or has no licence, so there is no notice. The text is the id of the first such crate; the
     /// licences were settled by these reads.
     NotAccepted {
@@ -129,6 +131,7 @@ impl Error {
             Error::MetadataSyntax => "error: the metadata could not be parsed\n",
             Error::MetadataShape(_) => "error: the metadata has not the stated shape\n",
             Error::NoRoots { .. } => "error: no root crate is left\n",
+            Error::NoSuchCrate(_) => "error: no crate of the metadata is named so\n",
             Error::NotAccepted { .. } => "error: a crate is not accepted\n",
             Error::NoText { .. } => "error: a license text is missing\n",
             Error::RecordRead { .. } => "error: the record could not be read\n",

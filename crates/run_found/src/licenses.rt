@@ -20,9 +20,11 @@ use std::alloc::{AllocError, Global};
 use tree_core::Tree;
 
 /// The licences of the crates that a policy has checked, in the order of their ids. The manifests in which their
-/// fields have places join the files, also where memory is wanted; files that are known stay.
+/// fields have places join the files, also where memory is wanted; files that are known stay. `keeps` says whether it
+/// is kept what each licence file is.
 pub fn licenses_found<'k, T: Tree, C: Catalog, I: Identifier>(
     alloc: Global,
+    keeps: bool,
     policy: &ValidConfig,
     krates: &'k Krates,
     files: &mut Files,
@@ -34,11 +36,11 @@ pub fn licenses_found<'k, T: Tree, C: Catalog, I: Identifier>(
     // of each graph and choice that the crates are of
     ensures gathered { IfOk result (λ summary. (graph : Graph) (choice : Choice)
         → IsChosen graph choice krates.entry.now
-        → IsGatheredOn (scanner_of_policy (C.lists catalog.now) (I.match_of identifier.now) policy.now) policy.now
+        → IsGatheredOn (scanner_of_policy keeps (C.lists catalog.now) (I.match_of identifier.now) policy.now) policy.now
         (seen_between T.content T.fault_count T.trace tree.old tree.new)
         files.old files.new graph choice summary.nfos) }
     ensures cut { OnErr result ((graph : Graph) (choice : Choice) → IsChosen graph choice krates.entry.now
-        → IsGatherCut (scanner_of_policy (C.lists catalog.now) (I.match_of identifier.now) policy.now) policy.now
+        → IsGatherCut (scanner_of_policy keeps (C.lists catalog.now) (I.match_of identifier.now) policy.now) policy.now
         (seen_between T.content T.fault_count T.trace tree.old tree.new)
         files.old graph choice) }
     ensures grows { Grows files.old files.new }
@@ -50,7 +52,8 @@ pub fn licenses_found<'k, T: Tree, C: Catalog, I: Identifier>(
     let gatherer: Gatherer<'_, I> = Gatherer::default();
     let gatherer = gatherer
         .with_store(identifier)
-        .with_confidence_threshold(policy.confidence_threshold);
+        .with_confidence_threshold(policy.confidence_threshold)
+        .keeping_files(keeps);
     let summary = gatherer.gather(alloc, krates, files, policy, tree, catalog)?;
     Ok(summary)
 }

@@ -37,14 +37,14 @@ use Rattle.run_list.proofs.ListedLemmas.{all_are_listed, reads_answered}
 
 -- the options of a listing all of which is carried
 abbrev pub carried_options : LintLevels → ℤ → CommandOptions
-carried_options levels threshold = record { unsupported = None; levels = levels; with_flags = false; threshold = Some threshold }
+carried_options levels threshold = record { unsupported = None; levels = levels; with_flags = false; threshold = Some threshold; keeps = false }
 
 pub options_are : (log : LogContext) (args : ListArgs) (context : KrateContext) (levels : LintLevels) (threshold : ℤ) → unsupported_of log context ≡ None → levels ≡ no_levels → threshold ≡ args.threshold
     → carried_options levels threshold ≡ list_options log args context
 options_are log args context levels threshold carried none score =
     ap (λ own. carried_options own threshold) none
     ∙ ap (carried_options no_levels) score
-    ∙ ap (λ own. let it : CommandOptions = record { unsupported = own; levels = no_levels; with_flags = false; threshold = Some args.threshold } in it) (sym carried)
+    ∙ ap (λ own. let it : CommandOptions = record { unsupported = own; levels = no_levels; with_flags = false; threshold = Some args.threshold; keeps = false } in it) (sym carried)
 
 -- what was not written of a listing comes of no read
 pub cut_counts : (out : SinkSeen) (text : List ℕ) (begun before after : ℕ) (cause : Cause) → IsCutBy out text cause → ReadCounts begun before after cause

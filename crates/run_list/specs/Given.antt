@@ -16,6 +16,7 @@ list_options log args context =
       levels = no_levels;
       with_flags = false;
       threshold = Some args.threshold;
+      keeps = false;
     }
 
 -- what each command is given, and the options of `list`

@@ -54,6 +54,7 @@ fn listing_found<T: Tree, S: Sink, C: Catalog, I: Identifier>(
         levels: &levels,
         with_flags: false,
         threshold: Some(args.threshold),
+        keeps: false,
     };
     let mut files = Files::new(alloc);
     let found = crates_found(
@@ -61,6 +62,7 @@ fn listing_found<T: Tree, S: Sink, C: Catalog, I: Identifier>(
     )?;
     let summary = licenses_found(
         alloc,
+        false,
         &found.policy,
         &found.krates,
         &mut files,

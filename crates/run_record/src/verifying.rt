@@ -119,12 +119,14 @@ fn verified_crates<T: Tree, S: Sink, C: Catalog, I: Identifier>(
         levels: &levels,
         with_flags: true,
         threshold: None,
+        keeps: false,
     };
     let found = crates_found(
         alloc, context, log_ctx, &use_of, &mut files, tree, err, catalog,
     )?;
     let summary = licenses_found(
         alloc,
+        false,
         &found.policy,
         &found.krates,
         &mut files,

@@ -18,14 +18,14 @@ use Rattle.run_request.specs.declared.read.CliAnswer.{CliAnswer}
 use Rattle.run_request.specs.declared.read.CliAnswer.TheVariants.{Asked, Shown, Usage}
 use Rattle.run_request.specs.declared.request.Request.{Request}
 use Rattle.run_request.specs.declared.request.Subcommand.{Subcommand}
-use Rattle.run_request.specs.declared.request.Subcommand.TheVariants.{Check, List as Listing, Sample, Record, Verify, Bill, Notice}
+use Rattle.run_request.specs.declared.request.Subcommand.TheVariants.{Check, List as Listing, Sample, Record, Verify, Bill, Notice, Why}
 use Rattle.run_request.specs.Args.{check_args_of, list_args_of}
 use Rattle.run_request.specs.Bill.{bill_args_of}
 use Rattle.run_request.specs.Cli.{cli}
 use Rattle.run_request.specs.Given.{HasSize, IsCommandAsked, IsGivenFor, IsSized}
 use Rattle.run_request.specs.Number.{number_of, sample_size_of, size_of}
 use Rattle.run_request.specs.Reading.{and_then, first_read, maybe_read}
-use Rattle.run_request.specs.Request.{IsCommandOf, krate_context_of, log_context_of, path_at, request_in, sample_of, subcommand_asked, verify_of}
+use Rattle.run_request.specs.Request.{IsCommandOf, krate_context_of, log_context_of, path_at, request_in, sample_of, subcommand_asked, verify_of, why_of}
 
 same_value : {T E : Type 0} {one two : T} → ◌≡◌ {A = Result T E} (Ok one) (Ok two) → one ≡ two
 same_value e = cc
@@ -62,6 +62,9 @@ by_bill name rows cwd command (Err error) is reads e = absurd (cc)
 by_notice : (name : Text) (rows : List Row) (cwd : Text) (command : Subcommand) → name ≡ codes "notice" → ◌≡◌ {A = Result Subcommand ArgsError} (Ok Notice) (Ok command) → IsCommandOf name rows cwd command
 by_notice name rows cwd command is e = subst (IsCommandOf name rows cwd) (same_value e) is
 
+by_why : (name : Text) (rows : List Row) (cwd : Text) (command : Subcommand) → name ≡ codes "why" → why_of rows ≡ Ok command → IsCommandOf name rows cwd command
+by_why name rows cwd command is e = subst (IsCommandOf name rows cwd) (same_value e) (is, refl)
+
 by_sample : (name : Text) (rows : List Row) (cwd : Text) (command : Subcommand) (read : Result (Option SampleSize) ArgsError) → name ≡ codes "sample"
     → first_read sample_size_of (codes "N") rows ≡ read → and_then sample_of read ≡ Ok command → IsCommandOf name rows cwd command
 by_sample name rows cwd command (Ok (Some size)) is reads e = subst (IsCommandOf name rows cwd) (same_value e) (is, reads)
@@ -87,9 +90,10 @@ named (Some below) cwd command e =
     (by_test P (bytes_eq name (codes "bill")) _ _
     (λ is. by_bill name rows cwd command (bill_args_of rows (path_at cwd (codes "against") rows)) ((bytes_eq-Decides name (codes "bill")).0 is) refl)
     (by_test P (bytes_eq name (codes "notice")) _ _ (λ is. by_notice name rows cwd command ((bytes_eq-Decides name (codes "notice")).0 is))
+    (by_test P (bytes_eq name (codes "why")) _ _ (λ is. by_why name rows cwd command ((bytes_eq-Decides name (codes "why")).0 is))
     (by_test P (bytes_eq name (codes "sample")) _ _
     (λ is. by_sample name rows cwd command (first_read sample_size_of (codes "N") rows) ((bytes_eq-Decides name (codes "sample")).0 is) refl)
-    (λ none. absurd (cc)))))))) e
+    (λ none. absurd (cc))))))))) e
 
 -- ---- the command of a request
 
@@ -163,6 +167,7 @@ command_sized name rows cwd Record is = tt
 command_sized name rows cwd (Verify path) is = tt
 command_sized name rows cwd (Bill args) is = tt
 command_sized name rows cwd Notice is = tt
+command_sized name rows cwd (Why words) is = tt
 command_sized name rows cwd (Sample size) is = first_fits (first_of (codes "N") rows) size is.1
 
 sized_in : (below : Option (Text × List Row)) (cwd : Text) (command : Subcommand) → IsSomeAnd below (λ named. IsCommandOf named.0 named.1 cwd command) → IsSized command

@@ -16,7 +16,7 @@ use Rattle.deny_text.specs.Path.{join_of}
 use Rattle.run_request.specs.Bill.{bill_args_of, formed}
 use Rattle.run_request.specs.Cli.{cli}
 use Rattle.run_request.specs.Reading.{and_then}
-use Rattle.run_request.specs.Request.{request_of_rows, gate_words, krate_context_of, log_context_of, path_at, subcommand_asked, verify_of}
+use Rattle.run_request.specs.Request.{request_of_rows, gate_words, krate_context_of, log_context_of, path_at, subcommand_asked, verify_of, why_of}
 use Rattle.run_request.specs.Given.{IsGivenFor}
 use Rattle.run_request.specs.Laws.{SecondDenyChangesNothing, FolderShowsInPaths, command_hidden, hidden_path, without_folder}
 
@@ -103,7 +103,8 @@ same_asked (Some below) one other =
     (same_if (bytes_eq below.0 (codes "record")) _ _ _ _ (same_as (Ok Record))
     (same_if (bytes_eq below.0 (codes "verify")) _ _ _ _ (same_file (first_of (codes "FILE") below.1) one other)
     (same_if (bytes_eq below.0 (codes "bill")) _ _ _ _ (same_bill below.1 (first_of (codes "against") below.1) one other)
-    (same_if (bytes_eq below.0 (codes "notice")) _ _ _ _ (same_as (Ok Notice)) (same_as _))))))
+    (same_if (bytes_eq below.0 (codes "notice")) _ _ _ _ (same_as (Ok Notice))
+    (same_if (bytes_eq below.0 (codes "why")) _ _ _ _ (same_as (why_of below.1)) (same_as _)))))))
 
 by_command : (rows : List Row) (log_ctx : LogContext) (one other : Text) (command further : Result Subcommand ArgsError) → SameAsked command further
     → option_map without_folder (result_ok (and_then (λ command. Ok (read_of rows log_ctx command one)) command))

@@ -96,6 +96,10 @@ bill_rules =
     ∷ option_rule (codes "against")
     ∷ []
 
+-- the crates that `why` tells
+abbrev pub why_rules : List Rule
+why_rules = words_rule (codes "CRATE") ∷ []
+
 -- how many crates `sample` is to have
 abbrev pub sample_rules : List Rule
 sample_rules = word_rule (codes "N") ∷ []
@@ -122,13 +126,16 @@ bill_shape = subcommand_shape (codes "bill") bill_rules
 abbrev pub notice_shape : Shape
 notice_shape = subcommand_shape (codes "notice") []
 
+abbrev pub why_shape : Shape
+why_shape = subcommand_shape (codes "why") why_rules
+
 abbrev pub sample_shape : Shape
 sample_shape = subcommand_shape (codes "sample") sample_rules
 
 -- the subcommands, in the order in which help lists them
 abbrev pub subcommand_shapes : List Shape
 subcommand_shapes =
-    check_shape ∷ list_shape ∷ record_shape ∷ verify_shape ∷ bill_shape ∷ notice_shape ∷ sample_shape ∷ []
+    check_shape ∷ list_shape ∷ record_shape ∷ verify_shape ∷ bill_shape ∷ notice_shape ∷ why_shape ∷ sample_shape ∷ []
 
 -- a command without subcommands
 abbrev pub app_of_shape : Shape → App

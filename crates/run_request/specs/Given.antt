@@ -14,7 +14,7 @@ use Rattle.run_request.specs.declared.read.CliAnswer.{CliAnswer}
 use Rattle.run_request.specs.declared.read.CliAnswer.TheVariants.{Asked, Shown, Usage}
 use Rattle.run_request.specs.declared.request.Subcommand.{Subcommand}
 use Rattle.run_request.specs.declared.request.Subcommand.TheVariants.{Check, List as Listing, Sample, Record, Verify}
-use Rattle.run_request.specs.declared.request.Subcommand.TheVariants.{Bill, Notice}
+use Rattle.run_request.specs.declared.request.Subcommand.TheVariants.{Bill, Notice, Why}
 use Rattle.run_request.specs.Cli.{cli}
 use Rattle.run_request.specs.Request.{IsCommandOf, gate_words, request_in, request_of_rows}
 
@@ -72,6 +72,7 @@ IsSized Record = Unit {0}
 IsSized (Verify path) = Unit {0}
 IsSized (Bill args) = Unit {0}
 IsSized Notice = Unit {0}
+IsSized (Why words) = Unit {0}
 IsSized (Sample size) = size ≤ 20000
 
 abbrev pub HasSize : CliAnswer → Type 0

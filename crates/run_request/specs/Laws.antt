@@ -4,7 +4,7 @@ use Rattle.clap.specs.Words.{Text}
 use Rattle.run_request.specs.declared.request.Request.{Request}
 use Rattle.run_request.specs.declared.request.Subcommand.{Subcommand}
 use Rattle.run_request.specs.declared.request.Subcommand.TheVariants.{Check, List as Listing, Sample, Record, Verify}
-use Rattle.run_request.specs.declared.request.Subcommand.TheVariants.{Bill, Notice}
+use Rattle.run_request.specs.declared.request.Subcommand.TheVariants.{Bill, Notice, Why}
 use Rattle.run_request.specs.declared.read.CliAnswer.{CliAnswer}
 use Rattle.run_request.specs.Request.{request_of, without_deny}
 use Rattle.run_request.specs.Given.{IsGiven}
@@ -28,6 +28,7 @@ command_hidden Record = Record
 command_hidden (Verify path) = Verify []
 command_hidden (Bill args) = Bill (record args { against = hidden_path args.against })
 command_hidden Notice = Notice
+command_hidden (Why words) = Why words
 command_hidden (Sample size) = Sample size
 
 -- the request without the paths that are behind the working folder

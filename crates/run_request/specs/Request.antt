@@ -17,7 +17,7 @@ use Rattle.run_request.specs.declared.context.KrateContext.{KrateContext}
 use Rattle.run_request.specs.declared.request.Request.{Request}
 use Rattle.run_request.specs.declared.request.Subcommand.{Subcommand}
 use Rattle.run_request.specs.declared.request.Subcommand.TheVariants.{Check, List as Listing, Sample, Record, Verify}
-use Rattle.run_request.specs.declared.request.Subcommand.TheVariants.{Bill, Notice}
+use Rattle.run_request.specs.declared.request.Subcommand.TheVariants.{Bill, Notice, Why}
 use Rattle.run_request.specs.declared.number.SampleSize.{SampleSize}
 use Rattle.run_request.specs.Named.{named_in}
 use Rattle.run_request.specs.Names.{filter_names, format_names, color_names}
@@ -77,6 +77,10 @@ verify_of (Some path) = Ok (Verify path)
 abbrev pub bill_of : List Row → Option Text → Result Subcommand ArgsError
 bill_of rows against = and_then (λ args. Ok (Bill args)) (bill_args_of rows against)
 
+-- the words of `why`
+abbrev pub why_of : List Row → Result Subcommand ArgsError
+why_of rows = Ok (Why (option_words (codes "CRATE") rows))
+
 -- the subcommand of that name with these rows
 abbrev pub subcommand_named : Text → List Row → Text → Result Subcommand ArgsError
 subcommand_named name rows cwd =
@@ -86,6 +90,7 @@ subcommand_named name rows cwd =
     else if bytes_eq name (codes "verify") then verify_of (path_at cwd (codes "FILE") rows)
     else if bytes_eq name (codes "bill") then bill_of rows (path_at cwd (codes "against") rows)
     else if bytes_eq name (codes "notice") then Ok Notice
+    else if bytes_eq name (codes "why") then why_of rows
     else if bytes_eq name (codes "sample") then and_then sample_of (first_read sample_size_of (codes "N") rows)
     else Err (BadValue (codes "COMMAND") name)
 
@@ -103,6 +108,7 @@ IsCommandOf name rows cwd (Verify path) = (name ≡ codes "verify") × (path_at 
 IsCommandOf name rows cwd (Bill args) =
     (name ≡ codes "bill") × (bill_args_of rows (path_at cwd (codes "against") rows) ≡ Ok args)
 IsCommandOf name rows cwd Notice = name ≡ codes "notice"
+IsCommandOf name rows cwd (Why words) = (name ≡ codes "why") × (words ≡ option_words (codes "CRATE") rows)
 IsCommandOf name rows cwd (Sample size) =
     (name ≡ codes "sample") × (first_read sample_size_of (codes "N") rows ≡ Ok (Some (record { 0 = size })))
 

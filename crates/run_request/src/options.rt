@@ -281,7 +281,7 @@ static MAIN: [OptionRow; 19] = [
     ),
 ];
 
-static SUBCOMMANDS: [SubcommandRow; 7] = [
+static SUBCOMMANDS: [SubcommandRow; 8] = [
     SubcommandRow {
         name: "check",
         about: "Checks a project's crates",
@@ -434,6 +434,19 @@ static SUBCOMMANDS: [SubcommandRow; 7] = [
         name: "notice",
         about: "Writes which licence each accepted crate is used under, and each licence text once, to standard output",
         rows: &[],
+    },
+    SubcommandRow {
+        name: "why",
+        about: "Says what the verdicts on crates rest on, without CRATE on those that are rejected or have no licence",
+        rows: &[valued!(
+            Words,
+            "CRATE",
+            None,
+            None,
+            "CRATE",
+            OptionValues::Any,
+            "The crates to report, checked or not, each as name, name@version or name:version"
+        )],
     },
     SubcommandRow {
         name: "sample",

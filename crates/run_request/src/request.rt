@@ -3,7 +3,7 @@
 ghost use Rattle.std.specs.Prelude.{◌≡◌};
 ghost use Rattle.clap.specs.Words.{found_of, rows_of, subcommand_rows_of};
 ghost use Rattle.run_request.specs.Reading.{AnswersArgs};
-ghost use Rattle.run_request.specs.Request.{bill_of, log_context_of, sample_of, verify_of};
+ghost use Rattle.run_request.specs.Request.{bill_of, log_context_of, sample_of, verify_of, why_of};
 ghost use Rattle.run_request.specs.Request.{subcommand_named, subcommand_asked};
 
 use crate::bill::BillArgs;
@@ -11,10 +11,10 @@ use crate::context::{KrateContext, path_at};
 use crate::error::ArgsError;
 use crate::number::SampleSize;
 use crate::options::{SubcommandRow, subcommand_rows};
-use crate::rows::read_first;
+use crate::rows::{copied_words, read_first};
 use crate::{check, list};
 use clap::ArgMatches;
-use deny_text::PathBuf;
+use deny_text::{PathBuf, Texts};
 use diag_core::LevelFilter;
 use diag_print::{Color, Format, LogContext};
 use std::alloc::Global;
@@ -34,6 +34,8 @@ pub enum Subcommand {
     Bill(BillArgs),
     /// The licences that the crates are used under are to be written, with their texts.
     Notice,
+    /// What the verdicts on the crates that these words name rest on is to be written.
+    Why(Texts),
 }
 
 /// What the words of a command line ask for.
@@ -106,6 +108,8 @@ fn subcommand_named(
         bill_of(alloc, below, against)
     } else if name == "notice" {
         Ok(Subcommand::Notice)
+    } else if name == "why" {
+        why_of(alloc, below)
     } else if name == "sample" {
         let size: Option<SampleSize> = read_first(alloc, below, "N")?;
         sample_of(alloc, size)
@@ -132,6 +136,13 @@ fn bill_of(
 {
     let args = BillArgs::parse(alloc, below, against)?;
     Ok(Subcommand::Bill(args))
+}
+
+fn why_of(alloc: Global, below: &ArgMatches<'_>) -> Result<Subcommand, ArgsError>
+    ensures { AnswersArgs (why_of (rows_of (found_of below.now))) result }
+{
+    let words = copied_words(alloc, below, "CRATE")?;
+    Ok(Subcommand::Why(words))
 }
 
 fn sample_of(alloc: Global, size: Option<SampleSize>) -> Result<Subcommand, ArgsError>

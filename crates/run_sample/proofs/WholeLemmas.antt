@@ -13,7 +13,7 @@ use Rattle.spdx_terms.specs.declared.catalog.identifier.Match.{Match}
 use Rattle.tree_core.specs.texts.Cause.{Cause, no_memory, failed_read, refused_write}
 use Rattle.tree_core.specs.texts.Cause as causes
 use Rattle.run_found.specs.declared.error.Error.{Error}
-use Rattle.run_found.specs.declared.error.Error.TheVariants.{Memory, NotCarried, ManifestPath, ManifestRead, CatalogRead, CatalogSyntax, StoreRead, ConfigRead, ConfigSyntax, ConfigShape, ConfigInvalid, OverrideTwice, MetadataRead, MetadataSyntax, MetadataShape, NoRoots, NotAccepted, NoText, RecordRead, RecordSyntax, BillText, BillRead, BillSyntax, WriteFault}
+use Rattle.run_found.specs.declared.error.Error.TheVariants.{Memory, NotCarried, ManifestPath, ManifestRead, CatalogRead, CatalogSyntax, StoreRead, ConfigRead, ConfigSyntax, ConfigShape, ConfigInvalid, OverrideTwice, MetadataRead, MetadataSyntax, MetadataShape, NoRoots, NoSuchCrate, NotAccepted, NoText, RecordRead, RecordSyntax, BillText, BillRead, BillSyntax, WriteFault}
 use Rattle.run_found.specs.Error.{cause_of}
 use Rattle.run_found.specs.Hearing.{RequestHearing, TellsContent, TreeSeen}
 use Rattle.run_check.specs.declared.report.Report.{Report}
@@ -86,6 +86,7 @@ selection_apart given found root (MetadataRead fault) refuses = refuses
 selection_apart given found root MetadataSyntax refuses = refuses
 selection_apart given found root (MetadataShape fault) refuses = refuses
 selection_apart given found root (NoRoots base excluded unpublished) refuses = refuses.none root
+selection_apart given found root (NoSuchCrate word) refuses = refuses
 selection_apart given found root (NotAccepted id reads) refuses = refuses
 selection_apart given found root (NoText id key reads own) refuses = refuses
 selection_apart given found root (RecordRead path fault) refuses = refuses

@@ -6,7 +6,8 @@ use check_verify::{NoReason, VerifyAnswer, verify};
 use deny_text::{Steps, Texts};
 use diag_core::Notes;
 use gather_core::{
-    Diags, KrateLicense, KrateLicenses, LicenseExprInfo, LicenseExprSource, LicenseInfo, Summary,
+    Diags, KeptFiles, KrateLicense, KrateLicenses, LicenseExprInfo, LicenseExprSource, LicenseInfo,
+    Summary,
 };
 use graph_core::Krate;
 use policy_core::valid::{CountedPolicy, ValidConfig};
@@ -92,6 +93,7 @@ fn summary_of<'k>(alloc: Global, krate: &'k Krate, gathered: Gathered) -> Option
         diags: Diags::new(alloc),
         reads: Reads::new(alloc),
         exceptions,
+        kept: KeptFiles::new(alloc),
     };
     nfos.push(license).ok()?;
     Some(Summary { nfos })

@@ -4,10 +4,10 @@ use crate::given::{OF_FEED, World, first_word, policy_of, world_of};
 use deny_text::{PathBuf, Span, Text};
 use diag_core::{Diag, Files, Label, LabelStyle};
 use gather_core::{Gatherer, KrateLicense, LicenseExprSource, LicenseInfo, Summary};
-use gather_license::FileRef;
 use gather_license::expression::{joined, scan_pack};
 use gather_license::files::{LicensePack, TriedClarification};
 use gather_license::location::{LocatedField, locate};
+use gather_license::{FileRef, Scan};
 use graph_core::selection::{ExcludeSpecs, Krates, Selection};
 use graph_metadata::records;
 use policy_core::valid::ValidConfig;
@@ -401,7 +401,13 @@ pub fn put_tried(alloc: Global, case: &Case<'_>, out: &mut AnswerText) -> Option
 }
 
 fn put_names(alloc: Global, pack: &LicensePack, threshold: u8, out: &mut AnswerText) -> Option<()> {
-    let files = ok!(scan_pack(alloc, Some(&NameIdentifier), threshold, pack, &Table));
+    let scan = Scan {
+        identifier: Some(&NameIdentifier),
+        threshold,
+        catalog: &Table,
+        keeps: false,
+    };
+    let files = ok!(scan_pack(alloc, &scan, pack));
     match &joined(alloc, files.items(), &Table) {
         Ok(Some(read)) => out.put(read.as_ref()),
         Ok(None) => out.put("none"),

@@ -15,8 +15,8 @@ pub use lines::put_run;
 /// Files of cases: of the first path and failures, of what words ask for and how they are refused, of metadata, of
 /// policies, of what is found, of what is read of each crate, of the calls of the tree, of licence families, of
 /// listings, of the sample, of own catalogues and texts, of verdict files, of policies by their version, of
-/// clarifications of the exceptions file, of bills, and of notices.
-const FILES: [&str; 17] = [
+/// clarifications of the exceptions file, of bills, of notices, and of what verdicts rest on.
+const FILES: [&str; 18] = [
     "run/gate.txt",
     "run/command.txt",
     "run/refused.txt",
@@ -34,6 +34,7 @@ const FILES: [&str; 17] = [
     "run/overlays.txt",
     "run/bills.txt",
     "run/notices.txt",
+    "run/why.txt",
 ];
 
 /// Files of cases of input that is bad, long or deep, and of runs in which calls fail.

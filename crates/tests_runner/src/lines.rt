@@ -33,6 +33,7 @@ fn put_ended(out: &mut AnswerText, ended: &RunEnd) {
         RunEnd::Verified(_) => out.put("verified"),
         RunEnd::Billed(_) => out.put("billed"),
         RunEnd::Noticed(_) => out.put("noticed"),
+        RunEnd::Told(_) => out.put("told"),
         RunEnd::Shown => out.put("shown"),
         RunEnd::Usage => out.put("usage"),
         RunEnd::Refused(error) => write!(out, "refused ({})", error.line().trim_end()),

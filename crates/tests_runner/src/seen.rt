@@ -125,6 +125,7 @@ fn put_error(out: &mut AnswerText, error: &Error) {
             excluded,
             unpublished,
         } => write!(out, "no roots: {base} {excluded} {unpublished}"),
+        Error::NoSuchCrate(word) => write!(out, "no such crate: {word}"),
         Error::NotAccepted { id, .. } => write!(out, "not accepted: {id}"),
         Error::NoText { id, key, .. } => write!(out, "no text: {id} {key}"),
         Error::RecordRead { fault, .. } => write!(out, "record: {fault:?}"),
@@ -380,6 +381,7 @@ fn put_unreported(out: &mut AnswerText, ended: &RunEnd, key: &str, err: &str) {
             "bill changed"
         }),
         RunEnd::Noticed(_) => out.put("noticed"),
+        RunEnd::Told(_) => out.put("told"),
     }
 }
 

@@ -47,6 +47,7 @@ fn put_ended(out: &mut AnswerText, ended_at: &Result<Outcome, StartError>) {
             RunEnd::Verified(_) => out.put("verified"),
             RunEnd::Billed(_) => out.put("billed"),
             RunEnd::Noticed(_) => out.put("noticed"),
+            RunEnd::Told(_) => out.put("told"),
             RunEnd::Shown => out.put("shown"),
             RunEnd::Usage => out.put("usage"),
             RunEnd::Refused(_) => out.put("refused"),

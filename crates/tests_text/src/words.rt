@@ -131,6 +131,10 @@ fn put_request(out: &mut AnswerText, request: &Request) {
             put_path(out, "against", &args.against);
         }
         Subcommand::Notice => out.put(" notice"),
+        Subcommand::Why(crates) => {
+            out.put(" why");
+            put_texts(out, "crates", crates);
+        }
     }
 }
 

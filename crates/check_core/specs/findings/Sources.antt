@@ -5,14 +5,14 @@ use Rattle.gather_core.specs.declared.findings.license.LicenseExprSource.{Licens
 use Rattle.gather_core.specs.declared.findings.license.LicenseExprSource.TheVariants.{Metadata, UserOverride}
 use Rattle.gather_core.specs.declared.findings.license.LicenseExprSource.TheVariants.{OverlayOverride, LicenseFiles}
 
--- a path that follows another one
+-- a text that follows another one
 abbrev pub behind_comma : List ℕ → List ℕ
-behind_comma path = codes ", " ++ path
+behind_comma text = codes ", " ++ text
 
--- paths with a comma and a blank between
+-- texts with a comma and a blank between
 abbrev pub with_commas : List (List ℕ) → List ℕ
 with_commas [] = []
-with_commas (path ∷ paths) = path ++ flat_map behind_comma paths
+with_commas (text ∷ texts) = text ++ flat_map behind_comma texts
 
 abbrev pub source_text : LicenseExprSource → List ℕ
 source_text (Metadata place) = codes "Cargo.toml `license`"

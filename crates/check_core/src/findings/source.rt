@@ -8,17 +8,17 @@ use deny_text::Text;
 use gather_core::findings::LicenseExprSource;
 use std::alloc::{AllocError, Global};
 
-/// Appends paths with a comma and a blank between.
-fn push_paths(text: &mut String, paths: &[Text]) -> Result<(), AllocError>
-    ensures { OnOk result (string_bytes text.new ≡ string_bytes text.old ++ with_commas paths.now) }
+/// Appends texts with a comma and a blank between.
+pub fn push_with_commas(out: &mut String, texts: &[Text]) -> Result<(), AllocError>
+    ensures { OnOk result (string_bytes out.new ≡ string_bytes out.old ++ with_commas texts.now) }
 {
-    let Some((first, rest)) = paths.split_first() else {
+    let Some((first, rest)) = texts.split_first() else {
         return Ok(());
     };
-    text.push_str(first.as_str())?;
-    'rest: for path in rest {
-        text.push_str(", ")?;
-        text.push_str(path.as_str())?;
+    out.push_str(first.as_str())?;
+    'rest: for text in rest {
+        out.push_str(", ")?;
+        out.push_str(text.as_str())?;
     }
     Ok(())
 }
@@ -27,7 +27,7 @@ fn files_text(alloc: Global, paths: &[Text]) -> Result<Text, AllocError>
     ensures { IfOk result (λ text. text ≡ codes "license files: " ++ with_commas paths.now) }
 {
     let mut text = String::from_str(alloc, "license files: ")?;
-    push_paths(&mut text, paths)?;
+    push_with_commas(&mut text, paths)?;
     Ok(Text::from(text))
 }
 

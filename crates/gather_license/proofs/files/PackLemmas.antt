@@ -3,7 +3,7 @@ use Rattle.std.proofs.lemmas.List.Elements.{filter_map-append}
 use Rattle.std.proofs.lemmas.List.{take_more}
 use Rattle.std.proofs.lemmas.List.Sums.{fold-append}
 use Rattle.std.proofs.lemmas.Map.Made.{lookup-map_values}
-use Rattle.std.proofs.Common.{◌≡◌, ℕ, ◌+◌, ◌<◌, get_or, length, take, Bool, true, false, ◌&&◌, ◌||◌, cond, List, [], ◌∷◌, ◌++◌, map, Option, None, Some, is_some, Result, Ok, Err, IfOk, refl, sym, ap, subst, ◌∙◌}
+use Rattle.std.proofs.Common.{◌≡◌, ℕ, ◌+◌, ◌<◌, get_or, length, take, Bool, true, false, ◌&&◌, ◌||◌, cond, List, [], ◌∷◌, ◌++◌, map, Option, None, Some, is_some, option_copied, Result, Ok, Err, IfOk, Bor, refl, sym, ap, subst, ◌∙◌}
 use Rattle.std.specs.BTreeMap.{is_at, insert_entry}
 use Rattle.std.specs.List.{fold, list_any}
 use Rattle.std.specs.Map.{lookup}
@@ -299,3 +299,16 @@ fold_more start paths place path inside is =
     ap (fold with_path start) (take_more paths place path inside)
     ∙ fold-append with_path start (take place paths) (get_or paths place path ∷ [])
     ∙ ap (with_path (fold with_path start (take place paths))) (sym is)
+
+-- ---- a file that is looked up
+
+-- what is borrowed of a look-up, as it is read
+pub copied_map : {A B : Type 0} (f : A → B) (found : Option (Bor A)) → option_map (λ kept. f kept.now) found ≡ option_map f (option_copied found)
+copied_map f None = refl
+copied_map f (Some kept) = refl
+
+-- what is read of the file at a path is what is kept of it
+pub file_found : (held : List (List ℕ × Result (List ℕ) BadRead)) (path : List ℕ) (found : Option (Result (List ℕ) BadRead)) → found ≡ lookup (is_at (path_order path)) held
+    → option_map heard_file found ≡ file_at (kept_files held) path
+file_found held path found is =
+    ap (option_map heard_file) is ∙ sym (lookup-map_values heard_file (is_at (path_order path)) held)

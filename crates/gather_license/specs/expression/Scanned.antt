@@ -17,11 +17,12 @@ use Rattle.gather_license.specs.declared.expression.files.FileResult.TheVariants
 use Rattle.gather_license.specs.declared.expression.files.ScannedFile.{ScannedFile}
 
 -- what texts are identified by: a catalogue, what an identifier says of each text, and the least score, in hundredths,
--- that is enough
+-- that is enough; and whether it is kept what each licence file is
 pub record Scanner : Type 0 where
   pub lists : CatalogLists
   pub match_of : List ℕ → Match
   pub threshold : ℕ
+  pub keeps : Bool
 
 -- what is said of a text by an identifier, where there is one; else no text is identified
 abbrev pub match_by : {I : Type 0} → (I → List ℕ → Match) → Option I → List ℕ → Match

@@ -2,10 +2,12 @@
 ghost use Rattle.std.specs.Prelude.{◌≡◌, IfOk, Some, option_copied, option_map, map, if◌then◌else◌, nat_le};
 ghost use Rattle.tree_core.specs.file_reads.Views.{heard_file};
 ghost use Rattle.gather_license.specs.expression.Scanned as spec;
-ghost use Rattle.gather_license.specs.expression.Scanned.{Scanner, begins_as_pixar, file_scanned, match_by, identified_name};
+ghost use Rattle.gather_license.specs.expression.Scanned.{begins_as_pixar, file_scanned, match_by, identified_name};
+ghost use Rattle.gather_license.specs.Settled.{scanner_of_scan};
 ghost use Rattle.gather_license.specs.expression.Scanned.{name_taken, named_by, scanned_of, text_scanned};
 
 use crate::files::{LicensePack, LicenseText, PackFileData};
+use crate::scan::Scan;
 use deny_text::{ListOf, PathBuf, Text};
 use spdx_terms::catalog::{Catalog, Identifier, Match};
 use std::alloc::{AllocError, Global};
@@ -88,7 +90,7 @@ fn name_of(alloc: Global, normal: &str, name: Text) -> Result<IdentifiedName, Al
 }
 
 /// The name that is taken of what an identifier says of a text.
-fn name_taken(
+pub(crate) fn name_taken(
     alloc: Global,
     normal: &str,
     found: Match,
@@ -108,7 +110,7 @@ fn name_taken(
 }
 
 /// What an identifier says of a text; without one no text is identified, at score 0.
-fn scan<I: Identifier>(
+pub(crate) fn identified<I: Identifier>(
     alloc: Global,
     identifier: Option<&I>,
     normal: &str,
@@ -149,22 +151,16 @@ fn named<C: Catalog>(
 
 fn text_scanned<I: Identifier, C: Catalog>(
     alloc: Global,
-    identifier: Option<&I>,
-    threshold: u8,
+    scan: &Scan<'_, I, C>,
     text: &LicenseText,
-    catalog: &C,
 ) -> Result<FileResult, AllocError>
-    ensures { IfOk result (λ scanned. scanned ≡ text_scanned (record {
-      lists = C.lists catalog.now;
-      match_of = match_by I.match_of (option_copied identifier.entry);
-      threshold = threshold;
-    }) text.now) }
+    ensures { IfOk result (λ scanned. scanned ≡ text_scanned (scanner_of_scan C.lists I.match_of scan.now) text.now) }
 {
-    let found = scan(alloc, identifier, text.as_str())?;
+    let found = identified(alloc, scan.identifier, text.as_str())?;
     let score = found.score;
     let taken = name_taken(alloc, text.as_str(), found)?;
     match taken {
-        Some(name) => Ok(named(threshold, text.hash(), score, name, catalog)),
+        Some(name) => Ok(named(scan.threshold, text.hash(), score, name, scan.catalog)),
         None => Ok(FileResult::Unnamed {
             hash: text.hash(),
             score,
@@ -175,43 +171,30 @@ fn text_scanned<I: Identifier, C: Catalog>(
 #[tactic(auto, using(crate::proofs::expression::ScannedLemmas::bad_scanned))]
 fn scan_file<I: Identifier, C: Catalog>(
     alloc: Global,
-    identifier: Option<&I>,
-    threshold: u8,
+    scan: &Scan<'_, I, C>,
     kept: &PackFileData,
-    catalog: &C,
 ) -> Result<FileResult, AllocError>
-    ensures { IfOk result (λ scanned. scanned ≡ scanned_of (record {
-      lists = C.lists catalog.now;
-      match_of = match_by I.match_of (option_copied identifier.entry);
-      threshold = threshold;
-    }) (heard_file kept.now)) }
+    ensures { IfOk result (λ scanned. scanned ≡ scanned_of (scanner_of_scan C.lists I.match_of scan.now) (heard_file kept.now)) }
 {
     match kept {
-        Ok(text) => text_scanned(alloc, identifier, threshold, text, catalog),
+        Ok(text) => text_scanned(alloc, scan, text),
         Err(error) => Ok(FileResult::Bad(*error)),
     }
 }
 
-/// What comes of each file of a pack, in path order. The threshold is in hundredths; without an identifier no
-/// text is identified.
+/// What comes of each file of a pack, in path order.
 pub fn scan_pack<I: Identifier, C: Catalog>(
     alloc: Global,
-    identifier: Option<&I>,
-    threshold: u8,
+    scan: &Scan<'_, I, C>,
     pack: &LicensePack,
-    catalog: &C,
 ) -> Result<ListOf<ScannedFile>, AllocError>
-    ensures { IfOk result (λ files. files ≡ map (file_scanned (record {
-      lists = C.lists catalog.now;
-      match_of = match_by I.match_of (option_copied identifier.entry);
-      threshold = threshold;
-    })) pack.now.files) }
+    ensures { IfOk result (λ files. files ≡ map (file_scanned (scanner_of_scan C.lists I.match_of scan.now)) pack.now.files) }
 {
     let mut files = ListOf::new(alloc);
     let mut rest = pack.iter();
     'files: while let Some((path, kept)) = rest.next() {
         let path = PathBuf::copy(alloc, path.as_path())?;
-        let scanned = scan_file(alloc, identifier, threshold, kept, catalog)?;
+        let scanned = scan_file(alloc, scan, kept)?;
         files.push(ScannedFile { path, scanned })?;
     }
     Ok(files)

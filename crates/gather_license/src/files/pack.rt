@@ -29,7 +29,7 @@ use std::marker::Model;
 use tree_core::file_reads::{
     BadRead, FileHeard, FolderHeard, file_record, list_folder, listing_record, read_file,
 };
-use tree_core::{ReadKind, Reads, Tree};
+use tree_core::{ReadKind, ReadRecord, Reads, Tree};
 
 /// A licence text in its normal form, or why there is none.
 pub type PackFileData = Result<LicenseText, BadRead>;
@@ -356,6 +356,26 @@ impl LicensePack {
         LicensePackIter {
             held: self.files.iter(),
         }
+    }
+
+    /// The file at a path of these parts, if it was read.
+    pub(crate) fn file(
+        &self,
+        alloc: Global,
+        path: &PathBuf,
+    ) -> Result<Option<&PackFileData>, AllocError>
+        ensures { IfOk result (λ found. option_map (λ kept. heard_file kept.now) found
+            ≡ file_at self.now.files path.now) }
+    {
+        let key = FileKey::of(alloc, path)?;
+        Ok(self.files.get(&key))
+    }
+
+    /// The records of the reads in the order of the calls.
+    pub(crate) fn reads(&self) -> &[ReadRecord]
+        ensures { result.now ≡ self.now.reads }
+    {
+        self.reads.items()
     }
 
     /// How many reads were made for it.

@@ -6,7 +6,7 @@ use Rattle.run_found.specs.Written.{sink_seen}
 use Rattle.run_command.specs.Carried.{plain_options}
 use Rattle.run_command.specs.Given.{command_asked}
 use Rattle.run_command.specs.Prelude.{Runs}
-use Rattle.deny_run.specs.declared.outcome.RunEnd.TheVariants.{Billed, Checked, Listed, Noticed, Recorded, Sampled, Verified}
+use Rattle.deny_run.specs.declared.outcome.RunEnd.TheVariants.{Billed, Checked, Listed, Noticed, Recorded, Sampled, Told, Verified}
 use Rattle.deny_run.specs.Ends.{Answers, VerifiesAs}
 use Rattle.deny_run.specs.Seen.{IsStill, run_seen}
 use Rattle.deny_run.proofs.answer.answer_request.Goals as goal
@@ -142,6 +142,28 @@ returns-in-Err-notice_request-clause-answers g c =
     let err = sink_seen (g.E.Sink.written c.args.err.now) (g.E.Sink.written c.notice_request.new.err) (g.E.Sink.fault_count c.args.err.now) (g.E.Sink.fault_count c.notice_request.new.err) in
     subst (λ command. Answers lists match_of text_of c.args.request.now command (run_seen tree out err) (Err c.in-Err-notice_request.error)) (sym c.in-Notice.is)
     (record { value = Err c.in-Err-notice_request.error; is = refl; is_so = c.in-Err-notice_request.ensures.runs })
+
+pub returns-in-Ok-why_request-clause-answers : goal.returns-in-Ok-why_request-clause-answers
+returns-in-Ok-why_request-clause-answers g c =
+    let lists = g.C.Catalog.lists c.args.catalog.now in
+    let match_of = g.I.Identifier.match_of c.args.identifier.now in
+    let text_of = g.I.TextLookup.text_of c.args.identifier.now in
+    let tree = tree_seen (g.T.Tree.content c.args.tree.now) (g.T.Tree.content c.why_request.new.tree) (g.T.Tree.fault_count c.args.tree.now) (g.T.Tree.fault_count c.why_request.new.tree) (g.T.Tree.trace c.args.tree.now) (g.T.Tree.trace c.why_request.new.tree) in
+    let out = sink_seen (g.O.Sink.written c.args.out.now) (g.O.Sink.written c.why_request.new.out) (g.O.Sink.fault_count c.args.out.now) (g.O.Sink.fault_count c.why_request.new.out) in
+    let err = sink_seen (g.E.Sink.written c.args.err.now) (g.E.Sink.written c.why_request.new.err) (g.E.Sink.fault_count c.args.err.now) (g.E.Sink.fault_count c.why_request.new.err) in
+    subst (λ command. Answers lists match_of text_of c.args.request.now command (run_seen tree out err) (Ok (Told c.in-Ok-why_request.reads))) (sym c.in-Why.is)
+    (record { value = Ok c.in-Ok-why_request.reads; is = refl; is_so = c.in-Ok-why_request.ensures.runs })
+
+pub returns-in-Err-why_request-clause-answers : goal.returns-in-Err-why_request-clause-answers
+returns-in-Err-why_request-clause-answers g c =
+    let lists = g.C.Catalog.lists c.args.catalog.now in
+    let match_of = g.I.Identifier.match_of c.args.identifier.now in
+    let text_of = g.I.TextLookup.text_of c.args.identifier.now in
+    let tree = tree_seen (g.T.Tree.content c.args.tree.now) (g.T.Tree.content c.why_request.new.tree) (g.T.Tree.fault_count c.args.tree.now) (g.T.Tree.fault_count c.why_request.new.tree) (g.T.Tree.trace c.args.tree.now) (g.T.Tree.trace c.why_request.new.tree) in
+    let out = sink_seen (g.O.Sink.written c.args.out.now) (g.O.Sink.written c.why_request.new.out) (g.O.Sink.fault_count c.args.out.now) (g.O.Sink.fault_count c.why_request.new.out) in
+    let err = sink_seen (g.E.Sink.written c.args.err.now) (g.E.Sink.written c.why_request.new.err) (g.E.Sink.fault_count c.args.err.now) (g.E.Sink.fault_count c.why_request.new.err) in
+    subst (λ command. Answers lists match_of text_of c.args.request.now command (run_seen tree out err) (Err c.in-Err-why_request.error)) (sym c.in-Why.is)
+    (record { value = Err c.in-Err-why_request.error; is = refl; is_so = c.in-Err-why_request.ensures.runs })
 
 pub returns-in-Ok-sample-clause-answers : goal.returns-in-Ok-sample-clause-answers
 returns-in-Ok-sample-clause-answers g c =

@@ -20,7 +20,7 @@ returns-clause-turn c = λ turn krate_is faults_are is.
     let faults = c.args.faults.now in
     let old = c.args.files.now in
     let points = c.in_ok-points.points in
-    let license : KrateLicense = record { krate = c.args.krate; lic_info = c.told_by-told.result.info; notes = c.told_by-told.result.notes; diags = c.in_ok-diags.diags; reads = taken.reads; exceptions = taken.exceptions } in
+    let license : KrateLicense = record { krate = c.args.krate; lic_info = c.told_by-told.result.info; notes = c.told_by-told.result.notes; diags = c.in_ok-diags.diags; reads = taken.reads; exceptions = taken.exceptions; kept = taken.kept } in
     told_turn turn license faults taken points old c.find_points.new.files faults_are is
     (c.in_ok-points.ensures.points ∙ ap (λ (krate : CrateRecord). points_for krate faults taken.location old taken.by) (sym krate_is))
     (c.in_ok-points.ensures.files ∙ ap (λ (krate : CrateRecord). files_left krate faults taken.location old taken.by) (sym krate_is))
@@ -29,7 +29,7 @@ returns-clause-turn c = λ turn krate_is faults_are is.
     (c.in_ok-diags.ensures
     ∙ ap (λ (front : List Diag). front ++ points.findings) c.in_ok-missing.ensures
     ∙ ap (λ (missing : List Coord). missing_findings missing ++ points.findings) c.items.ensures)
-    refl refl
+    refl refl refl
 
 pub returns-clause-found : goal.returns-clause-found
 returns-clause-found c = λ turn krate_is faults_are is.

@@ -20,14 +20,15 @@ pub returns-clause-gathered : goal.returns-clause-gathered
 returns-clause-gathered g c graph choice chosen =
     let policy = c.args.policy.now in
     let lists = g.C.Catalog.lists c.args.catalog.now in
-    let own = scanner_of_policy lists (g.I.Identifier.match_of c.args.identifier.now) policy in
+    let own = scanner_of_policy c.args.keeps lists (g.I.Identifier.match_of c.args.identifier.now) policy in
     let nfos = c.in_ok-summary.summary.nfos in
     let last = c.gather.new.files in
     let fits : SFits w64 policy.confidence_threshold = search rules in
-    let cut = simp to_z-of_z at c.with_confidence_threshold-gatherer.ensures in
-    let same : ◌≡◌ {A = Scanner} (scanner_of_gatherer lists g.I.Identifier.match_of c.with_confidence_threshold-gatherer.result) own =
-    ap (scanner_of_gatherer lists g.I.Identifier.match_of) cut
-    ∙ ap (λ one. scanner_of_gatherer lists g.I.Identifier.match_of (record one { threshold = threshold_of policy.confidence_threshold })) c.with_store.ensures in
+    let cut = simp to_z-of_z at c.with_confidence_threshold.ensures in
+    let same : ◌≡◌ {A = Scanner} (scanner_of_gatherer lists g.I.Identifier.match_of c.keeping_files-gatherer.result) own =
+    ap (scanner_of_gatherer lists g.I.Identifier.match_of) c.keeping_files-gatherer.ensures
+    ∙ ap (λ one. scanner_of_gatherer lists g.I.Identifier.match_of (record one { keeps = c.args.keeps })) cut
+    ∙ ap (λ one. scanner_of_gatherer lists g.I.Identifier.match_of (record one { threshold = threshold_of policy.confidence_threshold; keeps = c.args.keeps })) c.with_store.ensures in
     let told = g.T.Tree.content c.args.tree.now in
     let tells = g.T.Tree.content c.gather.new.tree in
     let before = g.T.Tree.fault_count c.args.tree.now in
@@ -41,12 +42,13 @@ pub returns-in_err-summary-clause-cut : goal.returns-in_err-summary-clause-cut
 returns-in_err-summary-clause-cut g c =
     let policy = c.args.policy.now in
     let lists = g.C.Catalog.lists c.args.catalog.now in
-    let own = scanner_of_policy lists (g.I.Identifier.match_of c.args.identifier.now) policy in
+    let own = scanner_of_policy c.args.keeps lists (g.I.Identifier.match_of c.args.identifier.now) policy in
     let fits : SFits w64 policy.confidence_threshold = search rules in
-    let cut = simp to_z-of_z at c.with_confidence_threshold-gatherer.ensures in
-    let same : ◌≡◌ {A = Scanner} (scanner_of_gatherer lists g.I.Identifier.match_of c.with_confidence_threshold-gatherer.result) own =
-    ap (scanner_of_gatherer lists g.I.Identifier.match_of) cut
-    ∙ ap (λ one. scanner_of_gatherer lists g.I.Identifier.match_of (record one { threshold = threshold_of policy.confidence_threshold })) c.with_store.ensures in
+    let cut = simp to_z-of_z at c.with_confidence_threshold.ensures in
+    let same : ◌≡◌ {A = Scanner} (scanner_of_gatherer lists g.I.Identifier.match_of c.keeping_files-gatherer.result) own =
+    ap (scanner_of_gatherer lists g.I.Identifier.match_of) c.keeping_files-gatherer.ensures
+    ∙ ap (λ one. scanner_of_gatherer lists g.I.Identifier.match_of (record one { keeps = c.args.keeps })) cut
+    ∙ ap (λ one. scanner_of_gatherer lists g.I.Identifier.match_of (record one { threshold = threshold_of policy.confidence_threshold; keeps = c.args.keeps })) c.with_store.ensures in
     let told = g.T.Tree.content c.args.tree.now in
     let tells = g.T.Tree.content c.gather.new.tree in
     let before = g.T.Tree.fault_count c.args.tree.now in

@@ -1,0 +1,6 @@
+mod Examples
+pub mod InsideLemmas
+mod LawLemmas
+pub mod MadeLemmas
+mod PlaceLemmas
+mod UnmetLemmas

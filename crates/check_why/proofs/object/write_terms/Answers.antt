@@ -1,0 +1,13 @@
+use Rattle.std.proofs.Common.{◌∷◌, ap, take_all}
+use Rattle.json.specs.Token.{begin_array}
+use Rattle.check_why.specs.Object.{term_data}
+use Rattle.diag_print.proofs.JsonLemmas.{then, one, last, same, as_wanted, each_tokens, items_written}
+use Rattle.check_why.proofs.object.write_terms.Goals as goal
+
+pub returns : goal.returns
+returns c =
+    let result = c.end_array.result in
+    as_wanted result _ _ _ _ (ap (λ tokens. begin_array ∷ tokens) (items_written term_data c.args.terms.now))
+    (then result _ _ _ _ _ (one _ _ _ _ c.in_ok-begin_array.ensures)
+    (then result _ _ _ _ _ (same _ _ _ _ (ap (each_tokens term_data) (take_all c.terms.term-index c.args.terms.now c.terms-test.false)) c.terms.invariant)
+    (last result _ _ _ c.end_array.ensures)))

@@ -1,0 +1,9 @@
+pub mod Place
+pub mod Reads
+pub mod Unmet
+pub mod Answer
+pub mod Lines
+pub mod Object
+pub mod Kept
+pub mod Made
+pub mod Laws

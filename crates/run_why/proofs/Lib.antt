@@ -1,0 +1,6 @@
+mod AmongLemmas
+mod GraphLemmas
+mod NamedLemmas
+mod TellingLemmas
+mod TextLemmas
+mod WhyLemmas

@@ -1,0 +1,164 @@
+//! The command `why`.
+//! Called by `why_request` of `deny_run`; the texts may be written in pieces, the write comes last.
+ghost use Rattle.std.specs.Prelude.{◌≡◌, ◌≤◌, IfErr, IfOk, None, string_bytes};
+ghost use Rattle.tree_core.specs.texts.Cause.{ReadCounts};
+ghost use Rattle.run_found.specs.Error.{cause_of};
+ghost use Rattle.run_found.specs.Hearing.{seen_between};
+ghost use Rattle.run_found.specs.Written.{sink_between};
+ghost use Rattle.run_why.specs.Given.{unsupported_of, why_arguments_of};
+ghost use Rattle.run_why.specs.Steps.{Puts, joined_texts};
+ghost use Rattle.run_why.specs.Why.{FindsWhy, Tells};
+
+use crate::graph::GraphTold;
+use crate::named::has_unsupported_word;
+use crate::telling::texts_told;
+use deny_text::{Text, Texts};
+use diag_core::Files;
+use diag_print::LogContext;
+use graph_workspace::{Include, UnsupportedPart};
+use run_check::{Report, judged_of, reads_of_reports};
+use run_command::{PolicyUse, crates_of, metadata_found, no_levels, unsupported_in, write_answer};
+use run_found::{CrateReads, Error};
+use run_request::KrateContext;
+use spdx_core::{Catalog, Identifier};
+use std::alloc::{AllocError, Global};
+use tree_core::{Sink, Tree};
+
+/// What is found: the report of the check, and the text of each crate that is told.
+#[derive(Drop)]
+pub(crate) struct WhyFound {
+    report: Report,
+    texts: Texts,
+}
+
+/// The first part of a request, or of the words of `why`, that is not carried.
+pub fn unsupported_words(
+    log_ctx: LogContext,
+    context: &KrateContext,
+    words: &Texts,
+) -> Option<UnsupportedPart>
+    ensures { result ≡ unsupported_of log_ctx context.now words.now }
+{
+    match unsupported_in(log_ctx, context) {
+        Some(what) => Some(what),
+        None => {
+            if has_unsupported_word(words) {
+                Some(UnsupportedPart::ExcludeSpec)
+            } else {
+                None
+            }
+        }
+    }
+}
+
+/// What `why` finds of a request, all of which is carried. What is printed of the policy's load is written to the sink.
+fn found_why<T: Tree, S: Sink, C: Catalog, I: Identifier>(
+    alloc: Global,
+    tree: &mut T,
+    err: &mut S,
+    catalog: &C,
+    identifier: &I,
+    log_ctx: LogContext,
+    context: &KrateContext,
+    words: &Texts,
+) -> Result<WhyFound, Error>
+    requires { unsupported_of log_ctx context.now words.now ≡ None }
+    ensures finds { FindsWhy
+        (why_arguments_of (C.lists catalog.now) (I.match_of identifier.now) log_ctx context.now words.now)
+        (seen_between T.content T.fault_count T.trace tree.old tree.new)
+        (sink_between S.written S.fault_count err.old err.new)
+        result }
+    ensures counts { IfErr result (λ error. ReadCounts
+        (T.fault_count tree.old) (T.fault_count tree.old) (T.fault_count tree.new) (cause_of error)) }
+    ensures later { S.fault_count err.old ≤ S.fault_count err.new }
+{
+    let levels = no_levels(alloc);
+    let use_of = PolicyUse {
+        levels: &levels,
+        with_flags: true,
+        threshold: None,
+        keeps: true,
+    };
+    let mut files = Files::new(alloc);
+    let found = metadata_found(
+        alloc, context, log_ctx, &use_of, &mut files, tree, err, catalog,
+    )?;
+    let include = Include {
+        dev: found.policy.include_dev,
+        build: found.policy.include_build,
+    };
+    let mut told = GraphTold::of(alloc, words, &found.asked, include)?;
+    let crates = crates_of(alloc, found)?;
+    if let Some(word) = told.take_unknown() {
+        return Err(Error::NoSuchCrate(word));
+    }
+    let judged = judged_of(
+        alloc, log_ctx, true, crates, files, tree, catalog, identifier,
+    )?;
+    let has_words = !words.items().is_empty();
+    let texts = texts_told(alloc, log_ctx.format, has_words, &told, &judged)?;
+    Ok(WhyFound {
+        report: judged.report,
+        texts,
+    })
+}
+
+/// Texts, one after another.
+fn joined(alloc: Global, texts: &[Text]) -> Result<String, AllocError>
+    ensures { IfOk result (λ text. string_bytes text ≡ joined_texts texts.now) }
+{
+    let mut joined = String::new(alloc);
+    'texts: for text in texts {
+        joined.push_str(text.as_str())?;
+    }
+    Ok(joined)
+}
+
+/// Writes the texts, once nothing can be refused any more but that, and reports the reads of the crates.
+fn put_why<O: Sink>(alloc: Global, out: &mut O, found: WhyFound) -> Result<CrateReads, Error>
+    ensures puts { Puts found (sink_between O.written O.fault_count out.old out.new) result }
+    ensures later { O.fault_count out.old ≤ O.fault_count out.new }
+{
+    let WhyFound { report, texts } = found;
+    let Report { crates, .. } = report;
+    let reads = reads_of_reports(alloc, crates)?;
+    let text = joined(alloc, texts.items())?;
+    write_answer(out, text.as_str().as_bytes())?;
+    Ok(reads)
+}
+
+/// The command `why` of a request, all of which is carried: what the verdicts on crates rest on is written to `out`, or
+/// why they are not checked. With words these crates are told that the words name, checked or not, each once, else those
+/// that are rejected or have no licence; in the order of ids. A word that names no crate is refused once the crates are
+/// chosen, and before a file of one is read. What is printed of the policy's load is written to `err`; no finding of the
+/// check is.
+pub fn why_since<T: Tree, O: Sink, S: Sink, C: Catalog, I: Identifier>(
+    alloc: Global,
+    tree: &mut T,
+    out: &mut O,
+    err: &mut S,
+    catalog: &C,
+    identifier: &I,
+    log_ctx: LogContext,
+    context: &KrateContext,
+    words: &Texts,
+) -> Result<CrateReads, Error>
+    requires { unsupported_of log_ctx context.now words.now ≡ None }
+    // What is told is by the report that a check of this request, without options, has by what was read. A refusal comes
+    // before the command does its own, or it is that of a word, or of the write.
+    ensures tells { Tells
+        (why_arguments_of (C.lists catalog.now) (I.match_of identifier.now) log_ctx context.now words.now)
+        (seen_between T.content T.fault_count T.trace tree.old tree.new)
+        (sink_between S.written S.fault_count err.old err.new)
+        (sink_between O.written O.fault_count out.old out.new)
+        result }
+    ensures counts { IfErr result (λ error. ReadCounts
+        (T.fault_count tree.old) (T.fault_count tree.old) (T.fault_count tree.new) (cause_of error)) }
+    ensures out { O.fault_count out.old ≤ O.fault_count out.new }
+    ensures err { S.fault_count err.old ≤ S.fault_count err.new }
+{
+    let found = found_why(
+        alloc, tree, err, catalog, identifier, log_ctx, context, words,
+    )?;
+    put_why(alloc, out, found)
+}
