@@ -60,12 +60,12 @@ fn text_kept<I: Identifier, C: Catalog>(
 fn data_kept<I: Identifier, C: Catalog>(
     alloc: Global,
     scan: &Scan<'_, I, C>,
-    held: &PackFileData,
+    data: &PackFileData,
 ) -> Result<TextKept, AllocError>
     ensures { IfOk result (λ kept.
-        kept ≡ spec.kept_of (scanner_of_scan C.lists I.match_of scan.now) (heard_file held.now)) }
+        kept ≡ spec.kept_of (scanner_of_scan C.lists I.match_of scan.now) (heard_file data.now)) }
 {
-    match held {
+    match data {
         Ok(text) => {
             let kept = text_kept(alloc, scan, text)?;
             Ok(Ok(kept))
@@ -86,7 +86,7 @@ fn at_path<I: Identifier, C: Catalog>(
 {
     let found = pack.file(alloc, path)?;
     match found {
-        Some(held) => data_kept(alloc, scan, held),
+        Some(data) => data_kept(alloc, scan, data),
         None => Ok(Err(BadRead::Absent)),
     }
 }
