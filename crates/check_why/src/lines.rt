@@ -306,7 +306,11 @@ fn hashes_text(alloc: Global, found: &str, wanted: &str) -> Result<String, Alloc
     ensures { IfOk result (λ text. string_bytes text
         ≡ codes " has hash " ++ found.now ++ codes ", and " ++ wanted.now ++ codes " is wanted") }
 {
-    let text = format!(in alloc; " has hash {found}, and {wanted} is wanted")?;
+    let mut text = String::from_str(alloc, " has hash ")?;
+    text.push_str(found)?;
+    text.push_str(", and ")?;
+    text.push_str(wanted)?;
+    text.push_str(" is wanted")?;
     Ok(text)
 }
 

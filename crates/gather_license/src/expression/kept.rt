@@ -60,12 +60,12 @@ fn text_kept<I: Identifier, C: Catalog>(
 fn data_kept<I: Identifier, C: Catalog>(
     alloc: Global,
     scan: &Scan<'_, I, C>,
-    data: &PackFileData,
+    held: &PackFileData,
 ) -> Result<TextKept, AllocError>
     ensures { IfOk result (λ kept.
-        kept ≡ spec.kept_of (scanner_of_scan C.lists I.match_of scan.now) (heard_file data.now)) }
+        kept ≡ spec.kept_of (scanner_of_scan C.lists I.match_of scan.now) (heard_file held.now)) }
 {
-    match data {
+    match held {
         Ok(text) => {
             let kept = text_kept(alloc, scan, text)?;
             Ok(Ok(kept))
@@ -86,7 +86,7 @@ fn at_path<I: Identifier, C: Catalog>(
 {
     let found = pack.file(alloc, path)?;
     match found {
-        Some(data) => data_kept(alloc, scan, data),
+        Some(held) => data_kept(alloc, scan, held),
         None => Ok(Err(BadRead::Absent)),
     }
 }
