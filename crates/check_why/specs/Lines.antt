@@ -142,11 +142,13 @@ verdict_lines one =
     head_lines one.title (verdict_word one.verdict) ++ license_lines one.license ++ flat_map term_line one.terms
     ++ certificate_lines one.terms one.verdict
 
--- what is behind that
+-- what was read, what does not hold, and the notes
+abbrev pub file_lines : CrateAnswer → List ℕ
+file_lines one = flat_map read_line one.reads ++ flat_map unmet_line one.unmet ++ flat_map note_line one.notes
+
+-- what is behind the verdict
 abbrev pub rest_lines : CrateAnswer → List ℕ
-rest_lines one =
-    line (codes "needed by: " ++ needed_text one.needed_by) ++ flat_map read_line one.reads
-    ++ flat_map unmet_line one.unmet ++ flat_map note_line one.notes
+rest_lines one = line (codes "needed by: " ++ needed_text one.needed_by) ++ file_lines one
 
 -- of a crate that is checked
 abbrev pub answer_lines : CrateAnswer → List ℕ

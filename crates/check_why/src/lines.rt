@@ -246,7 +246,8 @@ fn known_text(alloc: Global, name: &Text, score: u8) -> Result<String, AllocErro
     ensures { IfOk result (λ text. string_bytes text
         ≡ codes " (" ++ name.now ++ codes ", " ++ decimal score ++ codes ")") }
 {
-    format!(in alloc; " ({name}, {score})")
+    let text = format!(in alloc; " ({name}, {score})")?;
+    Ok(text)
 }
 
 /// What came of a read, behind its path.
@@ -301,13 +302,26 @@ fn hash_word(alloc: Global, hash: u32) -> Result<String, AllocError>
 }
 
 /// That a file has another hash than the one that is wanted.
+fn hashes_text(alloc: Global, found: &str, wanted: &str) -> Result<String, AllocError>
+    ensures { IfOk result (λ text. string_bytes text
+        ≡ codes " has hash " ++ found.now ++ codes ", and " ++ wanted.now ++ codes " is wanted") }
+{
+    let mut text = String::from_str(alloc, " has hash ")?;
+    text.push_str(found)?;
+    text.push_str(", and ")?;
+    text.push_str(wanted)?;
+    text.push_str(" is wanted")?;
+    Ok(text)
+}
+
 fn hash_text(alloc: Global, found: u32, wanted: u32) -> Result<String, AllocError>
     ensures { IfOk result (λ text. string_bytes text
         ≡ codes " has hash " ++ spec.hash_word found ++ codes ", and " ++ spec.hash_word wanted ++ codes " is wanted") }
 {
     let found = hash_word(alloc, found)?;
     let wanted = hash_word(alloc, wanted)?;
-    format!(in alloc; " has hash {found}, and {wanted} is wanted")
+    let text = hashes_text(alloc, found.as_str(), wanted.as_str())?;
+    Ok(text)
 }
 
 /// Why a file does not match, behind its path.
@@ -370,14 +384,22 @@ fn push_verdict(out: &mut String, alloc: Global, one: &CrateAnswer) -> Result<()
     push_certificate(out, alloc, one.terms.items(), &one.verdict)
 }
 
-/// Appends the lines behind that.
+/// Appends the lines of the files, and the notes.
+fn push_files(out: &mut String, alloc: Global, one: &CrateAnswer) -> Result<(), AllocError>
+    ensures { OnOk result (string_bytes out.new ≡ string_bytes out.old ++ spec.file_lines one.now) }
+{
+    push_reads(out, alloc, one.reads.items())?;
+    push_unmet(out, alloc, one.unmet.items())?;
+    push_notes(out, one.notes.items())
+}
+
+/// Appends the lines behind the verdict.
 fn push_rest(out: &mut String, alloc: Global, one: &CrateAnswer) -> Result<(), AllocError>
     ensures { OnOk result (string_bytes out.new ≡ string_bytes out.old ++ spec.rest_lines one.now) }
 {
     push_needed(out, alloc, one.needed_by.items())?;
-    push_reads(out, alloc, one.reads.items())?;
-    push_unmet(out, alloc, one.unmet.items())?;
-    push_notes(out, one.notes.items())
+    push_files(out, alloc, one)?;
+    Ok(())
 }
 
 /// Appends all lines of a crate that is checked.

@@ -1,5 +1,5 @@
 -- Metadata that is read alone, and the crates that are chosen from it behind.
-use Rattle.std.proofs.Common.{◌≡◌, ◌∙◌, ◌⊎◌, inl, inr, refl, sym, ap, subst, ℕ, List, Option, Some, None, Result, Ok, Err}
+use Rattle.std.proofs.Common.{◌≡◌, ◌∙◌, ◌⊎◌, inl, inr, refl, sym, ap, subst, ℕ, List, Result, Ok, Err}
 use Rattle.tree_core.specs.Call.{Call}
 use Rattle.tree_core.specs.declared.texts.fault.ReadFault.TheVariants.{Failed, Absent, Folder, NotUtf8}
 use Rattle.graph_core.specs.Metadata.{Graph}

@@ -1,5 +1,5 @@
 -- Each end of `metadata_found`: the policy, the levels, the metadata.
-use Rattle.std.proofs.Common.{refl, sym, subst, Ok, arith}
+use Rattle.std.proofs.Common.{refl, sym, subst, arith}
 use Rattle.std.proofs.lemmas.Result.{err_from_is_err_and}
 use Rattle.tree_core.proofs.MadeLemmas.{some-later}
 use Rattle.policy_core.specs.Places.{PolicyStands}
