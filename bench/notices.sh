@@ -14,7 +14,7 @@ printf '[licenses]\nallow = ["MIT"]\n' > deny.toml
 
 # Metadata of that many crates, each with a field of so many terms, or none. Each crate leads to the next.
 metadata() {
-    awk -v n="$1" -v terms="$2" '
+    awk -v n="$1" -v terms="$2" -v folder="$work" '
         function id(i) { return sprintf("c%d 1.0.0", i) }
         BEGIN {
             field = terms ? "\"MIT" : "null"
@@ -30,7 +30,7 @@ metadata() {
                 printf "]}"
             }
             printf "]}}"
-        }' folder="$work" > metadata.json
+        }' > metadata.json
 }
 
 # A licence file of 2 KiB for each of that many crates, which is the text behind lines of copyright. With `each` no two are the same.

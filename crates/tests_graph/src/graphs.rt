@@ -6,9 +6,11 @@
 //! alone, where there is no such list.
 use crate::given;
 use graph_core::selection::{
-    BuildError, DepKind, ExcludeSpec, ExcludeSpecs, Include, KrateRefs, Krates, Metadata, Selection,
+    BuildError, DepKind, ExcludeSpec, ExcludeSpecs, Include, KrateRefs, Krates, Metadata,
+    Selection, standings_of,
 };
 use graph_metadata::{Krate, MetaError, records};
+use graph_walk::{SelectingWalks, ShortestWalks, Unchecked, shortest_walks};
 use std::alloc::{AllocError, Global};
 use tests_files::{AnswerText, Case};
 
@@ -134,6 +136,15 @@ fn graph_of(alloc: Global, case: &Case<'_>) -> Result<Metadata, MetaError> {
     records(alloc, text.as_str(), "index")
 }
 
+fn selection_of(alloc: Global, exclude: &str, setting: &str) -> Result<Selection, AllocError> {
+    Ok(Selection {
+        workspace: setting == "workspace",
+        exclude: specs_of(alloc, exclude)?,
+        exclude_dev: setting == "exclude-dev",
+        exclude_unpublished: setting == "exclude-unpublished",
+    })
+}
+
 /// The crates that are reached with the setting that is named.
 fn reached(
     alloc: Global,
@@ -141,12 +152,7 @@ fn reached(
     exclude: &str,
     setting: &str,
 ) -> Result<Krates, BuildError> {
-    let selection = Selection {
-        workspace: setting == "workspace",
-        exclude: specs_of(alloc, exclude)?,
-        exclude_dev: setting == "exclude-dev",
-        exclude_unpublished: setting == "exclude-unpublished",
-    };
+    let selection = selection_of(alloc, exclude, setting)?;
     Krates::build(alloc, metadata, &selection)
 }
 
@@ -186,8 +192,142 @@ fn put_selected(alloc: Global, out: &mut AnswerText, krates: &Krates) {
     }
 }
 
+/// Puts the ids of the crates of a walk, or a dash where there is none.
+fn put_walk(
+    alloc: Global,
+    out: &mut AnswerText,
+    crates: &[Krate],
+    walks: &ShortestWalks,
+    place: usize,
+) {
+    if place >= walks.len() {
+        return out.put("no such place");
+    }
+    match &walks.walk_to(alloc, place) {
+        Ok(Some(places)) => {
+            for place in places {
+                match crates.get(*place) {
+                    Some(krate) => out.put(krate.id.as_str()),
+                    None => out.put("no such crate"),
+                }
+            }
+        }
+        Ok(None) => out.put("-"),
+        Err(_) => out.want_memory(),
+    }
+}
+
+/// Puts the shortest walk to each crate, with all kinds of dependency, and then without normal, dev and build ones.
+fn put_walks(
+    alloc: Global,
+    out: &mut AnswerText,
+    metadata: &Metadata,
+    exclude: &str,
+    setting: &str,
+) -> Result<(), AllocError> {
+    let selection = selection_of(alloc, exclude, setting)?;
+    let kinds = [
+        None,
+        Some(DepKind::Normal),
+        Some(DepKind::Dev),
+        Some(DepKind::Build),
+    ];
+    let mut front = "";
+    for kind in kinds {
+        let walks = shortest_walks(alloc, metadata, &selection, kind)?;
+        out.put(front);
+        for place in 0..metadata.len() {
+            if place > 0 {
+                out.put(" ");
+            }
+            put_walk(alloc, out, metadata.crates(), &walks, place);
+        }
+        front = " | ";
+    }
+    Ok(())
+}
+
+/// Puts the shortest walks of the graph of a case, with the setting that is named behind `walks`.
+fn put_graph_walks(alloc: Global, out: &mut AnswerText, case: &Case<'_>, setting: &str) {
+    match &graph_of(alloc, case) {
+        Ok(metadata) => {
+            if put_walks(alloc, out, metadata, case.word("exclude"), setting).is_err() {
+                out.want_memory();
+            }
+        }
+        Err(error) => write!(out, "{error:?}"),
+    }
+}
+
+fn unchecked_letter(cause: Option<Unchecked>) -> &'static str {
+    match cause {
+        None => "+",
+        Some(Unchecked::LeftOutByWords) => "w",
+        Some(Unchecked::LeftOutByPolicy) => "p",
+        Some(Unchecked::NeverPublished) => "n",
+        Some(Unchecked::OnlyDev) => "d",
+        Some(Unchecked::OnlyBuild) => "b",
+        Some(Unchecked::NotLedTo) => "-",
+    }
+}
+
+/// Puts a letter for each crate that says why it is not checked, or `+` where it is: without dev and build dependencies, with
+/// build, with dev, and with both.
+fn put_unchecked(
+    alloc: Global,
+    out: &mut AnswerText,
+    metadata: &Metadata,
+    exclude: &str,
+    policy: &str,
+    setting: &str,
+) -> Result<(), AllocError> {
+    let mut selection = selection_of(alloc, exclude, setting)?;
+    let words = selection.exclude.items().len();
+    for word in policy.split_whitespace() {
+        if let Some(spec) = ExcludeSpec::read(alloc, word)? {
+            selection.exclude.push(spec)?;
+        }
+    }
+    let standings = standings_of(alloc, metadata, &selection)?;
+    let walks = SelectingWalks::of(alloc, metadata, &selection)?;
+    let mut front = "";
+    for (dev, build) in [(false, false), (false, true), (true, false), (true, true)] {
+        out.put(front);
+        for place in 0..metadata.len() {
+            let include = Include { dev, build };
+            let cause = walks.why_unchecked(
+                metadata, &selection, &standings, words, include, place,
+            );
+            out.put(unchecked_letter(cause));
+        }
+        front = " | ";
+    }
+    Ok(())
+}
+
+/// Puts why crates of the graph of a case are not checked, with the setting that is named behind `unchecked`.
+fn put_graph_unchecked(alloc: Global, out: &mut AnswerText, case: &Case<'_>, setting: &str) {
+    match &graph_of(alloc, case) {
+        Ok(metadata) => {
+            let (words, policy) = (case.word("exclude"), case.word("policy-exclude"));
+            if put_unchecked(alloc, out, metadata, words, policy, setting).is_err() {
+                out.want_memory();
+            }
+        }
+        Err(error) => write!(out, "{error:?}"),
+    }
+}
+
 /// Puts what a key tells of the graph of a case.
 pub fn put_graph(alloc: Global, out: &mut AnswerText, case: &Case<'_>, key: &str) {
+    if let Some(setting) = key.strip_prefix("walks") {
+        let setting = setting.strip_prefix('-').unwrap_or("");
+        return put_graph_walks(alloc, out, case, setting);
+    }
+    if let Some(setting) = key.strip_prefix("unchecked") {
+        let setting = setting.strip_prefix('-').unwrap_or("");
+        return put_graph_unchecked(alloc, out, case, setting);
+    }
     match graph_of(alloc, case) {
         Ok(metadata) => match &reached(alloc, metadata, case.word("exclude"), key) {
             Ok(krates) if key == "selected" => put_selected(alloc, out, krates),

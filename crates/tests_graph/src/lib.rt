@@ -45,6 +45,10 @@ impl Cases for RowFile {
         match self.file {
             "graph/records.txt" => is_among(key, &["metadata", "sources"]),
             "graph/graphs.txt" => is_among(key, &["graph", "members", "root", "exclude"]),
+            "graph/walks.txt" => is_among(
+                key,
+                &["graph", "members", "root", "exclude", "policy-exclude"],
+            ),
             _ => is_among(
                 key,
                 &[
@@ -67,6 +71,12 @@ impl Cases for RowFile {
             "no-setting" | "exclude-dev" | "workspace" | "exclude-unpublished" | "selected" => {
                 graphs::put_graph(alloc, out, case, key)
             }
+            "walks" | "walks-exclude-dev" | "walks-workspace" | "walks-exclude-unpublished" => {
+                graphs::put_graph(alloc, out, case, key)
+            }
+            "unchecked" | "unchecked-exclude-dev" | "unchecked-exclude-unpublished" => {
+                graphs::put_graph(alloc, out, case, key)
+            }
             _ => return KeyAnswer::NoSuchKey,
         }
         KeyAnswer::Yes
@@ -80,9 +90,10 @@ const ROWS: [&str; 4] = [
     "graph/searches.txt",
 ];
 
-const CASES: [&str; 3] = [
+const CASES: [&str; 4] = [
     "graph/records.txt",
     "graph/graphs.txt",
+    "graph/walks.txt",
     "graph/requests.txt",
 ];
 

@@ -2,7 +2,7 @@
 //! faults, policies with and without faults, calls that fail. `tests_random SEED COUNT` prints a line for each of so many numbers, from
 //! the seed on: the number, the status, the verdicts (accepted, rejected, skipped, unlicensed) or how it ended, and the XXH32 of both
 //! outputs. `tests_random SEED COUNT files` prints in front of each line what the workspace is, for whoever gives it to another program.
-//! Without words five of them are run.
+//! Without words eight of them are run.
 #![tactic(auto)]
 
 mod fields;
@@ -43,7 +43,7 @@ fn put_lines(
     out: &mut AnswerText,
 ) -> Result<(), AllocError> {
     let seed = number_at(words, 1, 1);
-    let count = number_at(words, 2, 5);
+    let count = number_at(words, 2, 8);
     for step in 0..count {
         put_run(
             rt.alloc(),

@@ -22,12 +22,13 @@ pub(crate) struct Workspace {
     pub(crate) fails: u64,
 }
 
-const COMMANDS: [&str; 7] = [
+const COMMANDS: [&str; 8] = [
     "check licenses",
     "check licenses",
     "-f json check licenses",
     "check -D warnings licenses",
     "list",
+    "notice",
     "record",
     "bill --name n --namespace x --created 2024-05-01T12:00:00Z",
 ];

@@ -1,0 +1,12 @@
+mod Backwards
+mod Comparisons
+mod UnderWay
+mod PutLemmas
+mod EdgeLemmas
+mod EndLemmas
+mod TurnLemmas
+mod LeastLemmas
+mod OneLemmas
+mod FoundLemmas
+mod UncheckedLemmas
+mod Examples
