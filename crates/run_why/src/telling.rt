@@ -167,7 +167,7 @@ impl<'t> Telling<'t> {
 
     /// The number of the next checked crate behind a place.
     fn behind(&self, place: usize, next: usize) -> usize
-        requires { next ≤ place }
+        requires order { next ≤ place }
         requires within { place < length self.now.told.now.titles }
         ensures { result ≡ spec.behind (cause_at self.now.told.now.causes.items place) next }
     {
