@@ -94,7 +94,8 @@ text_unmatched wanted (Err (bad.Failed before after)) = Some by.Failed
 
 -- what is kept of the file at a path of the same parts
 abbrev pub kept_at : List KeptFile → List ℕ → Option (Result KeptText BadRead)
-kept_at kept path = option_map (λ (file : KeptFile). file.kept) (find (λ (file : KeptFile). same_path path file.path) kept)
+kept_at kept path =
+    option_map (λ (file : KeptFile). file.kept) (find (λ (file : KeptFile). same_path path file.path) kept)
 
 -- one of which nothing is kept is not there
 abbrev pub file_unmatched : List KeptFile → FileSource → Option Unmatched
@@ -144,7 +145,8 @@ clarifications_unmet files policy krate kept = unmet_until files krate kept poli
 
 abbrev pub exception_unmet : List File → CrateRecord → List KeptFile → ValidException → List UnmetAnswer
 exception_unmet files krate kept one =
-    if spec_matches one.spec krate then option_to_list (unmet_by kept (exception_files files one) one.license_files) else []
+    if spec_matches one.spec krate then option_to_list (unmet_by kept (exception_files files one) one.license_files)
+    else []
 
 abbrev pub exceptions_unmet : List File → ValidConfig → CrateRecord → List KeptFile → List UnmetAnswer
 exceptions_unmet files policy krate kept =

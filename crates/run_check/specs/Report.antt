@@ -57,8 +57,8 @@ pub record IsReportOf (given : CommandArguments) (policy : ValidConfig) (one : R
 abbrev pub TellsSource : CrateTurn → CrateReport → Type 0
 TellsSource own report = report.source ≡ license_source (info_in own.turn)
 
--- What a report has, by the crate's turn: the expression, where that is, what is noted of it, the exceptions that count,
--- the reads, and what is kept of the licence files.
+-- What a report has, by the crate's turn: the expression, where that is, what is noted of it, the exceptions that
+-- count, the reads, and what is kept of the licence files.
 pub record TellsTurn (own : CrateTurn) (report : CrateReport) : Type 0 where
   pub expression : report.expression ≡ expression_of (info_in own.turn)
   pub notes : report.notes ≡ notes_in own.turn

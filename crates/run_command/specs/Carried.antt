@@ -31,4 +31,10 @@ no_levels = record { warn = []; allow = []; deny = [] }
 -- a command without options of its own: it goes by the policy as it is
 abbrev pub plain_options : LogContext → KrateContext → CommandOptions
 plain_options log context =
-    record { unsupported = unsupported_of log context; levels = no_levels; with_flags = true; threshold = None; keeps = false }
+    record {
+      unsupported = unsupported_of log context;
+      levels = no_levels;
+      with_flags = true;
+      threshold = None;
+      keeps = false;
+    }

@@ -181,8 +181,8 @@ pub record CutsWhy (given : WhyArguments) (tree : TreeSeen) (err out : SinkSeen)
   pub refused : IsWriteFault out.before out.after error
   pub front : GainedPrefix out.old out.new (why_text found)
 
--- What is told is written, and the reads of the crates are reported. A refusal leaves nothing on `out`, or it is that of
--- the write.
+-- What is told is written, and the reads of the crates are reported. A refusal leaves nothing on `out`, or it is that
+-- of the write.
 pub record TellsAll (given : WhyArguments) (tree : TreeSeen) (err out : SinkSeen) (reads : List CrateRead)
     : Type 0 where
   pub found : WhyFound
