@@ -1,5 +1,7 @@
 mod AmongLemmas
+mod EndLemmas
 mod GraphLemmas
+mod LawLemmas
 mod NamedLemmas
 mod TellingLemmas
 mod TextLemmas

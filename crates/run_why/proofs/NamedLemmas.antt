@@ -1,25 +1,42 @@
 -- The crates that words name.
-use Rattle.std.proofs.Common.{◌≡◌, ◌∙◌, refl, sym, ap, ap₂, ℕ, Bool, true, false, ◌||◌, List, [], ◌∷◌, ◌++◌, length, map}
-use Rattle.std.specs.List.{list_any}
-use Rattle.graph_core.specs.Krate.{CrateRecord}
-use Rattle.run_why.specs.Named.{is_named, marked_too, names}
+use Rattle.std.proofs.Common.{◌≡◌, ◌∙◌, refl, sym, ap, ap₂, ℕ, Bool, true, false, ◌||◌, List, [], ◌∷◌, map, Option, Some, None}
+use Rattle.std.specs.Option.{option_to_list}
+use Rattle.std.specs.List.{cons_option, filter_map, list_any}
+use Rattle.graph_core.specs.declared.krate.Krate.{Krate}
+use Rattle.graph_core.specs.Krate.{CrateRecord, record_of}
+use Rattle.graph_core.specs.selection.Choice.{ExcludeSpecView, excludes, is_excluded, read_one, spec_read}
+use Rattle.run_why.specs.Named.{is_named, marks_of, named_by, names}
 
-or_assoc : (a b c : Bool) → ((a || b) || c) ≡ (a || (b || c))
-or_assoc true b c = refl
-or_assoc false b c = refl
+-- what one word is read as
+read_as : (spec : Option ExcludeSpecView) → cons_option spec [] ≡ option_to_list spec
+read_as (Some spec) = refl
+read_as None = refl
+
+pub read_alone : (word : List ℕ) → filter_map spec_read (word ∷ []) ≡ read_one word
+read_alone word = read_as (spec_read word)
 
 or_false : (a : Bool) → (a || false) ≡ a
 or_false true = refl
 or_false false = refl
 
-any_push : (words : List (List ℕ)) (word : List ℕ) (krate : CrateRecord) → is_named (words ++ word ∷ []) krate ≡ (is_named words krate || names word krate)
-any_push [] word krate = or_false (names word krate)
-any_push (first ∷ words) word krate =
-    ap (λ rest. names first krate || rest) (any_push words word krate) ∙ sym (or_assoc (names first krate) (is_named words krate) (names word krate))
+-- of a word and of others
+named_first : (spec : Option ExcludeSpecView) (rest : List ExcludeSpecView) (krate : CrateRecord)
+    → is_excluded (cons_option spec rest) krate ≡ (is_excluded (option_to_list spec) krate || is_excluded rest krate)
+named_first None rest krate = refl
+named_first (Some spec) rest krate = ap (λ (own : Bool). own || is_excluded rest krate) (sym (or_false (excludes spec krate)))
 
--- the marks of some words, with those of one more
-pub marked_push : (words : List (List ℕ)) (word : List ℕ) (crates : List CrateRecord)
-    → marked_too (map (is_named words) crates) (names word) crates ≡ map (is_named (words ++ word ∷ [])) crates
-marked_push words word [] = refl
-marked_push words word (krate ∷ crates) =
-    ap₂ (λ (mark : Bool) (marks : List Bool). mark ∷ marks) (sym (any_push words word krate)) (marked_push words word crates)
+pub named_by_words : (words : List (List ℕ)) (krate : CrateRecord) → is_excluded (filter_map spec_read words) krate ≡ is_named words krate
+named_by_words [] krate = refl
+named_by_words (word ∷ words) krate =
+    named_first (spec_read word) (filter_map spec_read words) krate ∙ ap (λ (rest : Bool). names word krate || rest) (named_by_words words krate)
+
+-- the marks of crates are those of their records
+pub marks_are : (words : List (List ℕ)) (krates : List Krate) → marks_of (filter_map spec_read words) krates ≡ map (is_named words) (map record_of krates)
+marks_are words [] = refl
+marks_are words (krate ∷ krates) =
+    ap₂ (λ (mark : Bool) (marks : List Bool). mark ∷ marks) (named_by_words words (record_of krate)) (marks_are words krates)
+
+-- one of crates is named, as one of their records is
+pub any_named : (specs : List ExcludeSpecView) (krates : List Krate) → list_any (named_by specs) krates ≡ list_any (is_excluded specs) (map record_of krates)
+any_named specs [] = refl
+any_named specs (krate ∷ krates) = ap (λ (rest : Bool). named_by specs krate || rest) (any_named specs krates)

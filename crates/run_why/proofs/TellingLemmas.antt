@@ -12,6 +12,6 @@ use Rattle.run_why.specs.Steps.{behind, cause_at, texts_at, texts_from}
 pub texts_on : (telling : Telling) (place next : ℕ) (causes : List (Option Unchecked)) (krates : List CrateRecord) (reports : List CrateReport) → place < length causes
     → texts_from telling place next (drop place causes) krates reports
     ≡ texts_at telling place (cause_at causes place) (slice_get krates next) (slice_get reports next)
-    ++ texts_from telling (place + 1) (behind (cause_at causes place) next) (drop (place + 1) causes) krates reports
+    ++ texts_from telling (suc place) (behind (cause_at causes place) next) (drop (place + 1) causes) krates reports
 texts_on telling place next causes krates reports within =
     at_drop_more (λ (rest : List (Option Unchecked)). texts_from telling place next rest krates reports) causes place None within

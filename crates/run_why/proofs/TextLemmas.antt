@@ -67,7 +67,7 @@ one_more true x rest = refl
 one_more false x rest = refl
 
 place_within : {A : Type 0} (xs front : List A) (x : A) (rest : List A) (place : ℕ) → xs ≡ front ++ x ∷ rest → place ≡ length front → place < length xs
-place_within xs front x rest place parts is =
+place_within {A = A} xs front x rest place parts is =
     subst (λ (all : List A). place < length all) (sym parts) (omega (arith, is, length-append front (x ∷ rest)))
 
 -- ---- which crates are told
@@ -276,7 +276,7 @@ module _ (telling : Telling) (words : List (List ℕ)) (asked : AskedMetadata) (
     module _ (place : ℕ) (krate : CrateRecord) (is : slice_get crates place ≡ Some krate) (within : place < length graph.nodes) (selected : Selected graph choice include krate.id)
         (next : ℕ) (own : CrateTurn) (report : CrateReport) (is_own : slice_get turns next ≡ Some own) (is_report : slice_get telling.report.now.crates next ≡ Some report)
         (of_crate : own.turn.krate ≡ krate) (fits : IsTold scanner own report) where
-      kind : Option DepKind
+      abbrev kind : Option DepKind
       kind = kind_left_out include
 
       shortest_by : (walk : Option (List ℕ)) → walk_at (followed telling.told.now) place ≡ walk → ShortestWalk graph choice kind krate.id (ids_on graph walk)

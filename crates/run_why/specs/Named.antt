@@ -1,8 +1,9 @@
 -- Which crates the words of `why` name.
-use Rattle.std.specs.Prelude.{ℕ, Bool, not, ◌||◌, List, [], ◌∷◌, filter, find, Option}
+use Rattle.std.specs.Prelude.{ℕ, Bool, not, List, filter, find, map, Option}
 use Rattle.std.specs.List.{list_any}
-use Rattle.graph_core.specs.Krate.{CrateRecord}
-use Rattle.graph_core.specs.selection.Choice.{is_excluded, is_unsupported, read_one}
+use Rattle.graph_core.specs.declared.krate.Krate.{Krate}
+use Rattle.graph_core.specs.Krate.{CrateRecord, record_of}
+use Rattle.graph_core.specs.selection.Choice.{ExcludeSpecView, is_excluded, is_unsupported, read_one}
 
 -- A word names the crates that it would leave out as a spec of `--exclude`; an unreadable one names none.
 abbrev pub names : List ℕ → CrateRecord → Bool
@@ -23,8 +24,11 @@ first_unknown words crates = find (λ word. not (list_any (names word) crates)) 
 abbrev pub has_unsupported : List (List ℕ) → Bool
 has_unsupported words = list_any is_unsupported words
 
--- marks beside others, of the crates that pass a test
-abbrev pub marked_too : List Bool → (CrateRecord → Bool) → List CrateRecord → List Bool
-marked_too [] test crates = []
-marked_too (mark ∷ marks) test [] = mark ∷ marks
-marked_too (mark ∷ marks) test (krate ∷ crates) = (mark || test krate) ∷ marked_too marks test crates
+-- ---- of crates as they are kept
+
+-- whether specs name a crate
+abbrev pub named_by : List ExcludeSpecView → Krate → Bool
+named_by specs krate = is_excluded specs (record_of krate)
+
+abbrev pub marks_of : List ExcludeSpecView → List Krate → List Bool
+marks_of specs krates = map (named_by specs) krates

@@ -1,5 +1,5 @@
 -- What the steps of a run for `why` answer. Only the contracts of private calls cite it.
-use Rattle.std.specs.Prelude.{◌≡◌, ◌⊎◌, ℕ, suc, ◌-◌, ◌<◌, take, Bool, false, List, [], ◌∷◌, ◌++◌, length, map}
+use Rattle.std.specs.Prelude.{◌≡◌, ◌⊎◌, ℕ, suc, ◌-◌, ◌<◌, take, Bool, true, false, List, [], ◌∷◌, ◌++◌, length, map}
 use Rattle.std.specs.Prelude.{slice_get, slice_index_or, All, Option, Some, None, if◌then◌else◌}
 use Rattle.std.specs.Prelude.{Result, Ok, Err}
 use Rattle.std.specs.List.{filter_map, flat_map}
@@ -41,7 +41,7 @@ use Rattle.run_check.specs.Reads.{reads_told}
 use Rattle.run_why.specs.declared.graph.GraphTold.{GraphTold}
 use Rattle.run_why.specs.declared.telling.Telling.{Telling}
 use Rattle.run_why.specs.declared.whying.WhyFound.{WhyFound}
-use Rattle.run_why.specs.Named.{first_unknown, is_named}
+use Rattle.run_why.specs.Named.{is_named}
 use Rattle.run_why.specs.Why.{answer_text, because_text, why_text}
 
 -- ---- what is known of the metadata
@@ -75,7 +75,6 @@ pub record IsGraphTold (words : List (List ℕ)) (asked : AskedMetadata) (includ
   pub walks : AreSelecting asked.metadata (choice_of asked.selection)
       told.walks.all told.walks.without_dev told.walks.without_build
   pub include_is : told.include ≡ include
-  pub unknown : told.unknown ≡ first_unknown words (crates_of asked.metadata)
 
 -- the walks that the selection follows
 abbrev pub walks_by : GraphTold → Option DepKind → List (Option (List ℕ))
@@ -101,6 +100,11 @@ needed_titles told place =
     option_map_or (λ walk. copied_titles told.titles (before_last walk)) (walk_at (followed told) place) []
 
 -- ---- the texts
+
+-- whether there are words
+abbrev pub has_any : List (List ℕ) → Bool
+has_any [] = false
+has_any (word ∷ words) = true
 
 -- with words the crates that these name, else those that the check is against
 abbrev pub wants : Bool → GraphTold → ℕ → Verdict → Bool

@@ -1,12 +1,13 @@
 //! What `why` knows of the metadata, before the crates are chosen from it.
 //! Made by `found_why` of whying, read by telling; the walks that the selection does not follow may be let go.
 ghost use Rattle.std.specs.Prelude.{◌≡◌, ◌++◌, ◌<◌, IfOk, OnOk, length, map, option_copied};
+ghost use Rattle.std.specs.Option.{option_to_list};
 ghost use Rattle.graph_core.specs.selection.Choice.{choice_of};
 ghost use Rattle.graph_walk.specs.Unchecked.{AreSelecting};
 ghost use Rattle.run_why.specs.Steps as spec;
 ghost use Rattle.run_why.specs.Steps.{IsGraphTold, copied_titles};
 
-use crate::named::{first_unknown, named_marks};
+use crate::named::named_marks;
 use check_why::{CrateTitle, CrateTitles, title_of};
 use deny_text::{Text, Texts};
 use graph_core::selection::{Include, Standing, standings_of};
@@ -25,8 +26,6 @@ pub(crate) struct GraphTold {
     named: Vec<bool>,
     walks: SelectingWalks,
     include: Include,
-    /// The first word that names none.
-    unknown: Option<Text>,
 }
 
 fn titles_of(alloc: Global, krates: &[Krate]) -> Result<CrateTitles, AllocError>
@@ -68,18 +67,6 @@ fn causes_of(
     Ok(causes)
 }
 
-fn copied(alloc: Global, word: Option<&str>) -> Result<Option<Text>, AllocError>
-    ensures { IfOk result (λ copy. copy ≡ option_copied word) }
-{
-    match word {
-        Some(word) => {
-            let word = Text::copy(alloc, word)?;
-            Ok(Some(word))
-        }
-        None => Ok(None),
-    }
-}
-
 fn copied_title(alloc: Global, title: &CrateTitle) -> Result<CrateTitle, AllocError>
     ensures { IfOk result (λ copy. copy ≡ title.now) }
 {
@@ -87,6 +74,23 @@ fn copied_title(alloc: Global, title: &CrateTitle) -> Result<CrateTitle, AllocEr
     let name = Text::copy(alloc, title.name.as_str())?;
     let version = Text::copy(alloc, title.version.as_str())?;
     Ok(CrateTitle { id, name, version })
+}
+
+/// Appends a title, where there is one.
+fn push_title(
+    alloc: Global,
+    copies: &mut CrateTitles,
+    title: Option<&CrateTitle>,
+) -> Result<(), AllocError>
+    ensures { OnOk result (copies.new ≡ copies.old ++ option_to_list (option_copied title.entry)) }
+{
+    match title {
+        Some(title) => {
+            let copy = copied_title(alloc, title)?;
+            copies.push(copy)
+        }
+        None => Ok(()),
+    }
 }
 
 /// The titles at some places.
@@ -99,12 +103,17 @@ fn titles_at(
 {
     let mut copies = CrateTitles::new(alloc);
     'places: for place in places {
-        if let Some(title) = titles.get(*place) {
-            let copy = copied_title(alloc, title)?;
-            copies.push(copy)?;
-        }
+        push_title(alloc, &mut copies, titles.get(*place))?;
     }
     Ok(copies)
+}
+
+/// The places of a walk before the last one.
+fn before_last(places: &[usize]) -> &[usize]
+    ensures { result.now ≡ spec.before_last places.now }
+{
+    let (before, _) = places.split_at(places.len().saturating_sub(1));
+    before
 }
 
 impl GraphTold {
@@ -121,23 +130,13 @@ impl GraphTold {
         let standings = standings_of(alloc, &asked.metadata, &asked.selection)?;
         let walks = SelectingWalks::of(alloc, &asked.metadata, &asked.selection)?;
         let causes = causes_of(alloc, asked, &standings, &walks, include)?;
-        let unknown = first_unknown(alloc, words.items(), krates)?;
         Ok(GraphTold {
             titles: titles_of(alloc, krates)?,
             causes,
             named: named_marks(alloc, words.items(), krates)?,
             walks,
             include,
-            unknown: copied(alloc, unknown)?,
         })
-    }
-
-    /// The first word that names no crate. It is let go here.
-    pub(crate) fn take_unknown(&mut self) -> Option<Text>
-        ensures word { result ≡ self.old.unknown }
-        ensures rest { self.new ≡ record self.old { unknown = self.new.unknown } }
-    {
-        self.unknown.take()
     }
 
     /// How many crates there are.
@@ -189,12 +188,8 @@ impl GraphTold {
         requires { place < length (spec.followed self.now) }
         ensures { IfOk result (λ titles. titles ≡ spec.needed_titles self.now place) }
     {
-        let walk = self.followed().walk_to(alloc, place)?;
-        match walk {
-            Some(places) => match places.split_last() {
-                Some((_, before)) => titles_at(alloc, self.titles.items(), before),
-                None => Ok(CrateTitles::new(alloc)),
-            },
+        match self.followed().walk_to(alloc, place)? {
+            Some(walk) => titles_at(alloc, self.titles.items(), before_last(walk.as_slice())),
             None => Ok(CrateTitles::new(alloc)),
         }
     }

@@ -1,17 +1,19 @@
 //! The crates that the words of `why` name.
-ghost use Rattle.std.specs.Prelude.{◌≡◌, map, option_copied, IfOk, OnOk};
+ghost use Rattle.std.specs.Prelude.{◌≡◌, map, option_copied, IfOk};
 ghost use Rattle.std.specs.List.{list_any};
 ghost use Rattle.graph_core.specs.Krate.{record_of};
-ghost use Rattle.graph_core.specs.selection.Choice.{exclude_spec_of, is_excluded, read_one};
+ghost use Rattle.graph_core.specs.selection.Choice.{exclude_spec_of, read_one};
+ghost use Rattle.graph_core.specs.selection.Roots.{crates_of};
+ghost use Rattle.graph_walk.specs.Unchecked.{leaves_out};
 ghost use Rattle.run_why.specs.Named as spec;
 
 use deny_text::{Text, Texts};
-use graph_core::Krate;
-use graph_core::selection::{ExcludeSpecs, has_unsupported, read_specs};
+use graph_core::selection::{ExcludeSpec, ExcludeSpecs, has_unsupported, read_specs};
+use graph_core::{Krate, Metadata};
 use std::alloc::{AllocError, Global};
 
 /// Whether a word holds a `/` or a `#`. Such a word is not carried.
-pub fn has_unsupported_word(words: &Texts) -> bool
+pub(crate) fn has_unsupported_word(words: &Texts) -> bool
     ensures { result ≡ spec.has_unsupported words.now }
 {
     has_unsupported(words)
@@ -26,16 +28,30 @@ fn specs_of(alloc: Global, word: &Text) -> Result<ExcludeSpecs, AllocError>
     Ok(specs)
 }
 
-/// Whether specs name a crate.
-fn name(specs: &ExcludeSpecs, krate: &Krate) -> bool
-    ensures { result ≡ is_excluded (map exclude_spec_of specs.now) (record_of krate.now) }
+/// Whether a spec names a crate.
+fn is_for(one: &ExcludeSpec, krate: &Krate) -> bool
+    ensures { result ≡ leaves_out (record_of krate.now) one.now }
 {
-    specs.items().iter().any(|spec| spec.excludes(krate))
+    one.excludes(krate)
+}
+
+/// Whether one of some specs does.
+fn any_is_for(specs: &[ExcludeSpec], krate: &Krate) -> bool
+    ensures { result ≡ list_any (leaves_out (record_of krate.now)) specs.now }
+{
+    specs.iter().any(|one| is_for(one, krate))
+}
+
+/// The same, by what the specs are read as.
+fn name(specs: &[ExcludeSpec], krate: &Krate) -> bool
+    ensures { result ≡ spec.named_by (map exclude_spec_of specs.now) krate.now }
+{
+    any_is_for(specs, krate)
 }
 
 /// Whether specs name one of some crates.
-fn name_any(specs: &ExcludeSpecs, crates: &[Krate]) -> bool
-    ensures { result ≡ list_any (is_excluded (map exclude_spec_of specs.now)) (map record_of crates.now) }
+fn name_any(specs: &[ExcludeSpec], crates: &[Krate]) -> bool
+    ensures { result ≡ list_any (spec.named_by (map exclude_spec_of specs.now)) crates.now }
 {
     crates.iter().any(|krate| name(specs, krate))
 }
@@ -45,11 +61,11 @@ fn names_any(alloc: Global, word: &Text, crates: &[Krate]) -> Result<bool, Alloc
     ensures { IfOk result (λ any. any ≡ list_any (spec.names word.now) (map record_of crates.now)) }
 {
     let specs = specs_of(alloc, word)?;
-    Ok(name_any(&specs, crates))
+    Ok(name_any(specs.items(), crates))
 }
 
 /// The first of some words that names no crate.
-pub fn first_unknown<'w>(
+fn first_unknown<'w>(
     alloc: Global,
     words: &'w [Text],
     crates: &[Krate],
@@ -67,25 +83,50 @@ pub fn first_unknown<'w>(
     }
 }
 
-/// Marks the crates that specs name, beside those that are marked.
-fn mark(marks: &mut Vec<bool>, specs: &ExcludeSpecs, crates: &[Krate])
-    ensures { marks.new.items ≡ spec.marked_too marks.old.items
-        (is_excluded (map exclude_spec_of specs.now)) (map record_of crates.now) }
+fn copied(alloc: Global, word: Option<&str>) -> Result<Option<Text>, AllocError>
+    ensures { IfOk result (λ copy. copy ≡ option_copied word.entry) }
 {
-    'crates: for (mark, krate) in marks.iter_mut().zip(crates.iter()) {
-        let marked = *mark;
-        *mark = marked || name(specs, krate);
+    match word {
+        Some(word) => {
+            let word = Text::copy(alloc, word)?;
+            Ok(Some(word))
+        }
+        None => Ok(None),
     }
 }
 
-/// Of each crate, whether some word names it.
-pub fn named_marks(alloc: Global, words: &[Text], crates: &[Krate]) -> Result<Vec<bool>, AllocError>
-    ensures { IfOk result (λ marks. marks.items ≡ map (spec.is_named words.now) (map record_of crates.now)) }
+/// The first of some words that names no crate of the metadata.
+pub(crate) fn unknown_word(
+    alloc: Global,
+    words: &Texts,
+    metadata: &Metadata,
+) -> Result<Option<Text>, AllocError>
+    ensures { IfOk result (λ word. word ≡ spec.first_unknown words.now (crates_of metadata.now)) }
 {
-    let mut marks = Vec::from_elem(alloc, false, crates.len())?;
-    'words: for word in words {
-        let specs = specs_of(alloc, word)?;
-        mark(&mut marks, &specs, crates);
+    let word = first_unknown(alloc, words.items(), metadata.crates())?;
+    copied(alloc, word)
+}
+
+/// Of each crate, whether specs name it.
+fn marks_by(alloc: Global, specs: &[ExcludeSpec], crates: &[Krate]) -> Result<Vec<bool>, AllocError>
+    ensures { IfOk result (λ marks. marks.items ≡ spec.marks_of (map exclude_spec_of specs.now) crates.now) }
+{
+    let mut marks = Vec::with_capacity(alloc, crates.len())?;
+    'crates: for krate in crates {
+        marks.push(name(specs, krate))?;
     }
     Ok(marks)
+}
+
+/// Of each crate, whether some word names it.
+pub(crate) fn named_marks(
+    alloc: Global,
+    words: &[Text],
+    crates: &[Krate],
+) -> Result<Vec<bool>, AllocError>
+    ensures { IfOk result (λ marks. marks.items ≡ map (spec.is_named words.now) (map record_of crates.now)) }
+{
+    let mut specs = ExcludeSpecs::new(alloc);
+    read_specs(alloc, &mut specs, words)?;
+    marks_by(alloc, specs.items(), crates)
 }

@@ -1,6 +1,6 @@
 //! The texts of the crates that are told.
 //! Called by `found_why` of whying; a crate's text may be made anew, their order is in a clause.
-ghost use Rattle.std.specs.Prelude.{◌≡◌, ◌≤◌, ◌<◌, ◌++◌, length, map, option_map, IfOk, IfSome, OnOk};
+ghost use Rattle.std.specs.Prelude.{◌≡◌, ◌≤◌, ◌<◌, ◌++◌, length, map, option_copied, option_map, IfOk, IfSome, OnOk};
 ghost use Rattle.graph_core.specs.Krate.{record_of};
 ghost use Rattle.graph_core.specs.selection.Listed.{record_behind};
 ghost use Rattle.check_why.specs.Made.{IsReportInside};
@@ -152,7 +152,7 @@ impl<'t> Telling<'t> {
         requires inside { IfSome report (λ own. IsReportInside self.now.report.now.files own.now) }
         ensures { OnOk result (texts.new ≡ texts.old
             ++ spec.texts_at self.now place (cause_at self.now.told.now.causes.items place)
-            (option_map (λ own. record_of own.now) krate) (option_map (λ own. own.now) report)) }
+            (option_map record_behind krate.entry) (option_copied report.entry)) }
     {
         match self.told.cause(place) {
             Some(cause) => self.push_unchecked(alloc, texts, place, cause.as_str()),

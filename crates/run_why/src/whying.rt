@@ -1,23 +1,33 @@
 //! The command `why`.
 //! Called by `why_request` of `deny_run`; the texts may be written in pieces, the write comes last.
-ghost use Rattle.std.specs.Prelude.{◌≡◌, ◌≤◌, IfErr, IfOk, None, string_bytes};
+ghost use Rattle.std.specs.Prelude.{◌≡◌, ◌≤◌, ℕ, List, [], IfErr, IfOk, None, string_bytes};
 ghost use Rattle.tree_core.specs.texts.Cause.{ReadCounts};
+ghost use Rattle.spdx_terms.specs.declared.catalog.identifier.Match.{Match};
+ghost use Rattle.policy_core.specs.Places.{PolicyStands};
+ghost use Rattle.gather_core.specs.Gathered.{include_of};
+ghost use Rattle.run_overrides.specs.Levels.{PutAtLevels};
 ghost use Rattle.run_found.specs.Error.{cause_of};
 ghost use Rattle.run_found.specs.Hearing.{seen_between};
 ghost use Rattle.run_found.specs.Written.{sink_between};
-ghost use Rattle.run_why.specs.Given.{unsupported_of, why_arguments_of};
-ghost use Rattle.run_why.specs.Steps.{Puts, joined_texts};
+ghost use Rattle.run_command.specs.Carried as command;
+ghost use Rattle.run_command.specs.Crates.{FindsMetadata};
+ghost use Rattle.run_command.specs.Given.{command_arguments_of};
+ghost use Rattle.run_why.specs.Given.{unsupported_of, why_arguments_of, why_options};
+ghost use Rattle.run_why.specs.Steps as steps;
+ghost use Rattle.run_why.specs.Steps.{IsGraphTold, Puts, joined_texts};
 ghost use Rattle.run_why.specs.Why.{FindsWhy, Tells};
 
 use crate::graph::GraphTold;
-use crate::named::has_unsupported_word;
+use crate::named::{has_unsupported_word, unknown_word};
 use crate::telling::texts_told;
 use deny_text::{Text, Texts};
 use diag_core::Files;
 use diag_print::LogContext;
 use graph_workspace::{Include, UnsupportedPart};
 use run_check::{Report, judged_of, reads_of_reports};
-use run_command::{PolicyUse, crates_of, metadata_found, no_levels, unsupported_in, write_answer};
+use run_command::{
+    MetadataFound, PolicyUse, crates_of, metadata_found, no_levels, unsupported_in, write_answer,
+};
 use run_found::{CrateReads, Error};
 use run_request::KrateContext;
 use spdx_core::{Catalog, Identifier};
@@ -51,6 +61,59 @@ pub fn unsupported_words(
     }
 }
 
+/// The policy of a request, and what the metadata tells, by the options that `why` has.
+fn metadata_of<T: Tree, S: Sink, C: Catalog>(
+    alloc: Global,
+    tree: &mut T,
+    err: &mut S,
+    catalog: &C,
+    log_ctx: LogContext,
+    context: &KrateContext,
+    words: &Texts,
+    files: &mut Files,
+) -> Result<MetadataFound, Error>
+    requires empty { files.old ≡ [] }
+    requires carried { unsupported_of log_ctx context.now words.now ≡ None }
+    // whatever identifies texts
+    ensures found { (match_of : List ℕ → Match) → FindsMetadata
+        (command_arguments_of (C.lists catalog.now) match_of log_ctx context.now
+        (why_options log_ctx context.now words.now))
+        (seen_between T.content T.fault_count T.trace tree.old tree.new)
+        (sink_between S.written S.fault_count err.old err.new)
+        files.new result }
+    ensures places { IfOk result (λ found. PolicyStands files.new found.policy) }
+    ensures overrides { IfOk result (λ found. PutAtLevels command.no_levels found.overrides) }
+    ensures counts { IfErr result (λ error. ReadCounts
+        (T.fault_count tree.old) (T.fault_count tree.old) (T.fault_count tree.new) (cause_of error)) }
+    ensures later { S.fault_count err.old ≤ S.fault_count err.new }
+{
+    let levels = no_levels(alloc);
+    let use_of = PolicyUse {
+        levels: &levels,
+        with_flags: true,
+        threshold: None,
+        keeps: true,
+    };
+    metadata_found(alloc, context, log_ctx, &use_of, files, tree, err, catalog)
+}
+
+/// What `why` knows of the metadata that was found.
+fn told_of(alloc: Global, words: &Texts, found: &MetadataFound) -> Result<GraphTold, AllocError>
+    ensures { IfOk result (IsGraphTold words.now found.now.asked (include_of found.now.policy)) }
+{
+    let include = Include {
+        dev: found.policy.include_dev,
+        build: found.policy.include_build,
+    };
+    GraphTold::of(alloc, words, &found.asked, include)
+}
+
+fn has_any(words: &Texts) -> bool
+    ensures { result ≡ steps.has_any words.now }
+{
+    words.items().first().is_some()
+}
+
 /// What `why` finds of a request, all of which is carried. What is printed of the policy's load is written to the sink.
 fn found_why<T: Tree, S: Sink, C: Catalog, I: Identifier>(
     alloc: Global,
@@ -72,31 +135,20 @@ fn found_why<T: Tree, S: Sink, C: Catalog, I: Identifier>(
         (T.fault_count tree.old) (T.fault_count tree.old) (T.fault_count tree.new) (cause_of error)) }
     ensures later { S.fault_count err.old ≤ S.fault_count err.new }
 {
-    let levels = no_levels(alloc);
-    let use_of = PolicyUse {
-        levels: &levels,
-        with_flags: true,
-        threshold: None,
-        keeps: true,
-    };
     let mut files = Files::new(alloc);
-    let found = metadata_found(
-        alloc, context, log_ctx, &use_of, &mut files, tree, err, catalog,
+    let found = metadata_of(
+        alloc, tree, err, catalog, log_ctx, context, words, &mut files,
     )?;
-    let include = Include {
-        dev: found.policy.include_dev,
-        build: found.policy.include_build,
-    };
-    let mut told = GraphTold::of(alloc, words, &found.asked, include)?;
+    let told = told_of(alloc, words, &found)?;
+    let unknown = unknown_word(alloc, words, &found.asked.metadata)?;
     let crates = crates_of(alloc, found)?;
-    if let Some(word) = told.take_unknown() {
+    if let Some(word) = unknown {
         return Err(Error::NoSuchCrate(word));
     }
     let judged = judged_of(
         alloc, log_ctx, true, crates, files, tree, catalog, identifier,
     )?;
-    let has_words = !words.items().is_empty();
-    let texts = texts_told(alloc, log_ctx.format, has_words, &told, &judged)?;
+    let texts = texts_told(alloc, log_ctx.format, has_any(words), &told, &judged)?;
     Ok(WhyFound {
         report: judged.report,
         texts,
