@@ -61,12 +61,11 @@ use Rattle.run_command.specs.Settled.{HearsSo, IsSettled}
 use Rattle.run_command.specs.Stops.{Asks, Stops}
 use Rattle.run_command.proofs.MetadataLemmas.{crates_refused}
 use Rattle.run_command.proofs.SettledLemmas.{hears, hears_so, is_settled}
-use Rattle.run_check.specs.declared.check.CheckedCrates.{CheckedCrates}
 use Rattle.run_check.specs.declared.judged.JudgedCrates.{JudgedCrates}
 use Rattle.run_check.specs.declared.report.Report.{Report}
 use Rattle.run_check.specs.Judged.{crates_judged}
 use Rattle.run_check.specs.Report.{IsReport, verdicts_in}
-use Rattle.run_check.specs.Steps.{IsJudgedOn, report_with}
+use Rattle.run_check.specs.Steps.{IsJudgedOn, checked_by, report_with}
 use Rattle.run_check.proofs.ReportLemmas.{crates_are, is_reported}
 use Rattle.run_why.specs.declared.graph.GraphTold.{GraphTold}
 use Rattle.run_why.specs.declared.telling.Telling.{Telling}
@@ -191,8 +190,11 @@ module _ (lists : CatalogLists) (match_of : List ℕ → Match) (log : LogContex
     settled : IsSettled given hearing crates.policy one.is.licenses last
     settled = is_settled given heard middle tells begun mid after old between more err files crates has carried last one.is.licenses one.is.gathered
 
+    report_is : judged.report ≡ report_with (checked_by no_levels crates.policy one.is.licenses one.is.check.verdicts) last
+    report_is = one.report ∙ ap (λ checked. report_with checked last) one.is.check.is
+
     policy_is : judged.report.policy ≡ crates.policy
-    policy_is = ap (λ (report : Report). report.policy) one.report ∙ ap (λ (checked : CheckedCrates). checked.policy) one.is.check.is
+    policy_is = ap (λ (report : Report). report.policy) report_is
 
     reported : IsReport given hearing judged.report
     reported =
@@ -205,7 +207,7 @@ module _ (lists : CatalogLists) (match_of : List ℕ → Match) (log : LogContex
       policy = stands;
       reports =
           subst (All (IsReportInside last))
-          (sym (ap (λ (report : Report). report.crates) one.report ∙ ap (λ (checked : CheckedCrates). checked.crates) one.is.check.is))
+          (sym (ap (λ (report : Report). report.crates) report_is))
           (All-from_recursion (IsReportInside last) _
           (reports_inside last (policy_of crates.policy) one.is.licenses one.is.check.verdicts (recursion_from_All (VerdictPoints last (policy_of crates.policy)) (gathered_of_licenses one.is.licenses) one.is.points)));
     }

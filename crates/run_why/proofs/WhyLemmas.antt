@@ -1,5 +1,5 @@
 -- The steps of a run for `why`, and its ends.
-use Rattle.std.proofs.Common.{◌≡◌, inl, inr, refl, subst, sym, ap, ℕ, List, [], ◌∷◌, map, Result, Ok, Err, IfErr}
+use Rattle.std.proofs.Common.{◌≡◌, ◌∙◌, inl, inr, refl, subst, sym, ap, ℕ, true, List, [], ◌∷◌, map, Option, Some, None, Result, Ok, Err, IfErr}
 use Rattle.std.specs.List.{AllByRecursion, AllZip}
 use Rattle.diag_core.specs.File.{File}
 use Rattle.gather_license.specs.expression.Scanned.{Scanner}
@@ -17,14 +17,35 @@ use Rattle.run_found.specs.declared.reads.CrateRead.{CrateRead}
 use Rattle.run_found.specs.Error.{cause_of}
 use Rattle.run_found.specs.Hearing.{TreeSeen}
 use Rattle.run_found.specs.Written.{SinkSeen}
+use Rattle.diag_print.specs.declared.context.LogContext.{LogContext}
+use Rattle.graph_workspace.specs.declared.error.UnsupportedPart.{UnsupportedPart}
+use Rattle.run_request.specs.declared.context.KrateContext.{KrateContext}
+use Rattle.run_request.specs.declared.level.LintLevels.{LintLevels}
+use Rattle.run_command.specs.Carried.{no_levels}
+use Rattle.run_command.specs.Given.{CommandOptions}
 use Rattle.run_command.specs.Settled.{HearsSo}
 use Rattle.run_command.specs.Stops.{Stops}
 use Rattle.run_command.proofs.WrittenLemmas.{write_counts}
 use Rattle.run_check.proofs.ReportLemmas.{reported_stops}
 use Rattle.run_why.specs.declared.whying.WhyFound.{WhyFound}
-use Rattle.run_why.specs.Given.{WhyArguments}
+use Rattle.run_why.specs.Given.{WhyArguments, unsupported_by, unsupported_of, why_options}
 use Rattle.run_why.specs.Steps.{Puts}
 use Rattle.run_why.specs.Why.{IsWhy, Tells}
+
+-- ---- what it is given
+
+-- without a word that is not carried, the command's own part is carried
+pub command_carried : (what : Option UnsupportedPart) (words : List (List ℕ)) → unsupported_by what words ≡ None → what ≡ None
+command_carried (Some what) words e = absurd (cc e)
+command_carried None words e = refl
+
+abbrev options_by : Option UnsupportedPart → LintLevels → CommandOptions
+options_by what levels = record { unsupported = what; levels = levels; with_flags = true; threshold = None; keeps = true }
+
+-- the options by which its policy and its metadata are found
+pub options_are : (log : LogContext) (context : KrateContext) (words : List (List ℕ)) (levels : LintLevels) → unsupported_of log context words ≡ None → levels ≡ no_levels
+    → options_by None levels ≡ why_options log context words
+options_are log context words levels carried none = ap (options_by None) none ∙ ap (λ (what : Option UnsupportedPart). options_by what no_levels) (sym carried)
 
 -- ---- what is found is written
 
