@@ -1,10 +1,15 @@
 -- The texts of the crates that are told, one crate after another.
-use Rattle.std.proofs.Common.{◌≡◌, ℕ, suc, ◌+◌, ◌<◌, List, ◌∷◌, ◌++◌, length, drop, Option, None}
+use Rattle.std.proofs.Common.{◌≡◌, ◌∙◌, refl, sym, ap, ap₂, ℕ, suc, ◌+◌, ◌<◌, List, ◌∷◌, ◌++◌, append_assoc, length, drop, All, Option, Some, None, IfSome, option_copied, arith}
+use Rattle.std.specs.Borrow.{Bor}
 use Rattle.std.specs.Prelude.{slice_get}
 use Rattle.std.proofs.lemmas.List.{at_drop_more}
+use Rattle.std.proofs.lemmas.List.Elements.{recursion_from_All}
+use Rattle.diag_core.specs.File.{File}
 use Rattle.graph_core.specs.Krate.{CrateRecord}
 use Rattle.graph_walk.specs.declared.unchecked.Unchecked.{Unchecked}
 use Rattle.check_core.specs.declared.report.CrateReport.{CrateReport}
+use Rattle.check_why.specs.Made.{IsReportInside}
+use Rattle.check_why.proofs.InsideLemmas.{at_place}
 use Rattle.run_why.specs.declared.telling.Telling.{Telling}
 use Rattle.run_why.specs.Steps.{behind, cause_at, texts_at, texts_from}
 
@@ -15,3 +20,29 @@ pub texts_on : (telling : Telling) (place next : ℕ) (causes : List (Option Unc
     ++ texts_from telling (suc place) (behind (cause_at causes place) next) (drop (place + 1) causes) krates reports
 texts_on telling place next causes krates reports within =
     at_drop_more (λ (rest : List (Option Unchecked)). texts_from telling place next rest krates reports) causes place None within
+
+plus_one : (n : ℕ) → suc n ≡ n + 1
+plus_one n = omega arith
+
+-- with what is told of the crate there
+pub texts_more : (telling : Telling) (place next : ℕ) (before after : List (List ℕ)) (krates : List CrateRecord) (krate : Option CrateRecord) (report : Option CrateReport) (all : List (List ℕ))
+    → place < length telling.told.now.causes.items → krate ≡ slice_get krates next → report ≡ slice_get telling.report.now.crates next
+    → after ≡ before ++ texts_at telling place (cause_at telling.told.now.causes.items place) krate report
+    → before ++ texts_from telling place next (drop place telling.told.now.causes.items) krates telling.report.now.crates ≡ all
+    → after ++ texts_from telling (place + 1) (behind (cause_at telling.told.now.causes.items place) next) (drop (place + 1) telling.told.now.causes.items) krates telling.report.now.crates ≡ all
+texts_more telling place next before after krates krate report all within krate_is report_is is so_far =
+    let causes = telling.told.now.causes.items in
+    let cause = cause_at causes place in
+    let here = texts_at telling place cause krate report in
+    let rest : ℕ → List (List ℕ) = λ n. texts_from telling n (behind cause next) (drop (place + 1) causes) krates telling.report.now.crates in
+    ap₂ (λ (front : List (List ℕ)) (n : ℕ). front ++ rest n) is (sym (plus_one place))
+    ∙ append_assoc before here (rest (suc place))
+    ∙ ap₂ (λ (krate : Option CrateRecord) (report : Option CrateReport). before ++ (texts_at telling place cause krate report ++ rest (suc place))) krate_is report_is
+    ∙ ap (λ (back : List (List ℕ)). before ++ back) (sym (texts_on telling place next causes krates telling.report.now.crates within))
+    ∙ so_far
+
+-- the report at a place lies in its files
+pub next_inside : (files : List File) (reports : List CrateReport) (next : ℕ) (found : Option (Bor CrateReport)) → All (IsReportInside files) reports → option_copied found ≡ slice_get reports next
+    → IfSome found (λ own. IsReportInside files own.now)
+next_inside files reports next None all is = tt
+next_inside files reports next (Some own) all is = at_place (IsReportInside files) reports next own.now (recursion_from_All (IsReportInside files) reports all) (sym is)

@@ -165,10 +165,9 @@ impl<'t> Telling<'t> {
         }
     }
 
-    /// The number of the next checked crate behind a place.
-    fn behind(&self, place: usize, next: usize) -> usize
-        requires order { next ≤ place }
-        requires within { place < length self.now.told.now.titles }
+    /// The number of the next checked crate behind a place, of so many crates.
+    fn behind(&self, place: usize, next: usize, count: usize) -> usize
+        requires { next < count }
         ensures { result ≡ spec.behind (cause_at self.now.told.now.causes.items place) next }
     {
         match self.told.cause(place) {
@@ -184,11 +183,12 @@ impl<'t> Telling<'t> {
     {
         let mut texts = Texts::new(alloc);
         let reports = self.report.crates.items();
+        let count = self.told.len();
         let mut next = 0;
-        'places: for place in 0..self.told.len() {
+        'places: for place in 0..count {
             let krate = krates.get(next).copied();
             self.push_at(alloc, &mut texts, place, krate, reports.get(next))?;
-            next = self.behind(place, next);
+            next = self.behind(place, next, count);
         }
         Ok(texts)
     }
