@@ -1,11 +1,11 @@
 -- The crates that words name.
-use Rattle.std.proofs.Common.{◌≡◌, ◌∙◌, refl, sym, ap, ap₂, ℕ, Bool, true, false, ◌||◌, List, [], ◌∷◌, map, Option, Some, None}
+use Rattle.std.proofs.Common.{◌≡◌, ◌∙◌, refl, sym, ap, ap₂, ℕ, Bool, true, false, not, ◌||◌, cond, List, [], ◌∷◌, ◌++◌, map, Option, Some, None}
 use Rattle.std.specs.Option.{option_to_list}
 use Rattle.std.specs.List.{cons_option, filter_map, list_any}
 use Rattle.graph_core.specs.declared.krate.Krate.{Krate}
 use Rattle.graph_core.specs.Krate.{CrateRecord, record_of}
 use Rattle.graph_core.specs.selection.Choice.{ExcludeSpecView, excludes, is_excluded, read_one, spec_read}
-use Rattle.run_why.specs.Named.{is_named, marks_of, named_by, names}
+use Rattle.run_why.specs.Named.{first_unknown, is_named, marks_of, named_by, names, unknown_or}
 
 -- what one word is read as
 read_as : (spec : Option ExcludeSpecView) → cons_option spec [] ≡ option_to_list spec
@@ -40,3 +40,16 @@ marks_are words (krate ∷ krates) =
 pub any_named : (specs : List ExcludeSpecView) (krates : List Krate) → list_any (named_by specs) krates ≡ list_any (is_excluded specs) (map record_of krates)
 any_named specs [] = refl
 any_named specs (krate ∷ krates) = ap (λ (rest : Bool). named_by specs krate || rest) (any_named specs krates)
+
+-- ---- words that name none
+
+either_some : (b : Bool) (first word : List ℕ) (crates : List CrateRecord) (rest : Option (List ℕ)) → unknown_or (cond b (Some first) rest) word crates ≡ cond b (Some first) (unknown_or rest word crates)
+either_some true first word crates rest = refl
+either_some false first word crates rest = refl
+
+-- among some words and one more
+pub unknown_push : (words : List (List ℕ)) (word : List ℕ) (crates : List CrateRecord) → first_unknown (words ++ word ∷ []) crates ≡ unknown_or (first_unknown words crates) word crates
+unknown_push [] word crates = refl
+unknown_push (first ∷ words) word crates =
+    ap (λ (rest : Option (List ℕ)). cond (not (list_any (names first) crates)) (Some first) rest) (unknown_push words word crates)
+    ∙ sym (either_some (not (list_any (names first) crates)) first word crates (first_unknown words crates))

@@ -1,5 +1,5 @@
 -- Which crates the words of `why` name.
-use Rattle.std.specs.Prelude.{ℕ, Bool, not, List, filter, find, map, Option}
+use Rattle.std.specs.Prelude.{ℕ, Bool, not, List, filter, find, map, Option, Some, None, if◌then◌else◌}
 use Rattle.std.specs.List.{list_any}
 use Rattle.graph_core.specs.declared.krate.Krate.{Krate}
 use Rattle.graph_core.specs.Krate.{CrateRecord, record_of}
@@ -19,6 +19,11 @@ named_among words crates = filter (is_named words) crates
 -- the first word that names none of some crates
 abbrev pub first_unknown : List (List ℕ) → List CrateRecord → Option (List ℕ)
 first_unknown words crates = find (λ word. not (list_any (names word) crates)) words
+
+-- one that was found before, else this one where it names none
+abbrev pub unknown_or : Option (List ℕ) → List ℕ → List CrateRecord → Option (List ℕ)
+unknown_or (Some before) word crates = Some before
+unknown_or None word crates = if not (list_any (names word) crates) then Some word else None
 
 -- a word with a `/` or a `#` is not carried
 abbrev pub has_unsupported : List (List ℕ) → Bool

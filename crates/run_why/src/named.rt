@@ -64,23 +64,37 @@ fn names_any(alloc: Global, word: &Text, crates: &[Krate]) -> Result<bool, Alloc
     Ok(name_any(specs.items(), crates))
 }
 
+/// A word that was found before, else this one where it names no crate.
+fn unknown_or<'w>(
+    alloc: Global,
+    before: Option<&'w str>,
+    word: &'w Text,
+    crates: &[Krate],
+) -> Result<Option<&'w str>, AllocError>
+    ensures { IfOk result (λ unknown. option_copied unknown
+        ≡ spec.unknown_or (option_copied before.entry) word.entry.now (map record_of crates.now)) }
+{
+    if before.is_some() || names_any(alloc, word, crates)? {
+        Ok(before)
+    } else {
+        Ok(Some(word.as_str()))
+    }
+}
+
 /// The first of some words that names no crate.
 fn first_unknown<'w>(
     alloc: Global,
     words: &'w [Text],
     crates: &[Krate],
 ) -> Result<Option<&'w str>, AllocError>
-    ensures { IfOk result (λ word. option_copied word
+    ensures { IfOk result (λ unknown. option_copied unknown
         ≡ spec.first_unknown words.entry.now (map record_of crates.now)) }
 {
-    let Some((word, rest)) = words.split_first() else {
-        return Ok(None);
-    };
-    if names_any(alloc, word, crates)? {
-        first_unknown(alloc, rest, crates)
-    } else {
-        Ok(Some(word.as_str()))
+    let mut unknown = None;
+    'words: for word in words {
+        unknown = unknown_or(alloc, unknown, word, crates)?;
     }
+    Ok(unknown)
 }
 
 fn copied(alloc: Global, word: Option<&str>) -> Result<Option<Text>, AllocError>
