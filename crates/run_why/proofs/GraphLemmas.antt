@@ -1,11 +1,14 @@
 -- What is known of the metadata's crates: their titles, and why they are not checked.
 use Rattle.std.proofs.Common.{◌≡◌, ◌∙◌, ◌⊎◌, inl, inr, refl, sym, ap, subst, ℕ, zero, suc, ◌+◌, ◌<◌, ◌≤◌, List, [], ◌∷◌, ◌++◌, length, map, take, Option, Some, None, get_or, arith}
-use Rattle.std.specs.Prelude.{slice_get}
+use Rattle.std.specs.Borrow.{Bor}
+use Rattle.std.specs.Slice.{IsItemAt}
+use Rattle.std.specs.Prelude.{slice_get, option_copied}
 use Rattle.std.specs.List.{cons_option}
 use Rattle.std.specs.Option.{option_to_list}
 use Rattle.std.proofs.lemmas.List.{get_or_append_left, get_or_push, length-map, take_more}
 use Rattle.std.proofs.lemmas.List.Elements.{filter_map-append}
-use Rattle.std.proofs.lemmas.Option.{slice_get_within}
+use Rattle.std.proofs.lemmas.Bool.{ltb-false, ltb-true}
+use Rattle.std.proofs.lemmas.Option.{slice_get_past, slice_get_read, slice_get_within}
 use Rattle.graph_core.specs.declared.krate.Krate.{Krate}
 use Rattle.graph_core.specs.Krate.{CrateRecord, record_of}
 use Rattle.graph_core.specs.Metadata.{CrateNode, Graph}
@@ -74,3 +77,8 @@ titles_more titles places i within =
     ap (copied_titles titles) (take_more places i 0 within)
     ∙ filter_map-append (title_at titles) (take i places) (get_or places i 0 ∷ [])
     ∙ ap (λ (last : List CrateTitle). copied_titles titles (take i places) ++ last) (one_title (title_at titles (get_or places i 0)))
+
+-- what is at a place
+pub item_at : {A : Type 0} (xs : List A) (place : ℕ) (item : Option (Bor A)) → IsItemAt xs place item → option_copied item ≡ slice_get xs place
+item_at xs place None is = sym (slice_get_past xs place (ltb-false place (length xs) (sym is.0)))
+item_at xs place (Some item) is = sym (slice_get_read xs (length xs) place item.now refl (ltb-true place (length xs) (sym is.0)) is.1)

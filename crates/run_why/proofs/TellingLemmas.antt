@@ -1,17 +1,22 @@
 -- The texts of the crates that are told, one crate after another.
-use Rattle.std.proofs.Common.{◌≡◌, ◌∙◌, refl, sym, ap, ap₂, ℕ, suc, ◌+◌, ◌<◌, List, ◌∷◌, ◌++◌, append_assoc, length, drop, All, Option, Some, None, IfSome, option_copied, arith}
+use Rattle.std.proofs.Common.{◌≡◌, ◌∙◌, sym, ap, ap₂, ℕ, suc, ◌+◌, ◌<◌, ◌≤◌, Bool, List, ◌∷◌, ◌++◌, append_assoc, length, drop, All, Option, Some, None, IfSome, option_copied, Result, Ok, Err, IfOk, arith}
 use Rattle.std.specs.Borrow.{Bor}
 use Rattle.std.specs.Prelude.{slice_get}
 use Rattle.std.proofs.lemmas.List.{at_drop_more}
 use Rattle.std.proofs.lemmas.List.Elements.{recursion_from_All}
+use Rattle.std.specs.declared.alloc.AllocError.{AllocError}
 use Rattle.diag_core.specs.File.{File}
+use Rattle.diag_print.specs.declared.context.Format.{Format}
 use Rattle.graph_core.specs.Krate.{CrateRecord}
 use Rattle.graph_walk.specs.declared.unchecked.Unchecked.{Unchecked}
 use Rattle.check_core.specs.declared.report.CrateReport.{CrateReport}
 use Rattle.check_why.specs.Made.{IsReportInside}
 use Rattle.check_why.proofs.InsideLemmas.{at_place}
+use Rattle.run_check.specs.declared.judged.JudgedCrates.{JudgedCrates}
+use Rattle.run_check.specs.Judged.{crates_judged}
+use Rattle.run_why.specs.declared.graph.GraphTold.{GraphTold}
 use Rattle.run_why.specs.declared.telling.Telling.{Telling}
-use Rattle.run_why.specs.Steps.{behind, cause_at, texts_at, texts_from}
+use Rattle.run_why.specs.Steps.{TellsTexts, behind, cause_at, texts_at, texts_from, texts_of}
 
 -- from a place on: what is told of the crate there, and then from the next one on
 pub texts_on : (telling : Telling) (place next : ℕ) (causes : List (Option Unchecked)) (krates : List CrateRecord) (reports : List CrateReport) → place < length causes
@@ -46,3 +51,21 @@ pub next_inside : (files : List File) (reports : List CrateReport) (next : ℕ) 
     → IfSome found (λ own. IsReportInside files own.now)
 next_inside files reports next None all is = tt
 next_inside files reports next (Some own) all is = at_place (IsReportInside files) reports next own.now (recursion_from_All (IsReportInside files) reports all) (sym is)
+
+pub behind_next : (cause : Option Unchecked) (next : ℕ) → behind cause next ≤ next + 1
+behind_next (Some cause) next = omega arith
+behind_next None next = omega arith
+
+-- the texts are by the report that was made
+pub tells_by : (telling : Telling) (format : Format) (has_words : Bool) (told : GraphTold) (judged : JudgedCrates) (krates : List CrateRecord) (result : Result (List (List ℕ)) AllocError)
+    → telling.format ≡ format → telling.has_words ≡ has_words → telling.told.now ≡ told → telling.report.now ≡ judged.report → krates ≡ crates_judged judged
+    → IfOk result (λ texts. texts ≡ texts_of telling krates) → IfOk result (TellsTexts format has_words told judged)
+tells_by telling format has_words told judged krates (Ok texts) format_is words_are told_is report_is listed is = record {
+  telling = telling;
+  format_is = format_is;
+  words_are = words_are;
+  told_is = told_is;
+  report_is = report_is;
+  texts_are = is ∙ ap (texts_of telling) listed;
+}
+tells_by telling format has_words told judged krates (Err error) format_is words_are told_is report_is listed is = tt

@@ -130,10 +130,12 @@ impl GraphTold {
         let standings = standings_of(alloc, &asked.metadata, &asked.selection)?;
         let walks = SelectingWalks::of(alloc, &asked.metadata, &asked.selection)?;
         let causes = causes_of(alloc, asked, &standings, &walks, include)?;
+        let titles = titles_of(alloc, krates)?;
+        let named = named_marks(alloc, words.items(), krates)?;
         Ok(GraphTold {
-            titles: titles_of(alloc, krates)?,
+            titles,
             causes,
-            named: named_marks(alloc, words.items(), krates)?,
+            named,
             walks,
             include,
         })

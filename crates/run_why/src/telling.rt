@@ -1,6 +1,6 @@
 //! The texts of the crates that are told.
 //! Called by `found_why` of whying; a crate's text may be made anew, their order is in a clause.
-ghost use Rattle.std.specs.Prelude.{◌≡◌, ◌≤◌, ◌<◌, ◌++◌, length, map, option_copied, option_map, IfOk, IfSome, OnOk};
+ghost use Rattle.std.specs.Prelude.{◌≡◌, ◌≤◌, ◌<◌, ◌++◌, length, map, slice_get, option_copied, option_map, IfOk, IfSome, OnOk};
 ghost use Rattle.graph_core.specs.Krate.{record_of};
 ghost use Rattle.graph_core.specs.selection.Listed.{record_behind};
 ghost use Rattle.check_why.specs.Made.{IsReportInside};
@@ -59,6 +59,12 @@ fn is_against(verdict: &Verdict) -> bool
         Verdict::Unlicensed | Verdict::Rejected { .. } => true,
         Verdict::Skipped | Verdict::Accepted { .. } => false,
     }
+}
+
+fn krate_at<'k>(krates: &[&'k Krate], place: usize) -> Option<&'k Krate>
+    ensures { result ≡ slice_get krates.now place }
+{
+    krates.get(place).copied()
 }
 
 /// What all crates are told by.
@@ -186,7 +192,7 @@ impl<'t> Telling<'t> {
         let count = self.told.len();
         let mut next = 0;
         'places: for place in 0..count {
-            let krate = krates.get(next).copied();
+            let krate = krate_at(krates, next);
             self.push_at(alloc, &mut texts, place, krate, reports.get(next))?;
             next = self.behind(place, next, count);
         }
