@@ -1,7 +1,8 @@
 -- The crates that words name.
-use Rattle.std.proofs.Common.{◌≡◌, ◌∙◌, refl, sym, ap, ap₂, ℕ, Bool, true, false, not, ◌||◌, cond, List, [], ◌∷◌, ◌++◌, map, Option, Some, None}
+use Rattle.std.proofs.Common.{◌≡◌, ◌∙◌, refl, sym, ap, ap₂, ℕ, Bool, true, false, not, ◌||◌, cond, List, [], ◌∷◌, ◌++◌, ◌+◌, ◌<◌, length, take, get_or, map, Option, Some, None}
 use Rattle.std.specs.Option.{option_to_list}
 use Rattle.std.specs.List.{cons_option, filter_map, list_any}
+use Rattle.std.proofs.lemmas.List.{take_more}
 use Rattle.graph_core.specs.declared.krate.Krate.{Krate}
 use Rattle.graph_core.specs.Krate.{CrateRecord, record_of}
 use Rattle.graph_core.specs.selection.Choice.{ExcludeSpecView, excludes, is_excluded, read_one, spec_read}
@@ -53,3 +54,10 @@ unknown_push [] word crates = refl
 unknown_push (first ∷ words) word crates =
     ap (λ (rest : Option (List ℕ)). cond (not (list_any (names first) crates)) (Some first) rest) (unknown_push words word crates)
     ∙ sym (either_some (not (list_any (names first) crates)) first word crates (first_unknown words crates))
+
+pub words_more : (words : List (List ℕ)) (i : ℕ) (word : List ℕ) (crates : List CrateRecord) → i < length words → get_or words i word ≡ word
+    → unknown_or (first_unknown (take i words) crates) word crates ≡ first_unknown (take (i + 1) words) crates
+words_more words i word crates within is =
+    sym (unknown_push (take i words) word crates)
+    ∙ ap (λ (last : List ℕ). first_unknown (take i words ++ last ∷ []) crates) (sym is)
+    ∙ ap (λ (front : List (List ℕ)). first_unknown front crates) (sym (take_more words i word within))
