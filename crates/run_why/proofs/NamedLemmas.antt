@@ -5,7 +5,9 @@ use Rattle.std.specs.List.{cons_option, filter_map, list_any}
 use Rattle.std.proofs.lemmas.List.{take_more}
 use Rattle.graph_core.specs.declared.krate.Krate.{Krate}
 use Rattle.graph_core.specs.Krate.{CrateRecord, record_of}
-use Rattle.graph_core.specs.selection.Choice.{ExcludeSpecView, excludes, is_excluded, read_one, spec_read}
+use Rattle.graph_core.specs.declared.selection.exclude.ExcludeSpec.{ExcludeSpec}
+use Rattle.graph_core.specs.selection.Choice.{ExcludeSpecView, exclude_spec_of, excludes, is_excluded, read_one, spec_read}
+use Rattle.graph_walk.specs.Unchecked.{leaves_out}
 use Rattle.run_why.specs.Named.{first_unknown, is_named, marks_of, named_by, names, unknown_or}
 
 -- what one word is read as
@@ -41,6 +43,11 @@ marks_are words (krate ∷ krates) =
 pub any_named : (specs : List ExcludeSpecView) (krates : List Krate) → list_any (named_by specs) krates ≡ list_any (is_excluded specs) (map record_of krates)
 any_named specs [] = refl
 any_named specs (krate ∷ krates) = ap (λ (rest : Bool). named_by specs krate || rest) (any_named specs krates)
+
+-- one of specs is for a crate, as one of what they are read as
+pub any_is : (specs : List ExcludeSpec) (krate : CrateRecord) → list_any (leaves_out krate) specs ≡ is_excluded (map exclude_spec_of specs) krate
+any_is [] krate = refl
+any_is (spec ∷ specs) krate = ap (λ (rest : Bool). leaves_out krate spec || rest) (any_is specs krate)
 
 -- ---- words that name none
 

@@ -23,8 +23,9 @@ pub(crate) fn has_unsupported_word(words: &Texts) -> bool
 fn specs_of(alloc: Global, word: &Text) -> Result<ExcludeSpecs, AllocError>
     ensures { IfOk result (λ specs. map exclude_spec_of specs ≡ read_one word.now) }
 {
+    let text = Text::copy(alloc, word.as_str())?;
     let mut specs = ExcludeSpecs::new(alloc);
-    read_specs(alloc, &mut specs, &[Text::copy(alloc, word.as_str())?])?;
+    read_specs(alloc, &mut specs, &[text])?;
     Ok(specs)
 }
 

@@ -7,5 +7,5 @@ use Rattle.run_why.proofs.named.named_marks.Goals as goal
 pub returns : goal.returns
 returns c =
     subst (λ marks. IfOk c.marks_by.result (λ made. made.items ≡ marks))
-    (ap (λ specs. marks_of specs c.args.crates.now) (ap (map exclude_spec_of) c.items.ensures ∙ c.read_specs.ensures.ok) ∙ marks_are c.args.words.now c.args.crates.now)
+    (ap (λ specs. marks_of specs c.args.crates.now) (ap (map exclude_spec_of) c.items.ensures ∙ c.in_ok-read_specs.ensures.ok) ∙ marks_are c.args.words.now c.args.crates.now)
     c.marks_by.ensures

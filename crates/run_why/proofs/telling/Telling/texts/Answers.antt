@@ -24,9 +24,9 @@ places-preserved c =
     record {
       texts =
           subst (λ n. c.push_at.new.texts ++ texts_from self (place + 1) n (drop (place + 1) causes) (map record_behind krates) self.report.now.crates ≡ texts_of self (map record_behind krates))
-          (sym c.behind.ensures)
+          (sym c.behind-next.ensures)
           (texts_more self place next c.places.texts c.push_at.new.texts (map record_behind krates) (option_map record_behind c.krate_at-krate.result) (option_copied c.get.result) (texts_of self (map record_behind krates))
           within (ap (option_map record_behind) c.krate_at-krate.ensures ∙ sym (slice_get-map record_behind krates next))
           (item_at self.report.now.crates next c.get.result c.get.ensures.lookup) c.in_ok-push_at.ensures c.places.invariant.texts);
-      next = (let same = c.behind.ensures in omega (arith, before, further, same));
+      next = (let same = c.behind-next.ensures in omega (arith, before, further, same));
     }
