@@ -10,5 +10,5 @@ words-preserved c =
     let crates = map record_of c.args.crates.now in
     let words = c.args.words.now in
     c.in_ok-unknown.ensures
-    ∙ ap (λ before. unknown_or before c.word-item.result.now crates) c.words.invariant
-    ∙ words_more words c.words.word-index c.word-item.result.now crates c.words-test.true c.word-item.is
+    ∙ ap (λ before. unknown_or before c.word-item.result crates) c.words.invariant
+    ∙ words_more words c.words.word-index c.word-item.result crates c.words-test.true (sym c.word-item.is)
