@@ -1,11 +1,12 @@
-use Rattle.std.proofs.Common.{◌∙◌, inr, refl, subst}
+use Rattle.std.proofs.Common.{◌∙◌, ap, inr, subst}
 use Rattle.std.proofs.lemmas.Result.{err_from_is_err_and}
 use Rattle.tree_core.specs.Faults.{Gained, GainedPrefix}
+use Rattle.run_why.specs.Steps.{joined_texts}
 use Rattle.run_why.proofs.whying.put_why.Goals as goal
 
 pub returns-clause-puts : goal.returns-clause-puts
 returns-clause-puts g c = record {
-  texts = subst (Gained (g.O.Sink.written c.args.out.now) (g.O.Sink.written c.write_answer.new.out)) (c.as_bytes.ensures.value ∙ (c.as_str.ensures.value ∙ c.in_ok-text.ensures)) c.in_ok-write_answer.ensures.ok;
+  texts = subst (Gained (g.O.Sink.written c.args.out.now) (g.O.Sink.written c.write_answer.new.out)) (c.as_bytes.ensures.value ∙ (c.as_str.ensures.value ∙ (c.in_ok-text.ensures ∙ ap joined_texts c.items.ensures))) c.in_ok-write_answer.ensures.ok;
   reads_are = c.in_ok-reads.ensures;
 }
 
@@ -15,5 +16,5 @@ returns-in_err-write_answer-clause-puts g c =
     rw (p.1, p.2)
     (inr (record {
       refused = c.in_err-write_answer.ensures.reason;
-      front = subst (GainedPrefix (g.O.Sink.written c.args.out.now) (g.O.Sink.written c.write_answer.new.out)) (c.as_bytes.ensures.value ∙ (c.as_str.ensures.value ∙ c.in_ok-text.ensures)) c.in_err-write_answer.ensures.err;
+      front = subst (GainedPrefix (g.O.Sink.written c.args.out.now) (g.O.Sink.written c.write_answer.new.out)) (c.as_bytes.ensures.value ∙ (c.as_str.ensures.value ∙ (c.in_ok-text.ensures ∙ ap joined_texts c.items.ensures))) c.in_err-write_answer.ensures.err;
     }))
