@@ -1,5 +1,5 @@
 -- The crates of the metadata without a cause, in order, are those that are selected.
-use Rattle.std.proofs.Common.{◌≡◌, ◌∙◌, refl, sym, ap, subst, ℕ, zero, suc, ◌<◌, nat_cmp, List, [], ◌∷◌, length, map, All, Contains, Option, Some, None, option_map, arith}
+use Rattle.std.proofs.Common.{◌≡◌, ◌∙◌, refl, sym, ap, subst, ℕ, zero, suc, ◌<◌, nat_cmp, List, [], ◌∷◌, length, map, Contains, Option, Some, None, option_map, arith}
 use Rattle.std.specs.Prelude.{slice_get}
 use Rattle.std.specs.List.{AllByRecursion}
 use Rattle.std.specs.List.Sorted.{IsStrictlySortedBy}

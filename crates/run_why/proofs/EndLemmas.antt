@@ -1,11 +1,10 @@
 -- The ends of a run for `why`: what is told is by the report that the check makes of what was read.
-use Rattle.std.proofs.Common.{◌≡◌, ◌∙◌, refl, sym, ap, subst, ℕ, suc, Bool, true, false, List, [], ◌∷◌, length, map, All, Option, Some, None}
-use Rattle.std.specs.List.{AllByRecursion, AllZip, filter_map}
+use Rattle.std.proofs.Common.{◌≡◌, ◌∙◌, refl, sym, ap, subst, ℕ, suc, Bool, true, List, [], ◌∷◌, length, map, All, Option, Some, None}
+use Rattle.std.specs.List.{AllZip, filter_map}
 use Rattle.std.proofs.lemmas.List.{length-map}
 use Rattle.std.proofs.lemmas.List.Elements.{All-from_recursion, recursion_from_All}
 use Rattle.spdx_terms.specs.catalog.Catalog.{CatalogLists}
 use Rattle.spdx_terms.specs.declared.catalog.identifier.Match.{Match}
-use Rattle.spdx_core.specs.declared.certificates.verdict.Verdict.{Verdict}
 use Rattle.tree_core.specs.Call.{Call}
 use Rattle.tree_core.specs.Content.{Content}
 use Rattle.diag_core.specs.File.{File}
@@ -17,7 +16,7 @@ use Rattle.graph_core.specs.declared.edge.DepKind.{DepKind}
 use Rattle.graph_core.specs.declared.edge.DepKind.TheVariants.{Normal, Dev, Build}
 use Rattle.graph_core.specs.declared.selection.selection.Include.{Include}
 use Rattle.graph_core.specs.selection.Choice.{Choice, choice_of, spec_read}
-use Rattle.graph_core.specs.selection.Listed.{IsListOf, ReachedCrates, selected_in}
+use Rattle.graph_core.specs.selection.Listed.{IsListOf, selected_in}
 use Rattle.graph_core.specs.selection.Roots.{crates_of}
 use Rattle.graph_core.specs.selection.Walks.{Selected}
 use Rattle.graph_core.proofs.selection.SelectedLemmas.{selected-lists}
@@ -48,7 +47,7 @@ use Rattle.run_found.specs.Finds.{hearing_of}
 use Rattle.run_found.specs.Found.{files_loaded}
 use Rattle.run_found.specs.Hearing.{RequestHearing, TreeSeen, crates_heard, tree_seen}
 use Rattle.run_found.specs.Licenses.{scanner_of_policy}
-use Rattle.run_found.specs.Selection.{PolicyAndCrates, included_in}
+use Rattle.run_found.specs.Selection.{included_in}
 use Rattle.run_found.specs.Written.{SinkSeen}
 use Rattle.run_found.proofs.ByteLemmas.{bytes_of_found, bytes_of_graph}
 use Rattle.run_command.specs.Carried.{no_levels}
@@ -69,10 +68,9 @@ use Rattle.run_check.specs.Steps.{IsJudgedOn, checked_by, report_with}
 use Rattle.run_check.proofs.ReportLemmas.{crates_are, is_reported}
 use Rattle.run_why.specs.declared.graph.GraphTold.{GraphTold}
 use Rattle.run_why.specs.declared.telling.Telling.{Telling}
-use Rattle.run_why.specs.declared.whying.WhyFound.{WhyFound}
 use Rattle.run_why.specs.Given.{WhyArguments, unsupported_of, why_options}
 use Rattle.run_why.specs.Named.{first_unknown}
-use Rattle.run_why.specs.Steps.{IsGraphTold, IsWhole, LieInFiles, TellsTexts, followed, has_any, texts_from, walks_by}
+use Rattle.run_why.specs.Steps.{IsGraphTold, IsWhole, LieInFiles, TellsTexts, has_any, texts_from, walks_by}
 use Rattle.run_why.specs.Why.{IsNoSuchCrate, IsWhy, IsWhyText, WhyBasis, crates_against, crates_told}
 use Rattle.run_why.proofs.AmongLemmas.{among_are}
 use Rattle.run_why.proofs.TextLemmas.{IsTold, checked_among, krate_of_turn, picks, picks_against, picks_named, texts_are}

@@ -18,7 +18,7 @@ use Rattle.policy_core.specs.valid.View.{policy_of}
 use Rattle.policy_core.specs.validate.Order.{PutsPolicyInOrder}
 use Rattle.policy_core.specs.declared.valid.policy.ValidConfig.{ValidConfig}
 use Rattle.gather_license.specs.Clarification.{named_files, held_in}
-use Rattle.gather_license.specs.Priority.{LicenseAnswer, answer_in, by_seen, field_of, files_heard, holding_clarification, seen_by, settling_by}
+use Rattle.gather_license.specs.Priority.{answer_in, by_seen, field_of, files_heard, holding_clarification, seen_by, settling_by}
 use Rattle.gather_license.specs.declared.expression.files.FileResult.{FileResult}
 use Rattle.gather_license.specs.declared.expression.files.ScannedFile.{ScannedFile}
 use Rattle.gather_license.specs.expression.Scanned.{Scanner, file_scanned, scanned_of}

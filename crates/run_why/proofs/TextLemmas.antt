@@ -1,8 +1,8 @@
 -- What is told of each crate is its text: of a checked one by its turn, its report and the walk to it, of another one by
 -- its first cause.
-use Rattle.std.proofs.Common.{◌≡◌, ◌∙◌, inl, inr, refl, sym, ap, ap₂, subst, ℕ, zero, suc, ◌+◌, ◌-◌, ◌<◌, nat_cmp, Bool, true, false, not, ◌||◌, cond, List, [], ◌∷◌, ◌++◌, append_assoc, length, map, filter, take, All, Option, Some, None, option_map, IfSome, bytes_eq, arith}
-use Rattle.std.specs.Prelude.{find, slice_get, slice_index_or, unwrap_or}
-use Rattle.std.specs.List.{AllByRecursion, AllZip, cons_option, filter_map, list_any}
+use Rattle.std.proofs.Common.{◌≡◌, ◌∙◌, inl, inr, refl, sym, ap, ap₂, subst, ℕ, zero, suc, ◌-◌, ◌<◌, nat_cmp, Bool, true, false, cond, List, [], ◌∷◌, ◌++◌, append_assoc, length, map, filter, take, All, Option, Some, None, option_map, IfSome, bytes_eq, arith}
+use Rattle.std.specs.Prelude.{find, slice_get, unwrap_or}
+use Rattle.std.specs.List.{AllByRecursion, AllZip, cons_option}
 use Rattle.std.specs.Option.{option_map_or}
 use Rattle.std.proofs.lemmas.List.{length-append, length-map}
 use Rattle.std.proofs.lemmas.List.Elements.{All-take, recursion_from_All}
@@ -11,8 +11,6 @@ use Rattle.std.proofs.lemmas.Slice.Eq.{bytes_eq-Decides}
 use Rattle.std.specs.Cmp.Lexicographic.{slice_cmp}
 use Rattle.std.specs.List.Sorted.{IsStrictlySortedBy}
 use Rattle.std.specs.declared.cmp.Ordering.TheVariants.{Less}
-use Rattle.spdx_core.specs.declared.certificates.verdict.Verdict.{Verdict}
-use Rattle.tree_core.specs.file_reads.Read.{records_of_reads}
 use Rattle.graph_core.specs.Krate.{CrateRecord}
 use Rattle.graph_core.specs.Metadata.{AreRising, CrateNode, Graph, id_of_node, ids_of}
 use Rattle.graph_core.proofs.selection.Rising.{less-other, some_same}
@@ -32,7 +30,7 @@ use Rattle.gather_core.specs.Calls.{CrateTurn, HasOwnReads}
 use Rattle.gather_core.specs.Turns.{records_in}
 use Rattle.check_core.specs.declared.report.CrateReport.{CrateReport}
 use Rattle.check_why.specs.declared.answer.CrateTitle.{CrateTitle}
-use Rattle.check_why.specs.Answer.{CheckedCrate, answer_of, title_of, titles_of}
+use Rattle.check_why.specs.Answer.{title_of, titles_of}
 use Rattle.check_why.specs.Made.{IsReportOn, answer_by}
 use Rattle.check_why.proofs.MadeLemmas.{answer_same}
 use Rattle.run_context.specs.declared.gather.AskedMetadata.{AskedMetadata}

@@ -1,5 +1,5 @@
 -- What the steps of a run for `why` answer. Only the contracts of private calls cite it.
-use Rattle.std.specs.Prelude.{◌≡◌, ◌⊎◌, ℕ, suc, ◌-◌, ◌<◌, take, Bool, true, false, List, [], ◌∷◌, ◌++◌, length, map}
+use Rattle.std.specs.Prelude.{◌≡◌, ◌⊎◌, ℕ, suc, ◌-◌, take, Bool, true, false, List, [], ◌∷◌, ◌++◌, length, map}
 use Rattle.std.specs.Prelude.{slice_get, slice_index_or, All, Option, Some, None, if◌then◌else◌}
 use Rattle.std.specs.Prelude.{Result, Ok, Err}
 use Rattle.std.specs.List.{filter_map, flat_map}
@@ -152,6 +152,9 @@ texts_from telling place next (cause ∷ causes) krates reports =
 abbrev pub texts_of : Telling → List CrateRecord → List (List ℕ)
 texts_of telling krates =
     texts_from telling 0 0 telling.told.now.causes.items krates telling.report.now.crates
+
+pub record AreTexts (telling : Telling) (krates : List CrateRecord) (texts : List (List ℕ)) : Type 0 where
+  pub are : texts ≡ texts_of telling krates
 
 -- a walk and a cause for each crate
 pub record IsWhole (told : GraphTold) : Type 0 where

@@ -6,7 +6,7 @@ ghost use Rattle.graph_core.specs.selection.Listed.{record_behind};
 ghost use Rattle.check_why.specs.Made.{IsReportInside};
 ghost use Rattle.run_check.specs.Headline.{is_against};
 ghost use Rattle.run_why.specs.Steps as spec;
-ghost use Rattle.run_why.specs.Steps.{CanTell, IsWhole, LieInFiles, TellsTexts, cause_at, followed};
+ghost use Rattle.run_why.specs.Steps.{AreTexts, CanTell, IsWhole, LieInFiles, TellsTexts, cause_at, followed};
 ghost use Rattle.run_why.specs.Why.{answer_text, because_text};
 
 use crate::graph::GraphTold;
@@ -185,7 +185,7 @@ impl<'t> Telling<'t> {
     /// The texts of all crates that are told, in the order of ids: each checked crate with its report.
     fn texts(&self, alloc: Global, krates: &[&Krate]) -> Result<Texts, AllocError>
         requires { CanTell self.now }
-        ensures { IfOk result (λ texts. texts ≡ spec.texts_of self.now (map record_behind krates.now)) }
+        ensures { IfOk result (AreTexts self.now (map record_behind krates.now)) }
     {
         let mut texts = Texts::new(alloc);
         let reports = self.report.crates.items();

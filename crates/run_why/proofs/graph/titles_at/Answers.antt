@@ -1,5 +1,5 @@
 -- One more place.
-use Rattle.std.proofs.Common.{◌≡◌, ◌∙◌, ◌++◌, ap₂, sym, List, Option}
+use Rattle.std.proofs.Common.{◌∙◌, ◌++◌, ap₂, sym, List, Option}
 use Rattle.std.specs.Option.{option_to_list}
 use Rattle.check_why.specs.declared.answer.CrateTitle.{CrateTitle}
 use Rattle.run_why.proofs.GraphLemmas.{item_at, titles_more}

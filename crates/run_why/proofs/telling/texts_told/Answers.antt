@@ -1,5 +1,5 @@
 -- The texts are by the report that was made, and by what is known of the metadata.
-use Rattle.std.proofs.Common.{◌≡◌, ◌∙◌, refl, ap, map, sym}
+use Rattle.std.proofs.Common.{◌∙◌, refl, ap, map}
 use Rattle.graph_core.specs.selection.Listed.{record_behind}
 use Rattle.run_why.proofs.TellingLemmas.{tells_by}
 use Rattle.run_why.proofs.telling.texts_told.Goals as goal

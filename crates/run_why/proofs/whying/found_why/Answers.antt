@@ -3,6 +3,7 @@ use Rattle.std.proofs.Common.{◌≡◌, ◌∙◌, inl, inr, sym, subst, ℕ, L
 use Rattle.std.proofs.lemmas.Result.{err_from_is_err_and}
 use Rattle.policy_core.specs.Places.{PolicyStands}
 use Rattle.run_overrides.specs.Levels.{PutAtLevels}
+use Rattle.run_found.specs.Error.{cause_of}
 use Rattle.run_found.specs.Hearing.{tree_seen}
 use Rattle.run_found.specs.Written.{sink_seen}
 use Rattle.run_found.proofs.StageLemmas.{gather_cut}
@@ -12,6 +13,7 @@ use Rattle.run_command.specs.Given.{command_arguments_of}
 use Rattle.run_command.proofs.SettledLemmas.{cut_stops}
 use Rattle.run_why.specs.Given.{why_options}
 use Rattle.run_why.specs.Steps.{TellsTexts}
+use Rattle.run_why.proofs.WhyLemmas.{told_counts}
 use Rattle.run_why.proofs.EndLemmas.{lies_of, lost_told, no_such_crate, whole_of, why_ends}
 use Rattle.run_why.proofs.whying.found_why.Goals as goal
 
@@ -49,6 +51,11 @@ returns-in_err-crates-clause-finds g c =
     let err = sink_seen (g.S.Sink.written c.args.err.now) (g.S.Sink.written c.metadata_of.new.err) (g.S.Sink.fault_count c.args.err.now) (g.S.Sink.fault_count c.metadata_of.new.err) in
     let p = err_from_is_err_and c.from_residual-in_err-crates.result c.from_residual-in_err-crates.ensures.1 in
     rw (p.1, p.2) (inl (c.in_err-crates.ensures.found given tree err c.metadata_of.new.files (c.in_ok-found.ensures.found match_of)))
+
+pub returns-in_err-crates-clause-counts : goal.returns-in_err-crates-clause-counts
+returns-in_err-crates-clause-counts g c =
+    let p = err_from_is_err_and c.from_residual-in_err-crates.result c.from_residual-in_err-crates.ensures.1 in
+    rw (p.1, p.2) (told_counts (cause_of c.in_err-crates.field-0.0) c.in_err-crates.ensures.told _ _ _)
 
 pub returns-in-Some-clause-finds : goal.returns-in-Some-clause-finds
 returns-in-Some-clause-finds g c =

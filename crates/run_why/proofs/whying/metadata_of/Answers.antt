@@ -6,7 +6,6 @@ use Rattle.run_command.specs.Carried as command
 use Rattle.run_command.specs.Crates.{FindsMetadata}
 use Rattle.run_command.specs.Given.{command_arguments_of}
 use Rattle.run_command.proofs.CarriedLemmas.{plain_carried}
-use Rattle.run_overrides.specs.Levels.{PutAtLevels}
 use Rattle.run_why.proofs.WhyLemmas.{command_carried, options_are}
 use Rattle.run_why.proofs.whying.metadata_of.Goals as goal
 

@@ -1,6 +1,6 @@
 -- What is known of each crate, part by part.
-use Rattle.std.proofs.Common.{◌≡◌, ◌∙◌, refl, ap, map, List}
-use Rattle.graph_core.specs.Krate.{CrateRecord, record_of}
+use Rattle.std.proofs.Common.{◌∙◌, refl, ap, map}
+use Rattle.graph_core.specs.Krate.{record_of}
 use Rattle.check_why.specs.Answer.{title_of}
 use Rattle.run_why.specs.Named.{is_named}
 use Rattle.run_why.proofs.GraphLemmas.{titles_are}
