@@ -1,3 +1,4 @@
+mod DistinctLemmas
 mod Examples
 pub mod InsideLemmas
 mod LawLemmas

@@ -2,6 +2,7 @@ pub mod Place
 pub mod Reads
 pub mod Unmet
 pub mod Answer
+pub mod Distinct
 pub mod Lines
 pub mod Object
 pub mod Kept

@@ -2,6 +2,7 @@
 #![tactic(auto)]
 
 pub mod answer;
+mod distinct;
 pub mod laws;
 mod lines;
 pub mod making;

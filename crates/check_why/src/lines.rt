@@ -9,6 +9,7 @@ use crate::answer::{
     Asking, CrateAnswer, CrateTitle, LicenseAnswer, ReadAnswer, ReadSaid, TermAnswer, TermHit,
     Unmatched, UnmetAnswer, VerdictAnswer,
 };
+use crate::distinct::DistinctTexts;
 use check_core::findings::push_with_commas;
 use deny_text::{Text, Texts};
 use diag_print::push_flat;
@@ -166,8 +167,8 @@ fn put_term(
     put_text(texts, alloc, text_of_term(terms, place))
 }
 
-/// The texts of the terms at some places, each once.
-fn texts_at(alloc: Global, terms: &[TermAnswer], places: &[usize]) -> Result<Texts, AllocError>
+/// The texts of the terms at a few places, each once: each is compared with those before it.
+fn few_texts_at(alloc: Global, terms: &[TermAnswer], places: &[usize]) -> Result<Texts, AllocError>
     ensures { IfOk result (λ texts. texts ≡ spec.texts_at terms.now places.now) }
 {
     let mut texts = Texts::new(alloc);
@@ -175,6 +176,31 @@ fn texts_at(alloc: Global, terms: &[TermAnswer], places: &[usize]) -> Result<Tex
         put_term(&mut texts, alloc, terms, *place)?;
     }
     Ok(texts)
+}
+
+/// The same of many places, by a map.
+fn many_texts_at(alloc: Global, terms: &[TermAnswer], places: &[usize]) -> Result<Texts, AllocError>
+    ensures { IfOk result (λ texts. texts ≡ spec.texts_at terms.now places.now) }
+{
+    let mut texts = DistinctTexts::new(alloc);
+    'places: for place in places {
+        texts = texts.with(alloc, text_of_term(terms, *place))?;
+    }
+    Ok(texts.into_texts())
+}
+
+/// As many texts are compared one by one.
+const FEW_TEXTS: usize = 16;
+
+/// The texts of the terms at some places, each once.
+fn texts_at(alloc: Global, terms: &[TermAnswer], places: &[usize]) -> Result<Texts, AllocError>
+    ensures { IfOk result (λ texts. texts ≡ spec.texts_at terms.now places.now) }
+{
+    if places.len() <= FEW_TEXTS {
+        few_texts_at(alloc, terms, places)
+    } else {
+        many_texts_at(alloc, terms, places)
+    }
 }
 
 /// Appends a line with the terms at some places, behind its own words.
@@ -232,11 +258,15 @@ fn push_walk(out: &mut String, titles: &[CrateTitle]) -> Result<(), AllocError>
     Ok(())
 }
 
+/// The bytes that a walk has room for from the start.
+const WALK_ROOM: usize = 256;
+
 fn push_needed(out: &mut String, alloc: Global, titles: &[CrateTitle]) -> Result<(), AllocError>
     ensures { OnOk result (string_bytes out.new
         ≡ string_bytes out.old ++ spec.line (codes "needed by: " ++ spec.needed_text titles.now)) }
 {
-    let mut text = String::from_str(alloc, "needed by: ")?;
+    let mut text = String::with_capacity(alloc, WALK_ROOM)?;
+    text.push_str("needed by: ")?;
     push_walk(&mut text, titles)?;
     push_line(out, text.as_str())
 }
@@ -402,10 +432,14 @@ fn push_rest(out: &mut String, alloc: Global, one: &CrateAnswer) -> Result<(), A
     Ok(())
 }
 
+/// The bytes that the lines of a crate have room for from the start.
+const LINES_ROOM: usize = 512;
+
 /// Appends all lines of a crate that is checked.
 pub fn push_lines(out: &mut String, alloc: Global, one: &CrateAnswer) -> Result<(), AllocError>
     ensures { OnOk result (string_bytes out.new ≡ string_bytes out.old ++ spec.answer_lines one.now) }
 {
+    out.reserve(LINES_ROOM)?;
     push_verdict(out, alloc, one)?;
     push_rest(out, alloc, one)
 }

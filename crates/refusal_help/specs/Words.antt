@@ -30,7 +30,7 @@ what_words Target = codes "--target is not carried: the crates of all platforms 
 what_words Graph = codes "--graph is not carried"
 what_words Audit = codes "--audit-compatible-output is not carried"
 what_words ExcludeSpec =
-    codes "a crate to leave out is told as name or name@version, in the words and in the policy's exclude"
+    codes "a crate is named as name or name@version, in the words and in the policy's exclude"
 
 -- why a file was not read
 unfoldable pub read_words : ReadFault → List ℕ

@@ -30,7 +30,7 @@ pub(crate) fn what_words(what: UnsupportedPart) -> &'static str
         UnsupportedPart::Graph => "--graph is not carried",
         UnsupportedPart::Audit => "--audit-compatible-output is not carried",
         UnsupportedPart::ExcludeSpec => {
-            "a crate to leave out is told as name or name@version, in the words and in the policy's exclude"
+            "a crate is named as name or name@version, in the words and in the policy's exclude"
         }
     }
 }

@@ -73,28 +73,9 @@ use Rattle.run_why.specs.Named.{first_unknown}
 use Rattle.run_why.specs.Steps.{IsGraphTold, IsWhole, LieInFiles, TellsTexts, has_any, texts_from, walks_by}
 use Rattle.run_why.specs.Why.{IsNoSuchCrate, IsWhy, IsWhyText, WhyBasis, crates_against, crates_told}
 use Rattle.run_why.proofs.AmongLemmas.{among_are}
+use Rattle.run_why.proofs.ChosenLemmas.{asks_at, flags_same}
 use Rattle.run_why.proofs.TextLemmas.{IsTold, checked_among, krate_of_turn, picks, picks_against, picks_named, texts_are}
 use Rattle.run_why.proofs.WhyLemmas.{all_told, krates_turned, turns_known}
-
--- ---- what is known of the metadata is whole
-
-walks_counted : (graph : Graph) (choice : Choice) (told : GraphTold) (kind : Option DepKind) → AreSelecting graph choice told.walks.all told.walks.without_dev told.walks.without_build
-    → length (walks_by told kind) ≡ length graph.nodes
-walks_counted graph choice told None walks = walks.all_are.counted
-walks_counted graph choice told (Some Normal) walks = walks.all_are.counted
-walks_counted graph choice told (Some Dev) walks = walks.without_dev_are.counted
-walks_counted graph choice told (Some Build) walks = walks.without_build_are.counted
-
-pub whole_of : (words : List (List ℕ)) (asked : AskedMetadata) (include : Include) (told : GraphTold) → IsGraphTold words asked include told → IsWhole told
-whole_of words asked include told is =
-    let titles : length told.titles ≡ length (crates_of asked.metadata) = ap length is.titles ∙ length-map (crates_of asked.metadata) title_of in
-    record {
-      causes = is.causes.counted ∙ sym titles;
-      walks =
-          walks_counted asked.metadata (choice_of asked.selection) told (kind_left_out told.include) is.walks
-          ∙ sym (length-map asked.metadata.nodes (λ (node : CrateNode). node.krate))
-          ∙ sym titles;
-    }
 
 -- ---- which crates are told
 
@@ -120,47 +101,6 @@ module _ (lists : CatalogLists) (match_of : List ℕ → Match) (log : LogContex
 
   abbrev pub asked_why : WhyArguments
   asked_why = record { command = given; words = words }
-
-  -- memory was wanting once the metadata was read
-  pub lost_told : (tree : TreeSeen) (err : SinkSeen) (files : List File) (found : MetadataFound) → HasMetadata given tree err files found → Stops given tree err Memory
-  lost_told tree err files found has = crates_refused given tree err files found has krates.Memory tt
-
-  module _ (tree : TreeSeen) (err : SinkSeen) (files : List File) (crates : CratesFound) (has : HasCrates given tree err files crates) where
-    -- what the policy says of the crates, once its lists are in order
-    flags_same : include_of crates.policy ≡ included_in has.policy
-    flags_same = ap include_of has.ordered.rest
-
-    -- what was read asks for these crates
-    asks_at : (later : List ReadsOfCrate) (those : List CrateRecord) → IsListOf has.graph (Selected has.graph (choice_in given has.policy) (include_of crates.policy)) those
-        → Asks given (hearing_of tree.count_before has.heard (Some has.answer) later) (record { policy = has.policy; graph = has.graph; crates = those })
-    asks_at later those selected =
-        let hearing = hearing_of tree.count_before has.heard (Some has.answer) later in
-        record {
-          carried = carried;
-          policy = bytes_of_found given.request hearing has.policy has.policy_is;
-          once = has.once;
-          metadata = bytes_of_graph given.request hearing has.graph has.graph_is;
-          root = has.root;
-          selected = subst (λ (include : Include). IsListOf has.graph (Selected has.graph (choice_in given has.policy) include) those) flags_same selected;
-        }
-
-  -- a word names no crate
-  pub no_such_crate : (tree : TreeSeen) (err : SinkSeen) (files : List File) (found : MetadataFound) (crates : CratesFound) (chosen : ChoosesCrates given tree err files found crates) (word : List ℕ)
-      → first_unknown words (crates_of found.asked.metadata) ≡ Some word → HearsSo given tree err (IsNoSuchCrate asked_why word)
-  no_such_crate tree err files found crates chosen word at =
-      let has = chosen.has in
-      let those = selected_in (include_of crates.policy) crates.krates in
-      record {
-        hearing = hearing_up_to tree has.heard has.answer;
-        heard = record { begun = refl; made = has.made };
-        written = has.written;
-        is_so = record {
-          asked = record { policy = has.policy; graph = has.graph; crates = those };
-          asks = asks_at tree err files crates has [] those (selected-lists has.graph (choice_in given has.policy) crates.krates has.chosen (include_of crates.policy));
-          unread = refl;
-          first = ap (λ (graph : Graph). first_unknown words (crates_of graph)) chosen.graph ∙ at;
-        };
-      }
 
   -- ---- the check was made
 
@@ -303,7 +243,7 @@ module _ (lists : CatalogLists) (match_of : List ℕ → Match) (log : LogContex
           ∙ ap (λ (choice : Choice). basis_with log.format has.graph choice found.asked.own_specs include telling.report.now) chosen.choice
           ∙ ap (λ (own : ℕ). basis_with log.format has.graph (choice_in given has.policy) own include telling.report.now) own
           ∙ ap (λ (include : Include). basis_with log.format has.graph (choice_in given has.policy) (length (filter_map spec_read context.exclude)) include telling.report.now)
-          (ap include_of (sym same) ∙ flags_same front err files crates has)
+          (ap include_of (sym same) ∙ flags_same given front err files crates has)
           ∙ ap (basis_with log.format has.graph (choice_in given has.policy) (length (filter_map spec_read context.exclude)) (included_in has.policy)) tells_texts.report_is
 
       told_there : AllZip (IsWhyText (basis_with telling.format graph choice found.asked.own_specs include telling.report.now))
@@ -336,7 +276,7 @@ module _ (lists : CatalogLists) (match_of : List ℕ → Match) (log : LogContex
           (record {
             report = reported;
             asked = record { policy = has.policy; graph = has.graph; crates = map krate_of one.is.licenses };
-            asks = asks_at front err files crates has later (map krate_of one.is.licenses) one.is.gathered.selected;
+            asks = asks_at given carried front err files crates has later (map krate_of one.is.licenses) one.is.gathered.selected;
             known = ap (λ (graph : Graph). first_unknown words (crates_of graph)) chosen.graph ∙ known;
             texts = all_texts;
           })

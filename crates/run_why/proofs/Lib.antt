@@ -1,4 +1,5 @@
 mod AmongLemmas
+mod ChosenLemmas
 mod EndLemmas
 mod GraphLemmas
 mod LawLemmas

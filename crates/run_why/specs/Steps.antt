@@ -6,12 +6,13 @@ use Rattle.std.specs.List.{filter_map, flat_map}
 use Rattle.std.specs.Option.{option_map_or}
 use Rattle.tree_core.specs.Faults.{Gained, GainedPrefix}
 use Rattle.spdx_core.specs.declared.certificates.verdict.Verdict.{Verdict}
+use Rattle.diag_core.specs.File.{File}
 use Rattle.diag_print.specs.declared.context.Format.{Format}
 use Rattle.graph_core.specs.declared.krate.Krate.{Krate}
 use Rattle.graph_core.specs.Krate.{CrateRecord, record_of}
 use Rattle.graph_core.specs.declared.selection.selection.Include.{Include}
 use Rattle.graph_core.specs.declared.selection.standing.Standing.{Standing}
-use Rattle.graph_core.specs.selection.Choice.{choice_of}
+use Rattle.graph_core.specs.selection.Choice.{choice_of, spec_read}
 use Rattle.graph_core.specs.selection.Places.{standings_in}
 use Rattle.graph_core.specs.selection.Roots.{crates_of}
 use Rattle.graph_walk.specs.declared.unchecked.Unchecked.{Unchecked}
@@ -27,10 +28,15 @@ use Rattle.run_context.specs.declared.gather.AskedMetadata.{AskedMetadata}
 use Rattle.run_found.specs.declared.error.Error.{Error}
 use Rattle.run_found.specs.declared.error.Error.TheVariants.{Memory}
 use Rattle.run_found.specs.declared.reads.CrateRead.{CrateRead}
+use Rattle.run_found.specs.Hearing.{TreeSeen}
 use Rattle.run_found.specs.Written.{IsSilent, SinkSeen}
+use Rattle.run_command.specs.declared.crates.MetadataFound.{MetadataFound}
+use Rattle.run_command.specs.Crates.{ChoosesCrates}
+use Rattle.run_command.specs.Stops.{Stops}
 use Rattle.run_command.specs.Written.{IsWriteFault}
 use Rattle.policy_core.specs.Places.{PolicyStands}
 use Rattle.policy_core.specs.valid.View.{policy_of}
+use Rattle.gather_core.specs.Gathered.{include_of}
 use Rattle.check_core.specs.evaluate.Entries.{entry_families}
 use Rattle.check_why.specs.Made.{IsReportInside}
 use Rattle.run_check.specs.declared.judged.JudgedCrates.{JudgedCrates}
@@ -40,9 +46,11 @@ use Rattle.run_check.specs.Judged.{crates_judged}
 use Rattle.run_check.specs.Reads.{reads_told}
 use Rattle.run_why.specs.declared.graph.GraphTold.{GraphTold}
 use Rattle.run_why.specs.declared.telling.Telling.{Telling}
+use Rattle.run_why.specs.declared.whying.WhyCrates.{WhyCrates}
 use Rattle.run_why.specs.declared.whying.WhyFound.{WhyFound}
-use Rattle.run_why.specs.Named.{is_named}
-use Rattle.run_why.specs.Why.{answer_text, because_text, why_text}
+use Rattle.run_why.specs.Given.{WhyArguments}
+use Rattle.run_why.specs.Named.{first_unknown, is_named}
+use Rattle.run_why.specs.Why.{StopsAtWord, answer_text, because_text, why_text}
 
 -- ---- what is known of the metadata
 
@@ -98,6 +106,22 @@ copied_titles titles places = filter_map (title_at titles) places
 abbrev pub needed_titles : GraphTold → ℕ → List CrateTitle
 needed_titles told place =
     option_map_or (λ walk. copied_titles told.titles (before_last walk)) (walk_at (followed told) place) []
+
+-- ---- the crates that are chosen
+
+-- of metadata in which each word names a crate, with what is known of it
+pub record ChoosesAsked (given : WhyArguments) (tree : TreeSeen) (err : SinkSeen) (files : List File) (asked : WhyCrates)
+    : Type 0 where
+  pub found : MetadataFound
+  pub chosen : ChoosesCrates given.command tree err files found asked.crates
+  pub same : asked.crates.policy ≡ found.policy
+  pub told : IsGraphTold given.words found.asked (include_of found.policy) asked.told
+  pub own : found.asked.own_specs ≡ length (filter_map spec_read given.command.request.context.exclude)
+  pub known : first_unknown given.words (crates_of found.asked.metadata) ≡ None
+
+abbrev pub FindsAsked : WhyArguments → TreeSeen → SinkSeen → List File → Result WhyCrates Error → Type 0
+FindsAsked given tree err files (Ok asked) = ChoosesAsked given tree err files asked
+FindsAsked given tree err files (Err error) = Stops given.command tree err error ⊎ StopsAtWord given tree err error
 
 -- ---- the texts
 

@@ -1,20 +1,23 @@
 //! The command `why`.
 //! Called by `why_request` of `deny_run`; the texts may be written in pieces, the write comes last.
-ghost use Rattle.std.specs.Prelude.{◌≡◌, ◌≤◌, ℕ, List, [], IfErr, IfOk, None, string_bytes};
+ghost use Rattle.std.specs.Prelude.{◌≡◌, ◌≤◌, ◌×◌, ℕ, List, [], IfErr, IfOk, None, string_bytes};
 ghost use Rattle.tree_core.specs.texts.Cause.{ReadCounts};
 ghost use Rattle.spdx_terms.specs.declared.catalog.identifier.Match.{Match};
+ghost use Rattle.diag_core.specs.File.{File};
+ghost use Rattle.graph_core.specs.selection.Roots.{crates_of};
 ghost use Rattle.policy_core.specs.Places.{PolicyStands};
 ghost use Rattle.gather_core.specs.Gathered.{include_of};
 ghost use Rattle.run_overrides.specs.Levels.{PutAtLevels};
 ghost use Rattle.run_found.specs.Error.{cause_of};
-ghost use Rattle.run_found.specs.Hearing.{seen_between};
-ghost use Rattle.run_found.specs.Written.{sink_between};
+ghost use Rattle.run_found.specs.Hearing.{TreeSeen, seen_between};
+ghost use Rattle.run_found.specs.Written.{SinkSeen, sink_between};
 ghost use Rattle.run_command.specs.Carried as command;
-ghost use Rattle.run_command.specs.Crates.{FindsMetadata};
+ghost use Rattle.run_command.specs.Crates.{FindsMetadata, HasMetadata, IsTold};
 ghost use Rattle.run_command.specs.Given.{command_arguments_of};
-ghost use Rattle.run_why.specs.Given.{unsupported_of, why_arguments_of, why_options};
+ghost use Rattle.run_why.specs.Given.{WhyArguments, unsupported_of, why_arguments_of, why_options};
+ghost use Rattle.run_why.specs.Named.{first_unknown};
 ghost use Rattle.run_why.specs.Steps as steps;
-ghost use Rattle.run_why.specs.Steps.{IsGraphTold, Puts, joined_texts};
+ghost use Rattle.run_why.specs.Steps.{FindsAsked, IsGraphTold, IsWhole, Puts, joined_texts};
 ghost use Rattle.run_why.specs.Why.{FindsWhy, Tells};
 
 use crate::graph::GraphTold;
@@ -26,7 +29,8 @@ use diag_print::LogContext;
 use graph_workspace::{Include, UnsupportedPart};
 use run_check::{Report, judged_of, reads_of_reports};
 use run_command::{
-    MetadataFound, PolicyUse, crates_of, metadata_found, no_levels, unsupported_in, write_answer,
+    CratesFound, MetadataFound, PolicyUse, crates_of, metadata_found, no_levels, unsupported_in,
+    write_answer,
 };
 use run_found::{CrateReads, Error};
 use run_request::KrateContext;
@@ -97,21 +101,89 @@ fn metadata_of<T: Tree, S: Sink, C: Catalog>(
     metadata_found(alloc, context, log_ctx, &use_of, files, tree, err, catalog)
 }
 
-/// What `why` knows of the metadata that was found.
-fn told_of(alloc: Global, words: &Texts, found: &MetadataFound) -> Result<GraphTold, AllocError>
-    ensures { IfOk result (IsGraphTold words.now found.now.asked (include_of found.now.policy)) }
+/// What `why` knows of the metadata that was found, and the first of its words that names no crate.
+#[derive(Drop)]
+struct MetadataTold {
+    told: GraphTold,
+    unknown: Option<Text>,
+}
+
+/// The crates that are chosen of metadata in which each word names one, and what is known of it.
+#[derive(Drop)]
+pub(crate) struct WhyCrates {
+    crates: CratesFound,
+    told: GraphTold,
+}
+
+fn told_of(alloc: Global, words: &Texts, found: &MetadataFound) -> Result<MetadataTold, AllocError>
+    ensures told { IfOk result (λ told.
+        IsGraphTold words.now found.now.asked (include_of found.now.policy) told.told) }
+    ensures unknown { IfOk result (λ told.
+        told.unknown ≡ first_unknown words.now (crates_of found.now.asked.metadata)) }
 {
     let include = Include {
         dev: found.policy.include_dev,
         build: found.policy.include_build,
     };
-    GraphTold::of(alloc, words, &found.asked, include)
+    let unknown = unknown_word(alloc, words, &found.asked.metadata)?;
+    let told = GraphTold::of(alloc, words, &found.asked, include)?;
+    Ok(MetadataTold { told, unknown })
+}
+
+/// The crates that are chosen of the metadata that was found.
+fn chosen_of(alloc: Global, words: &Texts, found: MetadataFound) -> Result<WhyCrates, Error>
+    ensures chooses { (given : WhyArguments) (tree : TreeSeen) (err : SinkSeen) (files : List File)
+        → given.words ≡ words.now → given.command.options.unsupported ≡ None
+        → HasMetadata given.command tree err files found → FindsAsked given tree err files result }
+    ensures same { IfOk result (λ asked.
+        (asked.crates.policy ≡ found.policy) × (asked.crates.overrides ≡ found.overrides)) }
+    ensures whole { IfOk result (λ asked. IsWhole asked.told) }
+    ensures told { IfErr result (λ error. IsTold (cause_of error)) }
+{
+    let known = told_of(alloc, words, &found)?;
+    let MetadataTold { told, unknown } = known;
+    let crates = crates_of(alloc, found)?;
+    match unknown {
+        Some(word) => Err(Error::NoSuchCrate(word)),
+        None => Ok(WhyCrates { crates, told }),
+    }
 }
 
 fn has_any(words: &Texts) -> bool
     ensures { result ≡ steps.has_any words.now }
 {
     words.items().first().is_some()
+}
+
+/// The crates of a request, all of which is carried, before a file of one is read. What is printed of the policy's load is
+/// written to the sink.
+fn crates_asked<T: Tree, S: Sink, C: Catalog>(
+    alloc: Global,
+    tree: &mut T,
+    err: &mut S,
+    catalog: &C,
+    log_ctx: LogContext,
+    context: &KrateContext,
+    words: &Texts,
+    files: &mut Files,
+) -> Result<WhyCrates, Error>
+    requires empty { files.old ≡ [] }
+    requires carried { unsupported_of log_ctx context.now words.now ≡ None }
+    // whatever identifies texts
+    ensures asked { (match_of : List ℕ → Match) → FindsAsked
+        (why_arguments_of (C.lists catalog.now) match_of log_ctx context.now words.now)
+        (seen_between T.content T.fault_count T.trace tree.old tree.new)
+        (sink_between S.written S.fault_count err.old err.new)
+        files.new result }
+    ensures places { IfOk result (λ asked. PolicyStands files.new asked.crates.policy) }
+    ensures overrides { IfOk result (λ asked. PutAtLevels command.no_levels asked.crates.overrides) }
+    ensures whole { IfOk result (λ asked. IsWhole asked.told) }
+    ensures counts { IfErr result (λ error. ReadCounts
+        (T.fault_count tree.old) (T.fault_count tree.old) (T.fault_count tree.new) (cause_of error)) }
+    ensures later { S.fault_count err.old ≤ S.fault_count err.new }
+{
+    let found = metadata_of(alloc, tree, err, catalog, log_ctx, context, words, files)?;
+    chosen_of(alloc, words, found)
 }
 
 /// What `why` finds of a request, all of which is carried. What is printed of the policy's load is written to the sink.
@@ -136,15 +208,10 @@ fn found_why<T: Tree, S: Sink, C: Catalog, I: Identifier>(
     ensures later { S.fault_count err.old ≤ S.fault_count err.new }
 {
     let mut files = Files::new(alloc);
-    let found = metadata_of(
+    let asked = crates_asked(
         alloc, tree, err, catalog, log_ctx, context, words, &mut files,
     )?;
-    let told = told_of(alloc, words, &found)?;
-    let unknown = unknown_word(alloc, words, &found.asked.metadata)?;
-    let crates = crates_of(alloc, found)?;
-    if let Some(word) = unknown {
-        return Err(Error::NoSuchCrate(word));
-    }
+    let WhyCrates { crates, told } = asked;
     let judged = judged_of(
         alloc, log_ctx, true, crates, files, tree, catalog, identifier,
     )?;

@@ -1,6 +1,6 @@
 use Rattle.std.proofs.Common.{◌≡◌, [], fold, take}
 use Rattle.check_why.specs.Lines.{with_term}
-use Rattle.check_why.proofs.lines.texts_at.Given as goal
+use Rattle.check_why.proofs.lines.many_texts_at.Given as goal
 
 -- the texts of the terms so far, each once
 abbrev pub invariant-places : goal.invariant-places
