@@ -1,6 +1,8 @@
 -- Metadata that is read alone, and the crates that are chosen from it behind.
-use Rattle.std.proofs.Common.{◌≡◌, ◌∙◌, ◌⊎◌, inl, inr, refl, sym, ap, subst, ℕ, List, Result, Ok, Err}
+use Rattle.std.proofs.Common.{◌≡◌, ◌∙◌, ◌⊎◌, inl, inr, refl, sym, ap, subst, ℕ, List, Result, Ok, Err, IfOk, IfErr}
 use Rattle.tree_core.specs.Call.{Call}
+use Rattle.tree_core.specs.texts.Cause as cause
+use Rattle.tree_core.specs.texts.Cause.{Cause, ReadCounts}
 use Rattle.tree_core.specs.declared.texts.fault.ReadFault.TheVariants.{Failed, Absent, Folder, NotUtf8}
 use Rattle.graph_core.specs.Metadata.{Graph}
 use Rattle.graph_core.specs.declared.selection.selection.BuildError.{BuildError}
@@ -17,13 +19,14 @@ use Rattle.diag_core.specs.File.{File}
 use Rattle.run_context.specs.Asked.{IsMetadataAsked, LeavesOut}
 use Rattle.run_context.specs.declared.gather.AskedMetadata.{AskedMetadata}
 use Rattle.run_request.specs.declared.context.KrateContext.{KrateContext}
+use Rattle.run_found.specs.declared.error.Error.{Error}
 use Rattle.run_found.specs.declared.error.Error.TheVariants.{Memory}
 use Rattle.run_found.specs.Error.{cause_of, error_of_krates}
 use Rattle.run_found.specs.Hearing.{RequestHearing, TreeSeen}
 use Rattle.run_found.specs.Written.{SinkSeen}
 use Rattle.run_command.specs.declared.crates.CratesFound.{CratesFound}
 use Rattle.run_command.specs.declared.crates.MetadataFound.{MetadataFound}
-use Rattle.run_command.specs.Crates.{ChoosesCrates, HasMetadata, IsTold, hearing_up_to}
+use Rattle.run_command.specs.Crates.{ChoosesCrates, FindsChosen, FindsCrates, HasMetadata, IsTold, hearing_up_to}
 use Rattle.run_command.specs.Found.{PutsInOrder, choice_in, input_of, load_heard}
 use Rattle.run_command.specs.Given.{CommandArguments}
 use Rattle.run_command.specs.Stops.{Refuses, Stops, at_metadata}
@@ -151,3 +154,27 @@ module _ (given : CommandArguments) (tree : TreeSeen) (err : SinkSeen) (files : 
         (record { due = has.due; crates = refl; refused = rootless base excluded unpublished are }) (λ free. free);
     written = has.written;
   }
+
+-- ---- what comes of the crates that are chosen
+
+pub chosen_found : (given : CommandArguments) (tree : TreeSeen) (err : SinkSeen) (files : List File) (found : MetadataFound) (result : Result CratesFound Error)
+    → FindsChosen given tree err files found result → FindsCrates given tree err files result
+chosen_found given tree err files found (Ok crates) chosen = chosen.has
+chosen_found given tree err files found (Err error) stops = stops
+
+-- a part is as it was, and so is what holds of it
+pub kept : {X V : Type 0} (of : X → V) (Holds : V → Type 0) (value : V) (result : Result X Error) → IfOk result (λ x. of x ≡ value) → Holds value → IfOk result (λ x. Holds (of x))
+kept of Holds value (Ok x) same holds = subst Holds (sym same) holds
+kept of Holds value (Err error) same holds = tt
+
+told_counts : (cause : Cause) → IsTold cause → (begun before after : ℕ) → ReadCounts begun before after cause
+told_counts cause.no_memory is begun before after = tt
+told_counts cause.told is begun before after = tt
+told_counts (cause.failed_read first last) is begun before after = absurd is
+told_counts (cause.refused_write first last) is begun before after = absurd is
+
+-- a refusal that no call causes has no counts of a read
+pub counts_told : {X : Type 0} (result : Result X Error) → IfErr result (λ error. IsTold (cause_of error)) → (begun before after : ℕ)
+    → IfErr result (λ error. ReadCounts begun before after (cause_of error))
+counts_told (Ok x) is begun before after = tt
+counts_told (Err error) is begun before after = told_counts (cause_of error) is begun before after

@@ -10,13 +10,12 @@ use Rattle.tree_core.proofs.MadeLemmas.{made_as, made_joined, made_these, some_m
 use Rattle.graph_core.specs.Metadata.{Graph}
 use Rattle.std.specs.List.{filter_map}
 use Rattle.graph_core.specs.selection.Choice.{Choice, choice_of, spec_read}
-use Rattle.graph_core.specs.selection.Listed.{ReachedCrates, IsChosen}
 use Rattle.tree_core.specs.texts.Cause.{Cause, no_memory, told, failed_read, refused_write}
 use Rattle.tree_core.specs.texts.Heard.{text_answered}
 use Rattle.tree_core.specs.declared.texts.fault.ReadFault.{ReadFault}
 use Rattle.tree_core.specs.declared.texts.fault.ReadFault.TheVariants.{Failed, Absent, Folder, NotUtf8}
-use Rattle.graph_core.specs.selection.Roots.{HasRoot, LacksRoots}
-use Rattle.graph_workspace.specs.Krates.{GathersBy, IsCarried, graph_in}
+use Rattle.graph_core.specs.selection.Roots.{LacksRoots}
+use Rattle.graph_workspace.specs.Krates.{IsCarried, graph_in}
 use Rattle.graph_workspace.specs.declared.error.KratesError.{KratesError}
 use Rattle.graph_workspace.specs.declared.error.KratesError.TheVariants as krates
 use Rattle.policy_parts.specs.declared.graph.GraphConfig.{GraphConfig}
@@ -44,11 +43,9 @@ use Rattle.run_found.specs.Hearing.{IsReadWhereDue, MadeOn, RequestHearing, Tree
 use Rattle.run_found.specs.Written.{SinkSeen, TextWritten}
 use Rattle.run_found.proofs.CallLemmas.{heard_where, text_heard_by}
 use Rattle.run_found.proofs.FoundLemmas.{count-behind}
-use Rattle.run_found.proofs.StageLemmas.{graph_told}
 use Rattle.run_found.proofs.StepLemmas.{IsFree}
-use Rattle.run_command.specs.declared.crates.CratesFound.{CratesFound}
 use Rattle.run_command.specs.declared.crates.MetadataFound.{MetadataFound}
-use Rattle.run_command.specs.Crates.{HasCrates, HasMetadata}
+use Rattle.run_command.specs.Crates.{HasMetadata}
 use Rattle.run_command.specs.Found.{HearsAllDue, IsHeard, at_threshold, calls_of, choice_in, input_of, left_by, load_heard, metadata_due, policy_asked}
 use Rattle.run_command.specs.Given.{CommandArguments}
 use Rattle.run_command.specs.Stops.{IsGivenUp, IsRefusal, IsRefusedBy, Refuses, Stops, StopsAt, at_metadata, at_policy}
@@ -305,32 +302,6 @@ module _ (given : CommandArguments) (once : first_twice given.options.levels ≡
   krates_ends (krates.MetadataShape fault) carried_by none = no_crates (krates.MetadataShape fault) none (λ free. free) finds.written (no_graph (krates.MetadataShape fault) none none.from)
   krates_ends (krates.NoRoots base excluded unpublished) carried_by none =
       no_crates (krates.NoRoots base excluded unpublished) none (λ free. free) finds.written (no_roots base excluded unpublished none)
-
-  -- ---- the crates
-
-  module _ (made : MadeSome middle tells mid after between more) (chosen : ReachedCrates) (gathers : GathersBy choice begun after between more path (Ok chosen)) where
-    pub crates_are : (found : CratesFound) → found.policy ≡ at_threshold given.options.threshold policy.licenses → found.krates ≡ chosen → HasCrates given whole err files found
-    crates_are found policy_is krates_are =
-        let answer = gathers.read.answer in
-        let tells_graph = graph_told choice middle tells tells mid after after between more more begun path made chosen gathers in
-        let same = same_choice given finds.found policy finds.valid in
-        record {
-          heard = finds.heard;
-          answer = answer;
-          made = made_all (Some answer) (made_these made gathers.read.made);
-          due = due_at answer (heard_where answer begun (fault_behind mid answer) tells_graph.heard tells_graph.hears);
-          policy = finds.found;
-          policy_is = finds.is;
-          once = once;
-          ordered = subst (PutsPolicyInOrder (at_threshold given.options.threshold finds.found.licenses)) (sym policy_is)
-              (in_order_at given.options.threshold finds.found.licenses policy.licenses finds.valid.licenses);
-          graph = gathers.from.graph;
-          graph_is = drawn_at answer tells_graph.heard gathers.from.graph tells_graph.hears tells_graph.tells;
-          root = subst (HasRoot gathers.from.graph) same gathers.from.rooted;
-          chosen = subst (λ own. IsChosen gathers.from.graph own found.krates) same (subst (IsChosen gathers.from.graph choice) (sym krates_are) gathers.from.reached);
-          files_are = finds.files_are;
-          written = finds.written;
-        }
 
   -- ---- the metadata alone
 

@@ -8,7 +8,7 @@ ghost use Rattle.diag_core.specs.File.{File};
 ghost use Rattle.graph_core.specs.selection.Choice.{choice_of};
 ghost use Rattle.graph_workspace.specs.Krates.{AreOf, krates_cause};
 ghost use Rattle.policy_core.specs.Places.{PolicyStands};
-ghost use Rattle.run_context.specs.Asked.{IsAnswerBy, IsMetadataBy, IsRefused, left_out, unsupported_part};
+ghost use Rattle.run_context.specs.Asked.{IsMetadataBy, IsRefused, left_out, unsupported_part};
 ghost use Rattle.run_overrides.specs.Levels.{PutAtLevels};
 ghost use Rattle.run_found.specs.Error.{cause_of};
 ghost use Rattle.run_found.specs.Hearing.{TreeSeen, seen_between};
@@ -24,7 +24,7 @@ use graph_workspace::{Krates, KratesError};
 use policy_core::valid::ValidConfig;
 use policy_load::LoadedPolicy;
 use policy_parts::GraphConfig;
-use run_context::{AskedMetadata, LeftOut, gather_krates_since, gather_metadata_since};
+use run_context::{AskedMetadata, LeftOut, gather_metadata_since};
 use run_found::{Error, policy_found};
 use run_overrides::overrides_of;
 use run_request::{KrateContext, LintLevels};
@@ -87,29 +87,6 @@ fn leaves(with_flags: bool, graph: &GraphConfig) -> LeftOut<'_>
     }
 }
 
-/// The crates that a request and its policy leave, in the metadata that the request names. `begun` is the tree's
-/// count of faults when the run began.
-fn krates_left<T: Tree>(
-    alloc: Global,
-    context: &KrateContext,
-    with_flags: bool,
-    graph: &GraphConfig,
-    tree: &mut T,
-    begun: u64,
-) -> Result<Krates, KratesError>
-    requires { begun ≤ T.fault_count tree.old }
-    ensures refused { IsRefused context.now graph.now.exclude result }
-    ensures read { IsAnswerBy context.now (left_by with_flags graph.now) begun
-        (T.fault_count tree.new) (T.trace tree.old) (T.trace tree.new) result }
-    ensures made { MadeSome (T.content tree.old) (T.content tree.new) (T.fault_count tree.old)
-        (T.fault_count tree.new) (T.trace tree.old) (T.trace tree.new) }
-    ensures counts { IfErr result (λ error. ReadCounts begun
-        (T.fault_count tree.old) (T.fault_count tree.new) (krates_cause error)) }
-{
-    let leaves = leaves(with_flags, graph);
-    gather_krates_since(context, alloc, tree, &leaves, begun)
-}
-
 /// What the metadata that a request names tells, with what the request and its policy select of it.
 fn metadata_left<T: Tree>(
     alloc: Global,
@@ -132,55 +109,9 @@ fn metadata_left<T: Tree>(
     gather_metadata_since(context, alloc, tree, &leaves, begun)
 }
 
-/// The policy of a command, and the crates that it looks at, of a request all of which is carried: the
-/// policy's files are looked for and loaded, what is printed of the load is written, no code and no level is
-/// there twice, and the metadata is read. No file is known before.
-pub fn crates_found<T: Tree, S: Sink, C: Catalog>(
-    alloc: Global,
-    context: &KrateContext,
-    log_ctx: LogContext,
-    use_of: &PolicyUse<'_>,
-    files: &mut Files,
-    tree: &mut T,
-    err: &mut S,
-    catalog: &C,
-) -> Result<CratesFound, Error>
-    requires empty { files.old ≡ [] }
-    requires carried { unsupported_part context.now [] ≡ None }
-    // whatever identifies texts
-    ensures found { (match_of : List ℕ → Match) → FindsCrates
-        (command_arguments_of (C.lists catalog.now) match_of log_ctx context.now (options_of use_of.now))
-        (seen_between T.content T.fault_count T.trace tree.old tree.new)
-        (sink_between S.written S.fault_count err.old err.new)
-        files.new result }
-    // Each place that the policy keeps lies in its file.
-    ensures places { IfOk result (λ found. PolicyStands files.new found.policy) }
-    ensures overrides { IfOk result (λ found. PutAtLevels use_of.now.levels.now found.overrides) }
-    ensures counts { IfErr result (λ error. ReadCounts
-        (T.fault_count tree.old) (T.fault_count tree.old) (T.fault_count tree.new) (cause_of error)) }
-    ensures later { S.fault_count err.old ≤ S.fault_count err.new }
-{
-    let begun = tree.faults();
-    let loaded = policy_found(alloc, context, log_ctx, files, tree, err, catalog)?;
-    let overrides = overrides_of(alloc, use_of.levels)?;
-    let krates = krates_left(
-        alloc,
-        context,
-        use_of.with_flags,
-        &loaded.graph,
-        tree,
-        begun,
-    )?;
-    let LoadedPolicy { licenses, .. } = loaded;
-    Ok(CratesFound {
-        policy: at_threshold(use_of.threshold, licenses),
-        overrides,
-        krates,
-    })
-}
-
-/// The policy of a command, and what the metadata tells, of a request all of which is carried: what `crates_found`
-/// comes to before the crates are chosen.
+/// The policy of a command, and what the metadata tells, of a request all of which is carried: the policy's files are
+/// looked for and loaded, what is printed of the load is written, no code and no level is there twice, and the metadata
+/// is read. No file is known before.
 pub fn metadata_found<T: Tree, S: Sink, C: Catalog>(
     alloc: Global,
     context: &KrateContext,
@@ -240,7 +171,8 @@ fn krates_of(alloc: Global, asked: AskedMetadata) -> Result<Krates, KratesError>
 pub fn crates_of(alloc: Global, found: MetadataFound) -> Result<CratesFound, Error>
     ensures found { (given : CommandArguments) (tree : TreeSeen) (err : SinkSeen) (files : List File)
         → HasMetadata given tree err files found → FindsChosen given tree err files found result }
-    ensures same { IfOk result (λ crates. (crates.policy ≡ found.policy) × (crates.overrides ≡ found.overrides)) }
+    ensures policy { IfOk result (λ crates. crates.policy ≡ found.policy) }
+    ensures overrides { IfOk result (λ crates. crates.overrides ≡ found.overrides) }
     ensures told { IfErr result (λ error. IsTold (cause_of error)) }
 {
     let MetadataFound {
@@ -254,4 +186,35 @@ pub fn crates_of(alloc: Global, found: MetadataFound) -> Result<CratesFound, Err
         overrides,
         krates,
     })
+}
+
+/// The policy of a command, and the crates that it looks at, of a request all of which is carried: the crates are chosen
+/// from what `metadata_found` answers.
+pub fn crates_found<T: Tree, S: Sink, C: Catalog>(
+    alloc: Global,
+    context: &KrateContext,
+    log_ctx: LogContext,
+    use_of: &PolicyUse<'_>,
+    files: &mut Files,
+    tree: &mut T,
+    err: &mut S,
+    catalog: &C,
+) -> Result<CratesFound, Error>
+    requires empty { files.old ≡ [] }
+    requires carried { unsupported_part context.now [] ≡ None }
+    // whatever identifies texts
+    ensures found { (match_of : List ℕ → Match) → FindsCrates
+        (command_arguments_of (C.lists catalog.now) match_of log_ctx context.now (options_of use_of.now))
+        (seen_between T.content T.fault_count T.trace tree.old tree.new)
+        (sink_between S.written S.fault_count err.old err.new)
+        files.new result }
+    // Each place that the policy keeps lies in its file.
+    ensures places { IfOk result (λ found. PolicyStands files.new found.policy) }
+    ensures overrides { IfOk result (λ found. PutAtLevels use_of.now.levels.now found.overrides) }
+    ensures counts { IfErr result (λ error. ReadCounts
+        (T.fault_count tree.old) (T.fault_count tree.old) (T.fault_count tree.new) (cause_of error)) }
+    ensures later { S.fault_count err.old ≤ S.fault_count err.new }
+{
+    let found = metadata_found(alloc, context, log_ctx, use_of, files, tree, err, catalog)?;
+    crates_of(alloc, found)
 }

@@ -1,8 +1,6 @@
 -- What is known of metadata, and the crates that are chosen of it.
-use Rattle.std.proofs.Common.{◌≡◌, ◌∙◌, ◌×◌, inl, inr, refl, sym, ap, subst, ℕ, List, [], length, map, Option, Some, None, Result, Ok, Err, IfOk, IfErr, cc}
-use Rattle.std.specs.List.{filter_map}
+use Rattle.std.proofs.Common.{◌≡◌, ◌∙◌, refl, sym, ap, subst, ℕ, List, [], length, Option, Some, None}
 use Rattle.std.proofs.lemmas.List.{length-map}
-use Rattle.tree_core.specs.texts.Cause.{ReadCounts}
 use Rattle.diag_core.specs.File.{File}
 use Rattle.graph_core.specs.Krate.{CrateRecord}
 use Rattle.graph_core.specs.Metadata.{CrateNode, Graph}
@@ -17,38 +15,29 @@ use Rattle.graph_core.proofs.selection.SelectedLemmas.{selected-lists}
 use Rattle.graph_walk.specs.Shortest.{kind_left_out}
 use Rattle.graph_walk.specs.Unchecked.{AreSelecting}
 use Rattle.graph_workspace.specs.declared.error.KratesError.TheVariants as krates
-use Rattle.policy_core.specs.Places.{PolicyStands}
-use Rattle.policy_core.specs.declared.valid.policy.ValidConfig.{ValidConfig}
-use Rattle.diag_core.specs.declared.overrides.DiagnosticOverrides.{DiagnosticOverrides}
 use Rattle.gather_core.specs.Calls.{ReadsOfCrate}
 use Rattle.gather_core.specs.Gathered.{include_of}
 use Rattle.check_why.specs.Answer.{title_of}
-use Rattle.run_overrides.specs.Levels.{PutAtLevels}
 use Rattle.run_context.specs.declared.gather.AskedMetadata.{AskedMetadata}
-use Rattle.run_found.specs.declared.error.Error.{Error}
-use Rattle.run_found.specs.declared.error.Error.TheVariants.{Memory, NoSuchCrate}
-use Rattle.run_found.specs.Error.{cause_of}
+use Rattle.run_found.specs.declared.error.Error.TheVariants.{Memory}
 use Rattle.run_found.specs.Finds.{hearing_of}
 use Rattle.run_found.specs.Hearing.{TreeSeen}
 use Rattle.run_found.specs.Selection.{included_in}
 use Rattle.run_found.specs.Written.{SinkSeen}
 use Rattle.run_found.proofs.ByteLemmas.{bytes_of_found, bytes_of_graph}
-use Rattle.run_command.specs.Carried.{no_levels}
 use Rattle.run_command.specs.declared.crates.CratesFound.{CratesFound}
 use Rattle.run_command.specs.declared.crates.MetadataFound.{MetadataFound}
-use Rattle.run_command.specs.Crates.{ChoosesCrates, HasCrates, HasMetadata, IsTold, hearing_up_to}
+use Rattle.run_command.specs.Crates.{ChoosesCrates, HasCrates, HasMetadata, hearing_up_to}
 use Rattle.run_command.specs.Found.{choice_in}
 use Rattle.run_command.specs.Given.{CommandArguments}
 use Rattle.run_command.specs.Settled.{HearsSo}
 use Rattle.run_command.specs.Stops.{Asks, Stops}
 use Rattle.run_command.proofs.MetadataLemmas.{crates_refused}
 use Rattle.run_why.specs.declared.graph.GraphTold.{GraphTold}
-use Rattle.run_why.specs.declared.whying.WhyCrates.{WhyCrates}
 use Rattle.run_why.specs.Given.{WhyArguments}
 use Rattle.run_why.specs.Named.{first_unknown}
-use Rattle.run_why.specs.Steps.{ChoosesAsked, FindsAsked, IsGraphTold, IsWhole, walks_by}
+use Rattle.run_why.specs.Steps.{IsGraphTold, IsWhole, walks_by}
 use Rattle.run_why.specs.Why.{IsNoSuchCrate}
-use Rattle.run_why.proofs.WhyLemmas.{told_counts}
 
 -- ---- what is known of the metadata is whole
 
@@ -114,21 +103,3 @@ no_such_crate given carried tree err files found crates chosen word at =
         first = ap (λ (graph : Graph). first_unknown given.words (crates_of graph)) chosen.graph ∙ at;
       };
     }
-
--- ---- what comes of the crates that are chosen
-
-pub places_kept : (files : List File) (policy : ValidConfig) (overrides : DiagnosticOverrides) (result : Result WhyCrates Error)
-    → IfOk result (λ asked. (asked.crates.policy ≡ policy) × (asked.crates.overrides ≡ overrides)) → PolicyStands files policy → IfOk result (λ asked. PolicyStands files asked.crates.policy)
-places_kept files policy overrides (Ok asked) same stands = subst (PolicyStands files) (sym same.0) stands
-places_kept files policy overrides (Err error) same stands = tt
-
-pub levels_kept : (policy : ValidConfig) (overrides : DiagnosticOverrides) (result : Result WhyCrates Error)
-    → IfOk result (λ asked. (asked.crates.policy ≡ policy) × (asked.crates.overrides ≡ overrides)) → PutAtLevels no_levels overrides → IfOk result (λ asked. PutAtLevels no_levels asked.crates.overrides)
-levels_kept policy overrides (Ok asked) same put = subst (PutAtLevels no_levels) (sym same.1) put
-levels_kept policy overrides (Err error) same put = tt
-
--- a refusal that no call causes has no counts of a read
-pub chosen_counts : (result : Result WhyCrates Error) → IfErr result (λ error. IsTold (cause_of error)) → (begun before after : ℕ)
-    → IfErr result (λ error. ReadCounts begun before after (cause_of error))
-chosen_counts (Ok asked) told begun before after = tt
-chosen_counts (Err error) told begun before after = told_counts (cause_of error) told begun before after

@@ -1,5 +1,5 @@
 -- The ends of a run for `why`: what is told is by the report that the check makes of what was read.
-use Rattle.std.proofs.Common.{◌≡◌, ◌∙◌, refl, sym, ap, subst, ℕ, suc, Bool, true, List, [], ◌∷◌, length, map, All, Option, Some, None}
+use Rattle.std.proofs.Common.{◌≡◌, ◌∙◌, refl, sym, ap, subst, ℕ, suc, Bool, true, List, [], ◌∷◌, length, map, All, Option, None}
 use Rattle.std.specs.List.{AllZip, filter_map}
 use Rattle.std.proofs.lemmas.List.{length-map}
 use Rattle.std.proofs.lemmas.List.Elements.{All-from_recursion, recursion_from_All}
@@ -11,18 +11,13 @@ use Rattle.diag_core.specs.File.{File}
 use Rattle.diag_print.specs.declared.context.Format.{Format}
 use Rattle.diag_print.specs.declared.context.LogContext.{LogContext}
 use Rattle.graph_core.specs.Krate.{CrateRecord}
-use Rattle.graph_core.specs.Metadata.{AreRising, CrateNode, Graph, ids_of}
-use Rattle.graph_core.specs.declared.edge.DepKind.{DepKind}
-use Rattle.graph_core.specs.declared.edge.DepKind.TheVariants.{Normal, Dev, Build}
+use Rattle.graph_core.specs.Metadata.{AreRising, Graph, ids_of}
 use Rattle.graph_core.specs.declared.selection.selection.Include.{Include}
 use Rattle.graph_core.specs.selection.Choice.{Choice, choice_of, spec_read}
 use Rattle.graph_core.specs.selection.Listed.{IsListOf, selected_in}
 use Rattle.graph_core.specs.selection.Roots.{crates_of}
 use Rattle.graph_core.specs.selection.Walks.{Selected}
-use Rattle.graph_core.proofs.selection.SelectedLemmas.{selected-lists}
 use Rattle.graph_metadata.proofs.RisingLemmas.{graph-rising}
-use Rattle.graph_walk.specs.Shortest.{kind_left_out}
-use Rattle.graph_walk.specs.Unchecked.{AreSelecting}
 use Rattle.graph_walk.specs.declared.unchecked.Unchecked.{Unchecked}
 use Rattle.graph_workspace.specs.Krates.{sparse_dir}
 use Rattle.graph_workspace.specs.declared.error.KratesError.TheVariants as krates
@@ -37,28 +32,22 @@ use Rattle.gather_core.proofs.CrateTurns.{krates_told}
 use Rattle.check_core.specs.Labels.{VerdictPoints}
 use Rattle.check_core.specs.Summary.{gathered_of_licenses}
 use Rattle.check_core.specs.declared.report.CrateReport.{CrateReport}
-use Rattle.check_why.specs.Answer.{title_of}
 use Rattle.check_why.specs.Made.{IsReportInside}
 use Rattle.check_why.proofs.InsideLemmas.{reports_inside}
 use Rattle.run_request.specs.declared.context.KrateContext.{KrateContext}
-use Rattle.run_context.specs.declared.gather.AskedMetadata.{AskedMetadata}
-use Rattle.run_found.specs.declared.error.Error.TheVariants.{Memory}
-use Rattle.run_found.specs.Finds.{hearing_of}
 use Rattle.run_found.specs.Found.{files_loaded}
 use Rattle.run_found.specs.Hearing.{RequestHearing, TreeSeen, crates_heard, tree_seen}
 use Rattle.run_found.specs.Licenses.{scanner_of_policy}
 use Rattle.run_found.specs.Selection.{included_in}
 use Rattle.run_found.specs.Written.{SinkSeen}
-use Rattle.run_found.proofs.ByteLemmas.{bytes_of_found, bytes_of_graph}
+use Rattle.run_found.proofs.ByteLemmas.{bytes_of_graph}
 use Rattle.run_command.specs.Carried.{no_levels}
 use Rattle.run_command.specs.declared.crates.CratesFound.{CratesFound}
 use Rattle.run_command.specs.declared.crates.MetadataFound.{MetadataFound}
-use Rattle.run_command.specs.Crates.{ChoosesCrates, HasCrates, HasMetadata, hearing_up_to}
+use Rattle.run_command.specs.Crates.{ChoosesCrates, HasCrates}
 use Rattle.run_command.specs.Found.{choice_in, scanner_of_given, turns_in}
 use Rattle.run_command.specs.Given.{CommandArguments, command_arguments_of}
 use Rattle.run_command.specs.Settled.{HearsSo, IsSettled}
-use Rattle.run_command.specs.Stops.{Asks, Stops}
-use Rattle.run_command.proofs.MetadataLemmas.{crates_refused}
 use Rattle.run_command.proofs.SettledLemmas.{hears, hears_so, is_settled}
 use Rattle.run_check.specs.declared.judged.JudgedCrates.{JudgedCrates}
 use Rattle.run_check.specs.declared.report.Report.{Report}
@@ -70,8 +59,8 @@ use Rattle.run_why.specs.declared.graph.GraphTold.{GraphTold}
 use Rattle.run_why.specs.declared.telling.Telling.{Telling}
 use Rattle.run_why.specs.Given.{WhyArguments, unsupported_of, why_options}
 use Rattle.run_why.specs.Named.{first_unknown}
-use Rattle.run_why.specs.Steps.{IsGraphTold, IsWhole, LieInFiles, TellsTexts, has_any, texts_from, walks_by}
-use Rattle.run_why.specs.Why.{IsNoSuchCrate, IsWhy, IsWhyText, WhyBasis, crates_against, crates_told}
+use Rattle.run_why.specs.Steps.{IsGraphTold, LieInFiles, TellsTexts, has_any, texts_from}
+use Rattle.run_why.specs.Why.{IsWhy, IsWhyText, WhyBasis, crates_against, crates_told}
 use Rattle.run_why.proofs.AmongLemmas.{among_are}
 use Rattle.run_why.proofs.ChosenLemmas.{asks_at, flags_same}
 use Rattle.run_why.proofs.TextLemmas.{IsTold, checked_among, krate_of_turn, picks, picks_against, picks_named, texts_are}

@@ -10,9 +10,7 @@ use Rattle.gather_core.specs.Turns.{files_behind}
 use Rattle.check_core.specs.declared.report.CrateReport.{CrateReport}
 use Rattle.run_check.specs.Report.{TellsSource, TellsTurn}
 use Rattle.run_why.proofs.TextLemmas.{IsTold, krate_of_turn}
-use Rattle.tree_core.specs.texts.Cause as cause
-use Rattle.tree_core.specs.texts.Cause.{Cause, ReadCounts}
-use Rattle.run_command.specs.Crates as crates
+use Rattle.tree_core.specs.texts.Cause.{ReadCounts}
 use Rattle.run_found.specs.declared.error.Error.{Error}
 use Rattle.run_found.specs.declared.error.Error.TheVariants.{Memory}
 use Rattle.run_found.specs.declared.reads.CrateRead.{CrateRead}
@@ -73,13 +71,6 @@ put_counts found out (Ok reads) puts begun before after = tt
 put_counts found out (Err error) (inl wants) begun before after =
     subst (λ own. ReadCounts begun before after (cause_of own)) (sym wants.0) tt
 put_counts found out (Err error) (inr cut) begun before after = write_counts out.before out.after error cut.refused begun before after
-
--- nor has a refusal that no call causes
-pub told_counts : (cause : Cause) → crates.IsTold cause → (begun before after : ℕ) → ReadCounts begun before after cause
-told_counts cause.no_memory is begun before after = tt
-told_counts cause.told is begun before after = tt
-told_counts (cause.failed_read first last) is begun before after = absurd is
-told_counts (cause.refused_write first last) is begun before after = absurd is
 
 -- ---- what is found
 

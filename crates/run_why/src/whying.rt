@@ -1,6 +1,6 @@
 //! The command `why`.
 //! Called by `why_request` of `deny_run`; the texts may be written in pieces, the write comes last.
-ghost use Rattle.std.specs.Prelude.{◌≡◌, ◌≤◌, ◌×◌, ℕ, List, [], IfErr, IfOk, None, string_bytes};
+ghost use Rattle.std.specs.Prelude.{◌≡◌, ◌≤◌, ℕ, List, [], IfErr, IfOk, None, string_bytes};
 ghost use Rattle.tree_core.specs.texts.Cause.{ReadCounts};
 ghost use Rattle.spdx_terms.specs.declared.catalog.identifier.Match.{Match};
 ghost use Rattle.diag_core.specs.File.{File};
@@ -135,8 +135,8 @@ fn chosen_of(alloc: Global, words: &Texts, found: MetadataFound) -> Result<WhyCr
     ensures chooses { (given : WhyArguments) (tree : TreeSeen) (err : SinkSeen) (files : List File)
         → given.words ≡ words.now → given.command.options.unsupported ≡ None
         → HasMetadata given.command tree err files found → FindsAsked given tree err files result }
-    ensures same { IfOk result (λ asked.
-        (asked.crates.policy ≡ found.policy) × (asked.crates.overrides ≡ found.overrides)) }
+    ensures policy { IfOk result (λ asked. asked.crates.policy ≡ found.policy) }
+    ensures overrides { IfOk result (λ asked. asked.crates.overrides ≡ found.overrides) }
     ensures whole { IfOk result (λ asked. IsWhole asked.told) }
     ensures told { IfErr result (λ error. IsTold (cause_of error)) }
 {

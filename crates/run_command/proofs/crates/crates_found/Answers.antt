@@ -1,126 +1,39 @@
--- Each end of `crates_found`: the policy, the levels, the crates.
-use Rattle.std.proofs.Common.{refl, sym, subst, Ok, arith}
+-- The metadata is found, and the crates are chosen from it.
 use Rattle.std.proofs.lemmas.Result.{err_from_is_err_and}
-use Rattle.tree_core.proofs.MadeLemmas.{some-later}
-use Rattle.graph_workspace.specs.Krates.{GathersBy}
 use Rattle.policy_core.specs.Places.{PolicyStands}
 use Rattle.policy_core.specs.declared.valid.policy.ValidConfig.{ValidConfig}
-use Rattle.run_context.specs.Asked.{choice_asked}
-use Rattle.run_found.specs.Error.{cause_of, error_of_krates}
-use Rattle.run_found.specs.Finds.{policy_hearing}
+use Rattle.diag_core.specs.declared.overrides.DiagnosticOverrides.{DiagnosticOverrides}
+use Rattle.run_overrides.specs.Levels.{PutAtLevels}
 use Rattle.run_found.specs.Hearing.{tree_seen}
 use Rattle.run_found.specs.Written.{sink_seen}
-use Rattle.run_found.specs.Gathering.{NoCratesBy}
-use Rattle.run_found.proofs.CarriedLemmas.{specs_carried}
-use Rattle.run_found.proofs.EndLemmas.{counts_at}
-use Rattle.run_found.proofs.StageLemmas.{carried_error, gathers_chosen, no_crates_by}
-use Rattle.run_found.proofs.StepLemmas.{counts_from}
+use Rattle.run_command.specs.declared.crates.CratesFound.{CratesFound}
 use Rattle.run_command.specs.Crates.{options_of}
-use Rattle.run_command.specs.Found.{left_by}
 use Rattle.run_command.specs.Given.{command_arguments_of}
-use Rattle.run_command.proofs.CarriedLemmas.{carried_behind, path_carried}
-use Rattle.run_command.proofs.CountLemmas.{krates_counts, override_counts, stands_at}
-use Rattle.run_command.proofs.StopLemmas.{crates_are, krates_ends, policy_ends, twice_ends}
+use Rattle.run_command.proofs.MetadataLemmas.{chosen_found, counts_told, kept}
 use Rattle.run_command.proofs.crates.crates_found.Goals as goal
 
-pub returns-in_err-loaded-clause-found : goal.returns-in_err-loaded-clause-found
-returns-in_err-loaded-clause-found g c match_of =
-    let given = command_arguments_of (g.C.Catalog.lists c.args.catalog.now) match_of c.args.log_ctx c.args.context.now (options_of c.args.use_of.now) in
-    let tree = tree_seen (g.T.Tree.content c.args.tree.now) (g.T.Tree.content c.policy_found.new.tree) (g.T.Tree.fault_count c.args.tree.now) (g.T.Tree.fault_count c.policy_found.new.tree)
-    (g.T.Tree.trace c.args.tree.now) (g.T.Tree.trace c.policy_found.new.tree) in
-    let err = sink_seen (g.S.Sink.written c.args.err.now) (g.S.Sink.written c.policy_found.new.sink) (g.S.Sink.fault_count c.args.err.now) (g.S.Sink.fault_count c.policy_found.new.sink) in
+pub returns-in_err-found-clause-found : goal.returns-in_err-found-clause-found
+returns-in_err-found-clause-found g c match_of =
     let p = err_from_is_err_and c.from_residual.result c.from_residual.ensures.1 in
-    rw (p.1, p.2)
-    (policy_ends given tree err c.policy_found.new.files c.in_err-loaded.field-0.0 c.in_err-loaded.ensures.found)
-
-pub returns-in_err-overrides-clause-found : goal.returns-in_err-overrides-clause-found
-returns-in_err-overrides-clause-found g c match_of =
-    let given = command_arguments_of (g.C.Catalog.lists c.args.catalog.now) match_of c.args.log_ctx c.args.context.now (options_of c.args.use_of.now) in
-    let tree = tree_seen (g.T.Tree.content c.args.tree.now) (g.T.Tree.content c.policy_found.new.tree) (g.T.Tree.fault_count c.args.tree.now) (g.T.Tree.fault_count c.policy_found.new.tree)
-    (g.T.Tree.trace c.args.tree.now) (g.T.Tree.trace c.policy_found.new.tree) in
-    let err = sink_seen (g.S.Sink.written c.args.err.now) (g.S.Sink.written c.policy_found.new.sink) (g.S.Sink.fault_count c.args.err.now) (g.S.Sink.fault_count c.policy_found.new.sink) in
-    let p = err_from_is_err_and c.from_residual-in_err-overrides.result c.from_residual-in_err-overrides.ensures.1 in
-    rw (p.1, p.2)
-    (twice_ends given tree err c.policy_found.new.files c.in_ok-loaded.loaded c.in_ok-loaded.ensures.found c.in_err-overrides.field-0.0 c.in_err-overrides.ensures.twice)
-
-pub returns-in_err-krates-clause-found : goal.returns-in_err-krates-clause-found
-returns-in_err-krates-clause-found g c match_of =
-    let given = command_arguments_of (g.C.Catalog.lists c.args.catalog.now) match_of c.args.log_ctx c.args.context.now (options_of c.args.use_of.now) in
-    let begun = g.T.Tree.fault_count c.args.tree.now in
-    let mid = g.T.Tree.fault_count c.policy_found.new.tree in
-    let after = g.T.Tree.fault_count c.krates_left.new.tree in
-    let middle = g.T.Tree.content c.policy_found.new.tree in
-    let tells = g.T.Tree.content c.krates_left.new.tree in
-    let between = g.T.Tree.trace c.policy_found.new.tree in
-    let more = g.T.Tree.trace c.krates_left.new.tree in
-    let err = sink_seen (g.S.Sink.written c.args.err.now) (g.S.Sink.written c.policy_found.new.sink) (g.S.Sink.fault_count c.args.err.now) (g.S.Sink.fault_count c.policy_found.new.sink) in
-    let policy = c.in_ok-loaded.loaded in
-    let finds = c.in_ok-loaded.ensures.found in
-    let error = c.in_err-krates.field-0.0 in
-    let at = path_carried c.args.context.now c.requires.carried in
-    let choice = choice_asked c.args.context.now (left_by c.args.use_of.now.with_flags policy.graph) in
-    let way = tree_seen (g.T.Tree.content c.args.tree.now) middle begun mid (g.T.Tree.trace c.args.tree.now) between in
-    let carried = carried_behind c.args.context.now policy.graph.exclude c.requires.carried (specs_carried given.request (policy_hearing way finds.heard) finds.found policy finds.is finds.valid) in
-    let is_carried = carried_error c.args.context.now policy.graph.exclude error carried c.in_err-krates.ensures.refused in
-    let read = subst (λ n. NoCratesBy choice (tree_seen middle tells mid after between more) n at.0 error) c.faults-begun.ensures
-    (no_crates_by choice middle tells mid after between more c.faults-begun.result at.0 c.in_err-krates.ensures.made error is_carried (c.in_err-krates.ensures.read at.0 at.1 carried)) in
-    let p = err_from_is_err_and c.from_residual-in_err-krates.result c.from_residual-in_err-krates.ensures.1 in
-    rw (p.1, p.2)
-    (krates_ends given c.in_ok-overrides.ensures.taken at.0 at.1 begun mid after (g.T.Tree.content c.args.tree.now) middle tells (g.T.Tree.trace c.args.tree.now) between more
-    err c.policy_found.new.files policy finds error is_carried read)
+    rw (p.1, p.2) (c.in_err-found.ensures.found match_of)
 
 pub returns-clause-found : goal.returns-clause-found
 returns-clause-found g c match_of =
     let given = command_arguments_of (g.C.Catalog.lists c.args.catalog.now) match_of c.args.log_ctx c.args.context.now (options_of c.args.use_of.now) in
-    let begun = g.T.Tree.fault_count c.args.tree.now in
-    let mid = g.T.Tree.fault_count c.policy_found.new.tree in
-    let after = g.T.Tree.fault_count c.krates_left.new.tree in
-    let middle = g.T.Tree.content c.policy_found.new.tree in
-    let tells = g.T.Tree.content c.krates_left.new.tree in
-    let between = g.T.Tree.trace c.policy_found.new.tree in
-    let more = g.T.Tree.trace c.krates_left.new.tree in
-    let err = sink_seen (g.S.Sink.written c.args.err.now) (g.S.Sink.written c.policy_found.new.sink) (g.S.Sink.fault_count c.args.err.now) (g.S.Sink.fault_count c.policy_found.new.sink) in
-    let policy = c.in_ok-loaded.loaded in
-    let finds = c.in_ok-loaded.ensures.found in
-    let chosen = c.in_ok-krates.krates in
-    let at = path_carried c.args.context.now c.requires.carried in
-    let choice = choice_asked c.args.context.now (left_by c.args.use_of.now.with_flags policy.graph) in
-    let way = tree_seen (g.T.Tree.content c.args.tree.now) middle begun mid (g.T.Tree.trace c.args.tree.now) between in
-    let carried = carried_behind c.args.context.now policy.graph.exclude c.requires.carried (specs_carried given.request (policy_hearing way finds.heard) finds.found policy finds.is finds.valid) in
-    let gathers = subst (λ n. GathersBy choice n after between more at.0 (Ok chosen)) c.faults-begun.ensures
-    (gathers_chosen choice c.faults-begun.result after between more at.0 chosen (c.in_ok-krates.ensures.read at.0 at.1 carried)) in
-    crates_are given c.in_ok-overrides.ensures.taken at.0 at.1 begun mid after (g.T.Tree.content c.args.tree.now) middle tells (g.T.Tree.trace c.args.tree.now) between more
-    err c.policy_found.new.files policy finds c.in_ok-krates.ensures.made chosen gathers _ c.at_threshold.ensures refl
+    let tree = tree_seen (g.T.Tree.content c.args.tree.now) (g.T.Tree.content c.metadata_found.new.tree) (g.T.Tree.fault_count c.args.tree.now) (g.T.Tree.fault_count c.metadata_found.new.tree)
+    (g.T.Tree.trace c.args.tree.now) (g.T.Tree.trace c.metadata_found.new.tree) in
+    let err = sink_seen (g.S.Sink.written c.args.err.now) (g.S.Sink.written c.metadata_found.new.err) (g.S.Sink.fault_count c.args.err.now) (g.S.Sink.fault_count c.metadata_found.new.err) in
+    let files = c.metadata_found.new.files in
+    chosen_found given tree err files c.in_ok-found.found c.crates_of.result (c.crates_of.ensures.found given tree err files (c.in_ok-found.ensures.found match_of))
 
 pub returns-clause-places : goal.returns-clause-places
 returns-clause-places g c =
-    subst (λ (policy : ValidConfig). PolicyStands c.policy_found.new.files policy) (sym c.at_threshold.ensures)
-    (stands_at c.policy_found.new.files c.args.use_of.now.threshold c.in_ok-loaded.loaded.licenses c.in_ok-loaded.ensures.places)
+    kept (λ (crates : CratesFound). crates.policy) (λ (policy : ValidConfig). PolicyStands c.metadata_found.new.files policy) c.in_ok-found.found.policy c.crates_of.result c.crates_of.ensures.policy c.in_ok-found.ensures.places
 
--- ---- what the crates ask for
+pub returns-clause-overrides : goal.returns-clause-overrides
+returns-clause-overrides g c =
+    kept (λ (crates : CratesFound). crates.overrides) (λ (overrides : DiagnosticOverrides). PutAtLevels c.args.use_of.now.levels.now overrides) c.in_ok-found.found.overrides c.crates_of.result
+    c.crates_of.ensures.overrides c.in_ok-found.ensures.overrides
 
-pub krates_left-requires : goal.krates_left-requires
-krates_left-requires g c =
-    let then = some-later c.in_ok-loaded.ensures.made in
-    let start = c.faults-begun.ensures in
-    omega arith
-
--- ---- the counts are those since the run began
-
-pub returns-in_err-overrides-clause-counts : goal.returns-in_err-overrides-clause-counts
-returns-in_err-overrides-clause-counts g c =
-    let p = err_from_is_err_and c.from_residual-in_err-overrides.result c.from_residual-in_err-overrides.ensures.1 in
-    rw (p.1, p.2)
-    (override_counts (g.T.Tree.fault_count c.args.tree.now) (g.T.Tree.fault_count c.args.tree.now) (g.T.Tree.fault_count c.policy_found.new.tree) c.in_err-overrides.field-0.0)
-
-pub returns-in_err-krates-clause-counts : goal.returns-in_err-krates-clause-counts
-returns-in_err-krates-clause-counts g c =
-    let begun = g.T.Tree.fault_count c.args.tree.now in
-    let middle = g.T.Tree.fault_count c.policy_found.new.tree in
-    let after = g.T.Tree.fault_count c.krates_left.new.tree in
-    let refused = c.in_err-krates.field-0.0 in
-    let then = some-later c.in_ok-loaded.ensures.made in
-    let p = err_from_is_err_and c.from_residual-in_err-krates.result c.from_residual-in_err-krates.ensures.1 in
-    rw (p.1, p.2)
-    (counts_from begun begun middle after (cause_of (error_of_krates refused)) then
-    (counts_at begun c.faults-begun.result middle after (cause_of (error_of_krates refused)) c.faults-begun.ensures (krates_counts c.faults-begun.result middle after refused c.in_err-krates.ensures.counts)))
+pub returns-clause-counts : goal.returns-clause-counts
+returns-clause-counts g c = counts_told c.crates_of.result c.crates_of.ensures.told _ _ _

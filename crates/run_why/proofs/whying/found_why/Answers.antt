@@ -1,5 +1,5 @@
 -- Each end of `found_why`: the crates, the check of them, and the texts.
-use Rattle.std.proofs.Common.{◌≡◌, inl, subst}
+use Rattle.std.proofs.Common.{inl, subst}
 use Rattle.std.proofs.lemmas.Result.{err_from_is_err_and}
 use Rattle.run_found.specs.Hearing.{tree_seen}
 use Rattle.run_found.specs.Written.{sink_seen}
