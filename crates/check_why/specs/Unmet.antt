@@ -64,19 +64,19 @@ unmet_of known_reads one =
 
 -- ---- all of them
 
-abbrev pub clarification_files : List File → ValidClarification → AskingFiles
-clarification_files files one = record {
-  asking = Clarification;
-  place = place_at files one.file_id one.spec.span;
-  files = map named_of one.license_files;
+-- where one names its crate, and the files that it asks for
+abbrev pub asking_files : List File → Asking → ℕ → Span → List FileSource → AskingFiles
+asking_files files asking file span sources = record {
+  asking = asking;
+  place = place_at files file span;
+  files = map named_of sources;
 }
 
+abbrev pub clarification_files : List File → ValidClarification → AskingFiles
+clarification_files files one = asking_files files Clarification one.file_id one.spec.span one.license_files
+
 abbrev pub exception_files : List File → ValidException → AskingFiles
-exception_files files one = record {
-  asking = Exception;
-  place = place_at files one.file_id one.spec.span;
-  files = map named_of one.license_files;
-}
+exception_files files one = asking_files files Exception one.file_id one.spec.span one.license_files
 
 -- of clarifications those before the first that holds, since none behind it is looked at
 abbrev pub unmet_until : FolderReads → List AskingFiles → List UnmetAnswer

@@ -5,12 +5,12 @@ ghost use Rattle.graph_core.specs.Krate.{record_of};
 ghost use Rattle.policy_core.specs.Places.{PolicyStands};
 ghost use Rattle.check_why.specs.Kept as spec;
 ghost use Rattle.check_why.specs.Place.{PlaceIsInside};
-ghost use Rattle.check_why.specs.Unmet.{clarification_files, exception_files};
+ghost use Rattle.check_why.specs.Unmet.{asking_files};
 
 use crate::answer::{Asking, Unmatched, UnmetAnswer, UnmetAnswers};
 use crate::places::place_at;
-use deny_text::PathBuf;
-use diag_core::Files;
+use deny_text::{PathBuf, Span};
+use diag_core::{FileId, Files};
 use gather_license::{KeptFile, TextKept};
 use graph_core::Krate;
 use policy_core::valid::{ValidClarification, ValidConfig, ValidException, is_version_3};
@@ -72,49 +72,27 @@ fn first_unmatched<'p>(kept: &[KeptFile], files: &'p [FileSource]) -> Option<Unm
     None
 }
 
-/// What is said of a clarification that does not hold; none where it does.
-fn clarification_unmet(
+/// What is said of a clarification or an exception that does not hold, which names its crate at a place; none where it
+/// holds.
+fn unmet_of(
     alloc: Global,
     files: &Files,
-    one: &ValidClarification,
+    asking: Asking,
+    file: FileId,
+    span: Span,
+    sources: &[FileSource],
     kept: &[KeptFile],
 ) -> Result<Option<UnmetAnswer>, AllocError>
-    requires { PlaceIsInside files.now one.now.file_id one.now.spec.span }
+    requires { PlaceIsInside files.now file span }
     ensures { IfOk result (λ unmet.
-        unmet ≡ spec.unmet_by kept.now (clarification_files files.now one.now) one.now.license_files) }
+        unmet ≡ spec.unmet_by kept.now (asking_files files.now asking file span sources.now) sources.now) }
 {
-    match first_unmatched(kept, one.license_files.items()) {
+    match first_unmatched(kept, sources) {
         Some(found) => {
-            let place = place_at(alloc, files, one.file_id, one.spec.name.span)?;
+            let place = place_at(alloc, files, file, span)?;
             let path = PathBuf::copy(alloc, found.named.path.value.as_path())?;
             Ok(Some(UnmetAnswer {
-                asking: Asking::Clarification,
-                place,
-                path,
-                by: found.by,
-            }))
-        }
-        None => Ok(None),
-    }
-}
-
-/// The same of an exception.
-fn exception_unmet(
-    alloc: Global,
-    files: &Files,
-    one: &ValidException,
-    kept: &[KeptFile],
-) -> Result<Option<UnmetAnswer>, AllocError>
-    requires { PlaceIsInside files.now one.now.file_id one.now.spec.span }
-    ensures { IfOk result (λ unmet.
-        unmet ≡ spec.unmet_by kept.now (exception_files files.now one.now) one.now.license_files) }
-{
-    match first_unmatched(kept, one.license_files.items()) {
-        Some(found) => {
-            let place = place_at(alloc, files, one.file_id, one.spec.name.span)?;
-            let path = PathBuf::copy(alloc, found.named.path.value.as_path())?;
-            Ok(Some(UnmetAnswer {
-                asking: Asking::Exception,
+                asking,
                 place,
                 path,
                 by: found.by,
@@ -148,7 +126,17 @@ fn clarification_tried(
     if !match_krate(krate, &one.spec) {
         return Ok(Tried::Passed);
     }
-    let unmet = clarification_unmet(alloc, files, one, kept)?;
+    let span = one.spec.name.span;
+    let sources = one.license_files.items();
+    let unmet = unmet_of(
+        alloc,
+        files,
+        Asking::Clarification,
+        one.file_id,
+        span,
+        sources,
+        kept,
+    )?;
     match unmet {
         Some(told) => Ok(Tried::Unmet(told)),
         None => Ok(Tried::Holds),
@@ -192,7 +180,18 @@ fn push_exception(
         ++ spec.exception_unmet files.now (record_of krate.now) kept.now one.now) }
 {
     if match_krate(krate, &one.spec) {
-        if let Some(told) = exception_unmet(alloc, files, one, kept)? {
+        let span = one.spec.name.span;
+        let sources = one.license_files.items();
+        let told = unmet_of(
+            alloc,
+            files,
+            Asking::Exception,
+            one.file_id,
+            span,
+            sources,
+            kept,
+        )?;
+        if let Some(told) = told {
             return unmet.push(told);
         }
     }
