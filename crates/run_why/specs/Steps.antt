@@ -110,8 +110,8 @@ needed_titles told place =
 -- ---- the crates that are chosen
 
 -- of metadata in which each word names a crate, with what is known of it
-pub record ChoosesAsked (given : WhyArguments) (tree : TreeSeen) (err : SinkSeen) (files : List File) (asked : WhyCrates)
-    : Type 0 where
+pub record ChoosesAsked (given : WhyArguments) (tree : TreeSeen) (err : SinkSeen) (files : List File)
+    (asked : WhyCrates) : Type 0 where
   pub found : MetadataFound
   pub chosen : ChoosesCrates given.command tree err files found asked.crates
   pub same : asked.crates.policy ≡ found.policy
