@@ -50,7 +50,8 @@ impl TextLookup for CaseIdentifier {
     fn text(&self, name: &str) -> Option<&str> {
         match self {
             CaseIdentifier::Stored(store) => store.text(name),
-            CaseIdentifier::Named | CaseIdentifier::Mit(_) => None,
+            CaseIdentifier::Named => None,
+            CaseIdentifier::Mit(_) => None,
         }
     }
 }

@@ -55,10 +55,16 @@ fn put_span(out: &mut AnswerText, span: Span) {
     write!(out, "{}..{}", span.start, span.end);
 }
 
+/// Puts a text or a number behind a mark.
+fn put_marked<D: Display>(out: &mut AnswerText, mark: &str, item: &D) {
+    out.put(mark);
+    write!(out, "{item}");
+}
+
 /// Puts texts or numbers, each behind a mark.
 fn put_each<D: Display>(out: &mut AnswerText, mark: &str, items: &[D]) {
     for item in items {
-        write!(out, "{mark}{item}");
+        put_marked(out, mark, item);
     }
 }
 
