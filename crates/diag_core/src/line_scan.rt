@@ -43,11 +43,16 @@ pub(crate) fn location(text: &str, place: usize) -> Location
     location_in(text.as_bytes(), place)
 }
 
-/// How many line feeds there are.
+/// How many line feeds there are. They are counted one by one, since the library's own count looks at each byte.
 fn line_feeds(bytes: &[u8]) -> usize
     ensures { result ≡ count_by is_line_feed bytes.now }
 {
-    memchr_iter(b'\n', bytes).count()
+    let mut count = 0;
+    let mut feeds = memchr_iter(b'\n', bytes);
+    'feeds: while let Some(_) = feeds.next() {
+        count += 1;
+    }
+    count
 }
 
 /// The line of a place. A place past the end counts as the end.

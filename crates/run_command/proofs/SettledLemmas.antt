@@ -35,7 +35,7 @@ use Rattle.run_command.proofs.FoundLemmas.{asked-once, count_is, input-graph, in
 use Rattle.run_command.proofs.StopLemmas.{all_of, up_without}
 
 -- the least score of a text leaves the crates that are looked at
-include_at : (threshold : Option ℤ) (policy : ValidConfig) → include_of (at_threshold threshold policy) ≡ include_of policy
+pub include_at : (threshold : Option ℤ) (policy : ValidConfig) → include_of (at_threshold threshold policy) ≡ include_of policy
 include_at None policy = refl
 include_at (Some threshold) policy = refl
 

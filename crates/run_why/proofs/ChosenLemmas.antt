@@ -1,5 +1,5 @@
 -- What is known of metadata, and the crates that are chosen of it.
-use Rattle.std.proofs.Common.{◌≡◌, ◌∙◌, refl, sym, ap, subst, ℕ, ℤ, List, [], length, Option, Some, None}
+use Rattle.std.proofs.Common.{◌≡◌, ◌∙◌, refl, sym, ap, subst, ℕ, List, [], length, Option, Some, None}
 use Rattle.std.proofs.lemmas.List.{length-map}
 use Rattle.diag_core.specs.File.{File}
 use Rattle.graph_core.specs.Krate.{CrateRecord}
@@ -15,7 +15,6 @@ use Rattle.graph_core.proofs.selection.SelectedLemmas.{selected-lists}
 use Rattle.graph_walk.specs.Shortest.{kind_left_out}
 use Rattle.graph_walk.specs.Unchecked.{AreSelecting}
 use Rattle.graph_workspace.specs.declared.error.KratesError.TheVariants as krates
-use Rattle.policy_core.specs.declared.valid.policy.ValidConfig.{ValidConfig}
 use Rattle.gather_core.specs.Calls.{ReadsOfCrate}
 use Rattle.gather_core.specs.Gathered.{include_of}
 use Rattle.check_why.specs.Answer.{title_of}
@@ -29,11 +28,12 @@ use Rattle.run_found.proofs.ByteLemmas.{bytes_of_found, bytes_of_graph}
 use Rattle.run_command.specs.declared.crates.CratesFound.{CratesFound}
 use Rattle.run_command.specs.declared.crates.MetadataFound.{MetadataFound}
 use Rattle.run_command.specs.Crates.{ChoosesCrates, HasCrates, HasMetadata, hearing_up_to}
-use Rattle.run_command.specs.Found.{at_threshold, choice_in}
+use Rattle.run_command.specs.Found.{choice_in}
 use Rattle.run_command.specs.Given.{CommandArguments}
 use Rattle.run_command.specs.Settled.{HearsSo}
 use Rattle.run_command.specs.Stops.{Asks, Stops}
 use Rattle.run_command.proofs.MetadataLemmas.{crates_refused}
+use Rattle.run_command.proofs.SettledLemmas.{include_at}
 use Rattle.run_why.specs.declared.graph.GraphTold.{GraphTold}
 use Rattle.run_why.specs.Given.{WhyArguments}
 use Rattle.run_why.specs.Named.{first_unknown}
@@ -61,10 +61,6 @@ whole_of words asked include told is =
     }
 
 -- ---- the crates are chosen
-
-include_at : (threshold : Option ℤ) (policy : ValidConfig) → include_of (at_threshold threshold policy) ≡ include_of policy
-include_at None policy = refl
-include_at (Some threshold) policy = refl
 
 module _ (given : CommandArguments) where
   -- memory was wanting once the metadata was read
