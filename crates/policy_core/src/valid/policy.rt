@@ -80,6 +80,14 @@ pub struct ValidConfig {
     pub include_build: bool,
 }
 
+impl HasSpec for ValidClarification {
+    ghost spec_of = { λ clarification. clarification.spec };
+
+    fn spec(&self) -> &PackageSpec {
+        &self.spec
+    }
+}
+
 impl HasSpec for ValidException {
     ghost spec_of = { λ exception. exception.spec };
 
