@@ -1,9 +1,11 @@
 -- What does not hold by what the check has kept is what does not hold by what is read of the files: one of which nothing
 -- is kept was not read, so nothing is there.
-use Rattle.std.proofs.Common.{◌≡◌, ◌∙◌, ℕ, Bool, true, false, ◌&&◌, not, cond, List, [], ◌∷◌, ◌++◌, map, filter, Option, Some, None, option_map, refl, sym, ap, ap₂}
-use Rattle.std.specs.Prelude.{find}
+use Rattle.std.proofs.Common.{◌≡◌, ◌∙◌, ℕ, suc, ◌+◌, ◌<◌, Bool, true, false, ◌&&◌, not, cond, List, [], ◌∷◌, ◌++◌, append_assoc, length, length-append, map, filter, Option, Some, None, option_map, refl, sym, ap, ap₂, arith}
+use Rattle.std.specs.Prelude.{find, slice_get}
 use Rattle.std.specs.List.{cons_option, flat_map}
-use Rattle.std.specs.Option.{option_map_or, option_to_list}
+use Rattle.std.specs.Option.{option_map_or}
+use Rattle.std.proofs.Math.Seq.{get_or-append_seam}
+use Rattle.std.proofs.lemmas.Option.{slice_get-get_or}
 use Rattle.deny_text.specs.Path.{components_of}
 use Rattle.tree_core.specs.declared.reads.ReadKind.TheVariants.{LicenseFile}
 use Rattle.tree_core.specs.file_reads.Heard.{ReadResult, failed, absent, wrong_kind, not_utf8, text, entries, is_kind, is_read}
@@ -11,7 +13,9 @@ use Rattle.tree_core.specs.file_reads.Read.{AnsweredRead, first_heard, read_hear
 use Rattle.graph_core.specs.Krate.{CrateRecord}
 use Rattle.diag_core.specs.File.{File}
 use Rattle.policy_parts.specs.declared.file_source.FileSource.{FileSource}
+use Rattle.policy_parts.specs.spec.Index.{matching_places, places_from}
 use Rattle.policy_parts.specs.spec.Matching.{spec_matches}
+use Rattle.policy_parts.specs.spec.Spec.{Spec}
 use Rattle.policy_core.specs.declared.valid.policy.ValidClarification.{ValidClarification}
 use Rattle.policy_core.specs.declared.valid.policy.ValidConfig.{ValidConfig}
 use Rattle.policy_core.specs.declared.valid.policy.ValidException.{ValidException}
@@ -28,8 +32,8 @@ use Rattle.gather_core.specs.Exceptions.{named_of}
 use Rattle.check_why.specs.declared.answer.UnmetAnswer.{UnmetAnswer}
 use Rattle.check_why.specs.declared.answer.Unmatched.{Unmatched}
 use Rattle.check_why.specs.declared.answer.Unmatched.TheVariants as by
-use Rattle.check_why.specs.declared.unmet.Tried.TheVariants.{Passed}
-use Rattle.check_why.specs.Kept.{clarifications_unmet, exception_unmet, exceptions_unmet, file_unmatched, first_by, first_unmatched, kept_at, text_unmatched, tried_by, unmet_answers, unmet_at, unmet_by, unmet_then, unmet_until}
+use Rattle.check_why.specs.Indexes.{exception_specs}
+use Rattle.check_why.specs.Kept.{clarifications_unmet, exception_unmet, exceptions_unmet, file_unmatched, first_by, first_unmatched, kept_at, said_at, text_unmatched, unmet_answers, unmet_at, unmet_by, until_holds}
 use Rattle.check_why.specs.Unmet as unmet
 use Rattle.check_why.specs.Unmet.{AskingFiles, clarification_files, exception_files, unmatched_by, unmet_of}
 
@@ -65,6 +69,44 @@ none_heard path (read ∷ reads) e =
           (first_heard (is_read LicenseFile (components_of path)) reads) others none
       | false ↦ λ none. others none
     ] e
+
+-- ---- what is at places
+
+-- the item behind a front
+behind_front : {A : Type 0} (all front : List A) (x : A) (rest : List A) (n : ℕ) → all ≡ front ++ x ∷ rest → n ≡ length front → slice_get all n ≡ Some x
+behind_front all front x rest n is counted =
+    let inside : length front < length (front ++ x ∷ rest) = omega (arith, length-append front (x ∷ rest)) in
+    ap (λ (items : List _). slice_get items n) is ∙ ap (slice_get (front ++ x ∷ rest)) counted
+    ∙ slice_get-get_or (front ++ x ∷ rest) (length front) x inside ∙ ap Some (get_or-append_seam front x rest x)
+
+-- what is said of items, in order
+abbrev said_of : {A : Type 0} → (Option UnmetAnswer → List UnmetAnswer → List UnmetAnswer) → (A → Option UnmetAnswer) → List A → List UnmetAnswer
+said_of put tried [] = []
+said_of put tried (x ∷ xs) = put (tried x) (said_of put tried xs)
+
+module _ {A : Type 0} (spec_of : A → Spec) (krate : CrateRecord) (put : Option UnmetAnswer → List UnmetAnswer → List UnmetAnswer) (tried : A → Option UnmetAnswer) where
+  abbrev is_for : A → Bool
+  is_for x = spec_matches (spec_of x) krate
+
+  abbrev tried_at : List A → ℕ → Option UnmetAnswer
+  tried_at all place = option_map_or tried (slice_get all place) None
+
+  -- at the places of the items that are for a crate what is said of these
+  said_behind : (all front rest : List A) (n : ℕ) → all ≡ front ++ rest → n ≡ length front
+      → said_at put (tried_at all) (places_from n (λ spec. spec_matches spec krate) (map spec_of rest)) ≡ said_of put tried (filter is_for rest)
+  said_behind all front [] n is counted = refl
+  said_behind all front (x ∷ rest) n is counted =
+      let more : suc n ≡ length (front ++ x ∷ []) = omega (arith, counted, length-append front (x ∷ [])) in
+      let next = said_behind all (front ++ x ∷ []) rest (suc n) (is ∙ sym (append_assoc front (x ∷ []) rest)) more in
+      let here : tried_at all n ≡ tried x = ap (λ (found : Option A). option_map_or tried found None) (behind_front all front x rest n is counted) in
+      let places = places_from (suc n) (λ spec. spec_matches spec krate) (map spec_of rest) in
+      elim (is_for x) as (λ b. said_at put (tried_at all) (cond b (n ∷ places) places) ≡ said_of put tried (cond b (x ∷ filter is_for rest) (filter is_for rest))) [
+        | true ↦ ap₂ put here next
+        | false ↦ next
+      ]
+
+  said_matching : (all : List A) → said_at put (tried_at all) (matching_places (map spec_of all) krate) ≡ said_of put tried (filter is_for all)
+  said_matching all = said_behind all [] all 0 refl refl
 
 -- ---- one file
 
@@ -123,62 +165,65 @@ module _ (scanner : Scanner) (all : List AnsweredRead) where
   said one sources =
       option_map_or (λ (named : NamedFileView). unmet.unmet_by known_reads one named ∷ []) (unmet.first_unmatched known_reads (map named_of sources)) []
 
-  said_same : (one : AskingFiles) (sources : List FileSource) → option_to_list (unmet_by kept one sources) ≡ said one sources
-  said_same one [] = refl
-  said_same one (named ∷ sources) =
-      ap (λ (reason : Option Unmatched). option_to_list (option_map (unmet_at one) (first_by named reason (first_unmatched kept sources)))) (file_same named)
+  -- in front of what is said behind it
+  said_same : (one : AskingFiles) (sources : List FileSource) (rest more : List UnmetAnswer) → rest ≡ more → cons_option (unmet_by kept one sources) rest ≡ said one sources ++ more
+  said_same one [] rest more same = same
+  said_same one (named ∷ sources) rest more same =
+      ap (λ (reason : Option Unmatched). cons_option (option_map (unmet_at one) (first_by named reason (first_unmatched kept sources))) rest) (file_same named)
       ∙ elim (matches known_reads (named_of named))
-      as (λ b. option_to_list (option_map (unmet_at one) (first_by named (cond b None (Some (why_not named))) (first_unmatched kept sources)))
-      ≡ option_map_or (λ (named : NamedFileView). unmet.unmet_by known_reads one named ∷ []) (cond (not b) (Some (named_of named)) (unmet.first_unmatched known_reads (map named_of sources))) []) [
-        | true ↦ said_same one sources
-        | false ↦ refl
+      as (λ b. cons_option (option_map (unmet_at one) (first_by named (cond b None (Some (why_not named))) (first_unmatched kept sources))) rest
+      ≡ option_map_or (λ (named : NamedFileView). unmet.unmet_by known_reads one named ∷ []) (cond (not b) (Some (named_of named)) (unmet.first_unmatched known_reads (map named_of sources))) [] ++ more) [
+        | true ↦ said_same one sources rest more same
+        | false ↦ ap (λ (answers : List UnmetAnswer). unmet.unmet_by known_reads one (named_of named) ∷ answers) same
       ]
 
   -- up to the first that holds
-  tried_same : (one : AskingFiles) (sources : List FileSource) (rest more : List UnmetAnswer) → rest ≡ more
-      → unmet_then (tried_by (unmet_by kept one sources)) rest ≡ cond (holds known_reads (map named_of sources)) [] (said one sources ++ more)
-  tried_same one [] rest more same = refl
-  tried_same one (named ∷ sources) rest more same =
-      ap (λ (reason : Option Unmatched). unmet_then (tried_by (option_map (unmet_at one) (first_by named reason (first_unmatched kept sources)))) rest) (file_same named)
+  until_same : (one : AskingFiles) (sources : List FileSource) (rest more : List UnmetAnswer) → rest ≡ more
+      → until_holds (unmet_by kept one sources) rest ≡ cond (holds known_reads (map named_of sources)) [] (said one sources ++ more)
+  until_same one [] rest more same = refl
+  until_same one (named ∷ sources) rest more same =
+      ap (λ (reason : Option Unmatched). until_holds (option_map (unmet_at one) (first_by named reason (first_unmatched kept sources))) rest) (file_same named)
       ∙ elim (matches known_reads (named_of named))
-      as (λ b. unmet_then (tried_by (option_map (unmet_at one) (first_by named (cond b None (Some (why_not named))) (first_unmatched kept sources)))) rest
+      as (λ b. until_holds (option_map (unmet_at one) (first_by named (cond b None (Some (why_not named))) (first_unmatched kept sources))) rest
       ≡ cond (b && holds known_reads (map named_of sources)) []
       (option_map_or (λ (named : NamedFileView). unmet.unmet_by known_reads one named ∷ []) (cond (not b) (Some (named_of named)) (unmet.first_unmatched known_reads (map named_of sources))) [] ++ more)) [
-        | true ↦ tried_same one sources rest more same
+        | true ↦ until_same one sources rest more same
         | false ↦ ap (λ (answers : List UnmetAnswer). unmet.unmet_by known_reads one (named_of named) ∷ answers) same
       ]
 
   -- ---- all of them
 
   module _ (files : List File) (krate : CrateRecord) where
-    until_same : (ones : List ValidClarification)
-        → unmet_until files krate kept ones ≡ unmet.unmet_until known_reads (map (clarification_files files) (filter (λ (one : ValidClarification). spec_matches one.spec krate) ones))
-    until_same [] = refl
-    until_same (one ∷ ones) =
-        elim (spec_matches one.spec krate)
-        as (λ b. unmet_then (cond b (tried_by (unmet_by kept (clarification_files files one) one.license_files)) Passed) (unmet_until files krate kept ones)
-        ≡ unmet.unmet_until known_reads
-        (map (clarification_files files) (cond b (one ∷ filter (λ (one : ValidClarification). spec_matches one.spec krate) ones) (filter (λ (one : ValidClarification). spec_matches one.spec krate) ones)))) [
-          | true ↦
-              tried_same (clarification_files files one) one.license_files (unmet_until files krate kept ones)
-              (unmet.unmet_until known_reads (map (clarification_files files) (filter (λ (one : ValidClarification). spec_matches one.spec krate) ones))) (until_same ones)
-          | false ↦ until_same ones
-        ]
+    each_until : (ones : List ValidClarification)
+        → said_of until_holds (λ (one : ValidClarification). unmet_by kept (clarification_files files one) one.license_files) ones ≡ unmet.unmet_until known_reads (map (clarification_files files) ones)
+    each_until [] = refl
+    each_until (one ∷ ones) =
+        until_same (clarification_files files one) one.license_files (said_of until_holds (λ (one : ValidClarification). unmet_by kept (clarification_files files one) one.license_files) ones)
+        (unmet.unmet_until known_reads (map (clarification_files files) ones)) (each_until ones)
 
-    each_same : (ones : List ValidException)
-        → flat_map (exception_unmet files krate kept) ones ≡ flat_map (λ (one : ValidException). unmet_of known_reads (exception_files files one)) (filter (λ (one : ValidException). spec_matches one.spec krate) ones)
-    each_same [] = refl
-    each_same (one ∷ ones) =
-        elim (spec_matches one.spec krate)
-        as (λ b. cond b (option_to_list (unmet_by kept (exception_files files one) one.license_files)) [] ++ flat_map (exception_unmet files krate kept) ones
-        ≡ flat_map (λ (one : ValidException). unmet_of known_reads (exception_files files one))
-        (cond b (one ∷ filter (λ (one : ValidException). spec_matches one.spec krate) ones) (filter (λ (one : ValidException). spec_matches one.spec krate) ones))) [
-          | true ↦ ap₂ (λ (front back : List UnmetAnswer). front ++ back) (said_same (exception_files files one) one.license_files) (each_same ones)
-          | false ↦ each_same ones
+    each_said : (ones : List ValidException)
+        → said_of cons_option (λ (one : ValidException). unmet_by kept (exception_files files one) one.license_files) ones ≡ flat_map (λ (one : ValidException). unmet_of known_reads (exception_files files one)) ones
+    each_said [] = refl
+    each_said (one ∷ ones) =
+        said_same (exception_files files one) one.license_files (said_of cons_option (λ (one : ValidException). unmet_by kept (exception_files files one) one.license_files) ones)
+        (flat_map (λ (one : ValidException). unmet_of known_reads (exception_files files one)) ones) (each_said ones)
+
+    clarifications_same : (policy : ValidConfig) → clarifications_unmet files policy krate kept ≡ unmet.clarifications_unmet files policy krate known_reads
+    clarifications_same policy =
+        said_matching (λ (one : ValidClarification). one.spec) krate until_holds (λ (one : ValidClarification). unmet_by kept (clarification_files files one) one.license_files) policy.clarifications
+        ∙ each_until (filter (λ (one : ValidClarification). spec_matches one.spec krate) policy.clarifications)
+
+    exceptions_same : (policy : ValidConfig) → exceptions_unmet files policy krate kept ≡ unmet.exceptions_unmet files policy krate known_reads
+    exceptions_same policy =
+        elim (is_version_3 policy.version)
+        as (λ b. said_at cons_option (exception_unmet files policy kept) (cond b (matching_places (exception_specs policy.exceptions) krate) [])
+        ≡ cond b (flat_map (λ (one : ValidException). unmet_of known_reads (exception_files files one)) (filter (λ (one : ValidException). spec_matches one.spec krate) policy.exceptions)) []) [
+          | true ↦
+              said_matching (λ (one : ValidException). one.spec) krate cons_option (λ (one : ValidException). unmet_by kept (exception_files files one) one.license_files) policy.exceptions
+              ∙ each_said (filter (λ (one : ValidException). spec_matches one.spec krate) policy.exceptions)
+          | false ↦ refl
         ]
 
     -- by what is kept of the files that were read as by what was read of them
     pub unmet_same : (policy : ValidConfig) → unmet_answers files policy krate kept ≡ unmet.unmet_answers files policy krate known_reads
-    unmet_same policy =
-        ap₂ (λ (front back : List UnmetAnswer). front ++ back) (until_same policy.clarifications)
-        (ap (λ (answers : List UnmetAnswer). cond (is_version_3 policy.version) answers []) (each_same policy.exceptions))
+    unmet_same policy = ap₂ (λ (front back : List UnmetAnswer). front ++ back) (clarifications_same policy) (exceptions_same policy)

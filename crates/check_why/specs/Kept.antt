@@ -1,8 +1,8 @@
 -- What came of reads, and what does not hold, by what the check has kept of a crate's licence files.
-use Rattle.std.specs.Prelude.{ℕ, ◌==◌, List, [], ◌∷◌, ◌++◌, find, Option, Some, None, option_map, if◌then◌else◌}
-use Rattle.std.specs.Prelude.{Result, Ok, Err}
-use Rattle.std.specs.List.{flat_map}
-use Rattle.std.specs.Option.{option_map_or, option_to_list}
+use Rattle.std.specs.Prelude.{ℕ, ◌==◌, List, [], ◌∷◌, ◌++◌, find, slice_get, if◌then◌else◌}
+use Rattle.std.specs.Prelude.{Option, Some, None, option_map, Result, Ok, Err}
+use Rattle.std.specs.List.{cons_option}
+use Rattle.std.specs.Option.{option_map_or}
 use Rattle.tree_core.specs.declared.file_reads.bad_read.BadRead.{BadRead}
 use Rattle.tree_core.specs.declared.file_reads.bad_read.BadRead.TheVariants as bad
 use Rattle.tree_core.specs.declared.reads.ReadAnswer.{ReadAnswer as Answer}
@@ -13,7 +13,7 @@ use Rattle.tree_core.specs.declared.reads.ReadRecord.{ReadRecord}
 use Rattle.graph_core.specs.Krate.{CrateRecord}
 use Rattle.diag_core.specs.File.{File}
 use Rattle.policy_parts.specs.declared.file_source.FileSource.{FileSource}
-use Rattle.policy_parts.specs.spec.Matching.{spec_matches}
+use Rattle.policy_parts.specs.spec.Index.{matching_places}
 use Rattle.policy_core.specs.declared.valid.policy.ValidClarification.{ValidClarification}
 use Rattle.policy_core.specs.declared.valid.policy.ValidConfig.{ValidConfig}
 use Rattle.policy_core.specs.declared.valid.policy.ValidException.{ValidException}
@@ -27,8 +27,7 @@ use Rattle.check_why.specs.declared.answer.ReadSaid.TheVariants as said
 use Rattle.check_why.specs.declared.answer.UnmetAnswer.{UnmetAnswer}
 use Rattle.check_why.specs.declared.answer.Unmatched.{Unmatched}
 use Rattle.check_why.specs.declared.answer.Unmatched.TheVariants as by
-use Rattle.check_why.specs.declared.unmet.Tried.{Tried}
-use Rattle.check_why.specs.declared.unmet.Tried.TheVariants.{Passed, Holds, Unmet}
+use Rattle.check_why.specs.Indexes.{clarification_specs, exception_specs}
 use Rattle.check_why.specs.Reads.{named_said, wrong_said}
 use Rattle.check_why.specs.Unmet.{AskingFiles, clarification_files, exception_files}
 
@@ -119,38 +118,41 @@ unmet_at one found =
 abbrev pub unmet_by : List KeptFile → AskingFiles → List FileSource → Option UnmetAnswer
 unmet_by kept one files = option_map (unmet_at one) (first_unmatched kept files)
 
--- what is said of a clarification, in the order in which they are tried
-abbrev pub tried_by : Option UnmetAnswer → Tried
-tried_by None = Holds
-tried_by (Some unmet) = Unmet unmet
+-- what is said of the clarification at a place; none where it holds
+abbrev pub clarification_unmet : List File → ValidConfig → List KeptFile → ℕ → Option UnmetAnswer
+clarification_unmet files policy kept place =
+    option_map_or (λ (one : ValidClarification). unmet_by kept (clarification_files files one) one.license_files)
+    (slice_get policy.clarifications place) None
 
-abbrev pub clarification_tried : List File → CrateRecord → List KeptFile → ValidClarification → Tried
-clarification_tried files krate kept one =
-    if spec_matches one.spec krate then tried_by (unmet_by kept (clarification_files files one) one.license_files)
-    else Passed
+abbrev pub exception_unmet : List File → ValidConfig → List KeptFile → ℕ → Option UnmetAnswer
+exception_unmet files policy kept place =
+    option_map_or (λ (one : ValidException). unmet_by kept (exception_files files one) one.license_files)
+    (slice_get policy.exceptions place) None
+
+-- what is said at places, in order, each put before what is said behind it
+abbrev pub said_at : (Option UnmetAnswer → List UnmetAnswer → List UnmetAnswer) → (ℕ → Option UnmetAnswer) → List ℕ
+    → List UnmetAnswer
+said_at put tried [] = []
+said_at put tried (place ∷ places) = put (tried place) (said_at put tried places)
 
 -- up to the first that holds
-abbrev pub unmet_then : Tried → List UnmetAnswer → List UnmetAnswer
-unmet_then Passed rest = rest
-unmet_then Holds rest = []
-unmet_then (Unmet unmet) rest = unmet ∷ rest
-
-abbrev pub unmet_until : List File → CrateRecord → List KeptFile → List ValidClarification → List UnmetAnswer
-unmet_until files krate kept [] = []
-unmet_until files krate kept (one ∷ more) =
-    unmet_then (clarification_tried files krate kept one) (unmet_until files krate kept more)
+abbrev pub until_holds : Option UnmetAnswer → List UnmetAnswer → List UnmetAnswer
+until_holds None rest = []
+until_holds (Some unmet) rest = unmet ∷ rest
 
 abbrev pub clarifications_unmet : List File → ValidConfig → CrateRecord → List KeptFile → List UnmetAnswer
-clarifications_unmet files policy krate kept = unmet_until files krate kept policy.clarifications
+clarifications_unmet files policy krate kept =
+    said_at until_holds (clarification_unmet files policy kept)
+    (matching_places (clarification_specs policy.clarifications) krate)
 
-abbrev pub exception_unmet : List File → CrateRecord → List KeptFile → ValidException → List UnmetAnswer
-exception_unmet files krate kept one =
-    if spec_matches one.spec krate then option_to_list (unmet_by kept (exception_files files one) one.license_files)
-    else []
+-- the places of the exceptions that are for a crate, where their files are looked at
+abbrev pub exceptions_for : ValidConfig → CrateRecord → List ℕ
+exceptions_for policy krate =
+    if is_version_3 policy.version then matching_places (exception_specs policy.exceptions) krate else []
 
 abbrev pub exceptions_unmet : List File → ValidConfig → CrateRecord → List KeptFile → List UnmetAnswer
 exceptions_unmet files policy krate kept =
-    if is_version_3 policy.version then flat_map (exception_unmet files krate kept) policy.exceptions else []
+    said_at cons_option (exception_unmet files policy kept) (exceptions_for policy krate)
 
 abbrev pub unmet_answers : List File → ValidConfig → CrateRecord → List KeptFile → List UnmetAnswer
 unmet_answers files policy krate kept =

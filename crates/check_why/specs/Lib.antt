@@ -5,6 +5,7 @@ pub mod Answer
 pub mod Distinct
 pub mod Lines
 pub mod Object
+pub mod Indexes
 pub mod Kept
 pub mod Made
 pub mod Laws

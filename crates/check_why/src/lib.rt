@@ -8,6 +8,7 @@ mod lines;
 pub mod making;
 mod object;
 mod places;
+pub mod policy_index;
 mod reads;
 mod unmet;
 
@@ -16,5 +17,6 @@ pub use answer::{
     TermAnswer, TermAnswers, TermHit, Unmatched, UnmetAnswer, UnmetAnswers, VerdictAnswer,
 };
 pub use lines::{push_lines, push_unchecked_lines};
-pub use making::{answer_of, entry_index, title_of};
+pub use making::{answer_of, title_of};
 pub use object::{push_object, push_unchecked_object};
+pub use policy_index::PolicyIndex;

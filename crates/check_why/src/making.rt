@@ -3,6 +3,7 @@ ghost use Rattle.std.specs.Prelude.{◌≡◌, ◌<◌, ◌++◌, ◌∷◌, [],
 ghost use Rattle.graph_core.specs.Krate.{record_of};
 ghost use Rattle.policy_core.specs.Places.{PolicyStands};
 ghost use Rattle.check_why.specs.Answer.{failing, title_of};
+ghost use Rattle.check_why.specs.Indexes.{IndexesPolicy};
 ghost use Rattle.check_why.specs.Made as spec;
 ghost use Rattle.check_why.specs.Made.{IsReportInside};
 ghost use Rattle.policy_core.specs.valid.View.{policy_of};
@@ -12,6 +13,7 @@ use crate::answer::{
     CrateAnswer, CrateTitle, CrateTitles, LicenseAnswer, TermAnswers, VerdictAnswer,
 };
 use crate::places::{begin_of, hits_of, place_at, term_answers};
+use crate::policy_index::PolicyIndex;
 use crate::reads::read_answers;
 use crate::unmet::unmet_answers;
 use check_core::evaluate::{EntryIndex, Verdict};
@@ -170,13 +172,6 @@ fn terms_for(
     }
 }
 
-/// Where the entries of each licence family are in a policy, which is the same for all crates.
-pub fn entry_index(alloc: Global, policy: &ValidConfig) -> Result<EntryIndex, AllocError>
-    ensures { IfOk result (λ index. index ≡ entry_families (policy_of policy.now)) }
-{
-    EntryIndex::of(alloc, &CountedPolicy::<Brand>::of(policy))
-}
-
 fn hits_by_ledger<L: Ledger>(
     ledger: Blank,
     alloc: Global,
@@ -209,13 +204,13 @@ fn hits_by_ledger<L: Ledger>(
 fn hits_for(
     alloc: Global,
     policy: &ValidConfig,
-    index: &EntryIndex,
+    index: &PolicyIndex,
     report: &CrateReport,
 ) -> Result<Vec<Option<Hit>>, AllocError>
-    requires { entry_families (policy_of policy.now) ≡ index.now }
+    requires { IndexesPolicy policy.now index.now }
     ensures { IfOk result (λ hits. hits.items ≡ spec.hits_for policy.now report.now) }
 {
-    hits_by_ledger::<Brand>(Blank::new(1), alloc, policy, index, report)
+    hits_by_ledger::<Brand>(Blank::new(1), alloc, policy, &index.entries, report)
 }
 
 /// What is said of a crate that is checked: by the policy and the report of the check, with the table of files that the
@@ -224,12 +219,12 @@ pub fn answer_of(
     alloc: Global,
     files: &Files,
     policy: &ValidConfig,
-    index: &EntryIndex,
+    index: &PolicyIndex,
     krate: &Krate,
     report: &CrateReport,
     needed_by: CrateTitles,
 ) -> Result<CrateAnswer, AllocError>
-    requires index { entry_families (policy_of policy.now) ≡ index.now }
+    requires index { IndexesPolicy policy.now index.now }
     requires policy { PolicyStands files.now policy.now }
     requires report { IsReportInside files.now report.now }
     ensures { IfOk result (λ answer.
@@ -244,7 +239,7 @@ pub fn answer_of(
         terms: terms_for(alloc, files, policy, report, &hits)?,
         needed_by,
         reads: read_answers(alloc, report.reads.items(), kept)?,
-        unmet: unmet_answers(alloc, files, policy, krate, kept)?,
+        unmet: unmet_answers(alloc, files, policy, index, krate, kept)?,
         notes: copies(alloc, report.notes.items())?,
     })
 }

@@ -1,21 +1,25 @@
 //! The clarifications and exceptions that are for a crate and do not hold.
 ghost use Rattle.std.specs.Prelude.{◌≡◌, ◌++◌, IfOk, OnOk, map, option_copied, option_map};
-ghost use Rattle.std.specs.Option.{option_to_list};
+ghost use Rattle.std.specs.List.{cons_option};
 ghost use Rattle.graph_core.specs.Krate.{record_of};
+ghost use Rattle.policy_parts.specs.spec.Index.{spec_numbers};
 ghost use Rattle.policy_core.specs.Places.{PolicyStands};
+ghost use Rattle.check_why.specs.Indexes.{IndexesPolicy, exception_specs};
 ghost use Rattle.check_why.specs.Kept as spec;
+ghost use Rattle.check_why.specs.Kept.{said_at, until_holds};
 ghost use Rattle.check_why.specs.Place.{PlaceIsInside};
 ghost use Rattle.check_why.specs.Unmet.{asking_files};
 
 use crate::answer::{Asking, Unmatched, UnmetAnswer, UnmetAnswers};
 use crate::places::place_at;
+use crate::policy_index::PolicyIndex;
 use deny_text::{PathBuf, Span};
 use diag_core::{FileId, Files};
 use gather_license::{KeptFile, TextKept};
 use graph_core::Krate;
-use policy_core::valid::{ValidClarification, ValidConfig, ValidException, is_version_3};
+use policy_core::valid::{ValidConfig, is_version_3};
 use policy_parts::FileSource;
-use policy_parts::spec::match_krate;
+use policy_parts::spec::{Places, SpecIndex};
 use std::alloc::{AllocError, Global};
 use tree_core::file_reads::BadRead;
 
@@ -102,100 +106,72 @@ fn unmet_of(
     }
 }
 
-/// What is said of a clarification, in the order in which they are tried.
-#[derive(Drop)]
-enum Tried {
-    /// It is for other crates.
-    Passed,
-    /// It holds, and none behind it is looked at.
-    Holds,
-    Unmet(UnmetAnswer),
-}
-
-fn clarification_tried(
+/// What is said of the clarification at a place; none where it holds.
+fn clarification_unmet(
     alloc: Global,
     files: &Files,
-    one: &ValidClarification,
-    krate: &Krate,
+    policy: &ValidConfig,
+    place: usize,
     kept: &[KeptFile],
-) -> Result<Tried, AllocError>
-    requires { PlaceIsInside files.now one.now.file_id one.now.spec.span }
-    ensures { IfOk result (λ told. told
-        ≡ spec.clarification_tried files.now (record_of krate.now) kept.now one.now) }
+) -> Result<Option<UnmetAnswer>, AllocError>
+    requires { PolicyStands files.now policy.now }
+    ensures { IfOk result (λ unmet.
+        unmet ≡ spec.clarification_unmet files.now policy.now kept.now place) }
 {
-    if !match_krate(krate, &one.spec) {
-        return Ok(Tried::Passed);
-    }
-    let span = one.spec.name.span;
-    let sources = one.license_files.items();
-    let unmet = unmet_of(
-        alloc,
-        files,
-        Asking::Clarification,
-        one.file_id,
-        span,
-        sources,
-        kept,
-    )?;
-    match unmet {
-        Some(told) => Ok(Tried::Unmet(told)),
-        None => Ok(Tried::Holds),
+    match policy.clarifications.items().get(place) {
+        Some(one) => {
+            let span = one.spec.name.span;
+            let sources = one.license_files.items();
+            let asking = Asking::Clarification;
+            unmet_of(alloc, files, asking, one.file_id, span, sources, kept)
+        }
+        None => Ok(None),
     }
 }
 
-/// Of the clarifications that are for a crate those before the first that holds.
+/// Of the clarifications at some places those before the first that holds.
 fn push_clarifications(
     alloc: Global,
     unmet: &mut UnmetAnswers,
     files: &Files,
     policy: &ValidConfig,
-    krate: &Krate,
+    places: &[usize],
     kept: &[KeptFile],
 ) -> Result<(), AllocError>
     requires { PolicyStands files.now policy.now }
     ensures { OnOk result (unmet.new ≡ unmet.old
-        ++ spec.clarifications_unmet files.now policy.now (record_of krate.now) kept.now) }
+        ++ said_at until_holds (spec.clarification_unmet files.now policy.now kept.now) places.now) }
 {
-    'all: for one in policy.clarifications.items() {
-        match clarification_tried(alloc, files, one, krate, kept)? {
-            Tried::Passed => {}
-            Tried::Holds => return Ok(()),
-            Tried::Unmet(told) => unmet.push(told)?,
+    'places: for place in places {
+        match clarification_unmet(alloc, files, policy, *place, kept)? {
+            Some(told) => unmet.push(told)?,
+            None => return Ok(()),
         }
     }
     Ok(())
 }
 
-/// Appends what is said of an exception that is for a crate and does not hold.
-fn push_exception(
+/// What is said of the exception at a place; none where its files are as they have to be.
+fn exception_unmet(
     alloc: Global,
-    unmet: &mut UnmetAnswers,
     files: &Files,
-    one: &ValidException,
-    krate: &Krate,
+    policy: &ValidConfig,
+    place: usize,
     kept: &[KeptFile],
-) -> Result<(), AllocError>
-    requires { PlaceIsInside files.now one.now.file_id one.now.spec.span }
-    ensures { OnOk result (unmet.new ≡ unmet.old
-        ++ spec.exception_unmet files.now (record_of krate.now) kept.now one.now) }
+) -> Result<Option<UnmetAnswer>, AllocError>
+    requires { PolicyStands files.now policy.now }
+    ensures { IfOk result (λ unmet.
+        unmet ≡ spec.exception_unmet files.now policy.now kept.now place) }
 {
-    if match_krate(krate, &one.spec) {
-        let span = one.spec.name.span;
-        let sources = one.license_files.items();
-        let told = unmet_of(
-            alloc,
-            files,
-            Asking::Exception,
-            one.file_id,
-            span,
-            sources,
-            kept,
-        )?;
-        if let Some(told) = told {
-            return unmet.push(told);
+    match policy.exceptions.items().get(place) {
+        Some(one) => {
+            let span = one.spec.name.span;
+            let sources = one.license_files.items();
+            let asking = Asking::Exception;
+            unmet_of(alloc, files, asking, one.file_id, span, sources, kept)
         }
+        None => Ok(None),
     }
-    Ok(())
 }
 
 fn push_exceptions(
@@ -203,20 +179,36 @@ fn push_exceptions(
     unmet: &mut UnmetAnswers,
     files: &Files,
     policy: &ValidConfig,
-    krate: &Krate,
+    places: &[usize],
     kept: &[KeptFile],
 ) -> Result<(), AllocError>
     requires { PolicyStands files.now policy.now }
     ensures { OnOk result (unmet.new ≡ unmet.old
-        ++ spec.exceptions_unmet files.now policy.now (record_of krate.now) kept.now) }
+        ++ said_at cons_option (spec.exception_unmet files.now policy.now kept.now) places.now) }
 {
-    if !is_version_3(policy.version) {
-        return Ok(());
-    }
-    'all: for one in policy.exceptions.items() {
-        push_exception(alloc, unmet, files, one, krate, kept)?;
+    'places: for place in places {
+        if let Some(told) = exception_unmet(alloc, files, policy, *place, kept)? {
+            unmet.push(told)?;
+        }
     }
     Ok(())
+}
+
+/// The places of the exceptions that are for a crate, where their files are looked at.
+fn exceptions_for(
+    alloc: Global,
+    policy: &ValidConfig,
+    index: &SpecIndex,
+    krate: &Krate,
+) -> Result<Places, AllocError>
+    requires { spec_numbers (exception_specs policy.now.exceptions) ≡ index.now }
+    ensures { IfOk result (λ places. places ≡ spec.exceptions_for policy.now (record_of krate.now)) }
+{
+    if is_version_3(policy.version) {
+        index.matches(alloc, policy.exceptions.items(), krate)
+    } else {
+        Ok(Places::new(alloc))
+    }
 }
 
 /// What is for a crate and does not hold, by what is kept of its licence files: of clarifications those before the first
@@ -225,15 +217,20 @@ pub(crate) fn unmet_answers(
     alloc: Global,
     files: &Files,
     policy: &ValidConfig,
+    index: &PolicyIndex,
     krate: &Krate,
     kept: &[KeptFile],
 ) -> Result<UnmetAnswers, AllocError>
-    requires { PolicyStands files.now policy.now }
+    requires index { IndexesPolicy policy.now index.now }
+    requires policy { PolicyStands files.now policy.now }
     ensures { IfOk result (λ unmet.
         unmet ≡ spec.unmet_answers files.now policy.now (record_of krate.now) kept.now) }
 {
     let mut unmet = UnmetAnswers::new(alloc);
-    push_clarifications(alloc, &mut unmet, files, policy, krate, kept)?;
-    push_exceptions(alloc, &mut unmet, files, policy, krate, kept)?;
+    let clarifications = policy.clarifications.items();
+    let clarified = index.clarifications.matches(alloc, clarifications, krate)?;
+    push_clarifications(alloc, &mut unmet, files, policy, clarified.items(), kept)?;
+    let excepted = exceptions_for(alloc, policy, &index.exceptions, krate)?;
+    push_exceptions(alloc, &mut unmet, files, policy, excepted.items(), kept)?;
     Ok(unmet)
 }

@@ -23,6 +23,7 @@ use Rattle.graph_core.specs.declared.edge.DepKind.TheVariants.{Normal, Dev, Buil
 use Rattle.check_core.specs.declared.report.CrateReport.{CrateReport}
 use Rattle.check_why.specs.declared.answer.CrateTitle.{CrateTitle}
 use Rattle.check_why.specs.Answer.{title_of}
+use Rattle.check_why.specs.Indexes.{IndexesPolicy}
 use Rattle.check_why.specs.Made.{answer_by}
 use Rattle.run_context.specs.declared.gather.AskedMetadata.{AskedMetadata}
 use Rattle.run_found.specs.declared.error.Error.{Error}
@@ -35,9 +36,7 @@ use Rattle.run_command.specs.Crates.{ChoosesCrates}
 use Rattle.run_command.specs.Stops.{Stops}
 use Rattle.run_command.specs.Written.{IsWriteFault}
 use Rattle.policy_core.specs.Places.{PolicyStands}
-use Rattle.policy_core.specs.valid.View.{policy_of}
 use Rattle.gather_core.specs.Gathered.{include_of}
-use Rattle.check_core.specs.evaluate.Entries.{entry_families}
 use Rattle.check_why.specs.Made.{IsReportInside}
 use Rattle.run_check.specs.declared.judged.JudgedCrates.{JudgedCrates}
 use Rattle.run_check.specs.declared.report.Report.{Report}
@@ -192,7 +191,7 @@ pub record LieInFiles (report : Report) : Type 0 where
 
 -- what all crates are told by
 pub record CanTell (telling : Telling) : Type 0 where
-  pub index : entry_families (policy_of telling.report.now.policy) ≡ telling.index
+  pub index : IndexesPolicy telling.report.now.policy telling.index
   pub lie : LieInFiles telling.report.now
   pub whole : IsWhole telling.told.now
 

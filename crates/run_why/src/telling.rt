@@ -11,9 +11,9 @@ ghost use Rattle.run_why.specs.Why.{answer_text, because_text};
 
 use crate::graph::GraphTold;
 use check_core::CrateReport;
-use check_core::evaluate::{EntryIndex, Verdict};
+use check_core::evaluate::Verdict;
 use check_why::{
-    CrateAnswer, CrateTitle, answer_of, entry_index, push_lines, push_object, push_unchecked_lines,
+    CrateAnswer, CrateTitle, PolicyIndex, answer_of, push_lines, push_object, push_unchecked_lines,
     push_unchecked_object,
 };
 use deny_text::{Text, Texts};
@@ -75,7 +75,7 @@ struct Telling<'t> {
     has_words: bool,
     told: &'t GraphTold,
     report: &'t Report,
-    index: EntryIndex,
+    index: PolicyIndex,
 }
 
 impl<'t> Telling<'t> {
@@ -214,7 +214,7 @@ pub(crate) fn texts_told(
     ensures { IfOk result (TellsTexts format has_words told.now judged.now) }
 {
     let krates = judged.checked(alloc)?;
-    let index = entry_index(alloc, &judged.report.policy)?;
+    let index = PolicyIndex::of(alloc, &judged.report.policy)?;
     let telling = Telling {
         format,
         has_words,

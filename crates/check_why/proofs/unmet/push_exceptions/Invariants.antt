@@ -1,10 +1,10 @@
--- What was said so far.
-use Rattle.std.proofs.Common.{◌≡◌, ◌++◌, take}
-use Rattle.std.specs.List.{flat_map}
-use Rattle.graph_core.specs.Krate.{record_of}
-use Rattle.check_why.specs.Kept.{exception_unmet}
+-- What was said so far, and what is said at the places that are left, are all.
+use Rattle.std.proofs.Common.{◌≡◌, ◌++◌, drop}
+use Rattle.std.specs.List.{cons_option}
+use Rattle.check_why.specs.Kept.{exception_unmet, said_at}
 use Rattle.check_why.proofs.unmet.push_exceptions.Given as goal
 
-abbrev pub invariant-all : goal.invariant-all
-invariant-all l =
-    l.unmet ≡ l.fn.unmet ++ flat_map (exception_unmet l.files (record_of l.krate) l.kept) (take l.one-index l.policy.exceptions)
+abbrev pub invariant-places : goal.invariant-places
+invariant-places l =
+    l.unmet ++ said_at cons_option (exception_unmet l.files l.policy l.kept) (drop l.place-index l.places)
+    ≡ l.fn.unmet ++ said_at cons_option (exception_unmet l.files l.policy l.kept) l.places
