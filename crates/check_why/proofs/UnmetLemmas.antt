@@ -74,9 +74,9 @@ none_heard path (read ∷ reads) e =
 
 -- the item behind a front
 behind_front : {A : Type 0} (all front : List A) (x : A) (rest : List A) (n : ℕ) → all ≡ front ++ x ∷ rest → n ≡ length front → slice_get all n ≡ Some x
-behind_front all front x rest n is counted =
+behind_front {A} all front x rest n is counted =
     let inside : length front < length (front ++ x ∷ rest) = omega (arith, length-append front (x ∷ rest)) in
-    ap (λ (items : List _). slice_get items n) is ∙ ap (slice_get (front ++ x ∷ rest)) counted
+    ap (λ (items : List A). slice_get items n) is ∙ ap (slice_get (front ++ x ∷ rest)) counted
     ∙ slice_get-get_or (front ++ x ∷ rest) (length front) x inside ∙ ap Some (get_or-append_seam front x rest x)
 
 -- what is said of items, in order
