@@ -46,51 +46,36 @@ fn answer_request<T: Tree, O: Sink, E: Sink, C: Catalog, I: Identifier + TextLoo
 {
     match &request.command {
         Subcommand::Check(args) => {
-            match check_request(alloc, request, args, tree, out, err, catalog, identifier) {
-                Ok(report) => Ok(RunEnd::Checked(report)),
-                Err(error) => Err(error),
-            }
+            check_request(alloc, request, args, tree, out, err, catalog, identifier)
+                .map(RunEnd::Checked)
         }
         Subcommand::List(args) => {
-            match list_request(alloc, request, *args, tree, out, err, catalog, identifier) {
-                Ok(reads) => Ok(RunEnd::Listed(reads)),
-                Err(error) => Err(error),
-            }
+            list_request(alloc, request, *args, tree, out, err, catalog, identifier)
+                .map(RunEnd::Listed)
         }
-        Subcommand::Sample(size) => match sample(alloc, out, catalog, identifier, *size) {
-            Ok(report) => Ok(RunEnd::Sampled(report)),
-            Err(error) => Err(error),
-        },
+        Subcommand::Sample(size) => {
+            sample(alloc, out, catalog, identifier, *size).map(RunEnd::Sampled)
+        }
         Subcommand::Record => {
-            match record_request(alloc, request, tree, out, err, catalog, identifier) {
-                Ok(reads) => Ok(RunEnd::Recorded(reads)),
-                Err(error) => Err(error),
-            }
+            record_request(alloc, request, tree, out, err, catalog, identifier)
+                .map(RunEnd::Recorded)
         }
         Subcommand::Verify(path) => {
             let path = path.as_path();
-            match verify_request(alloc, request, path, tree, out, err, catalog, identifier) {
-                Ok(crates) => Ok(RunEnd::Verified(crates)),
-                Err(error) => Err(error),
-            }
+            verify_request(alloc, request, path, tree, out, err, catalog, identifier)
+                .map(RunEnd::Verified)
         }
         Subcommand::Bill(args) => {
-            match bill_request(alloc, request, args, tree, out, err, catalog, identifier) {
-                Ok(crates) => Ok(RunEnd::Billed(crates)),
-                Err(error) => Err(error),
-            }
+            bill_request(alloc, request, args, tree, out, err, catalog, identifier)
+                .map(RunEnd::Billed)
         }
         Subcommand::Notice => {
-            match notice_request(alloc, request, tree, out, err, catalog, identifier) {
-                Ok(crates) => Ok(RunEnd::Noticed(crates)),
-                Err(error) => Err(error),
-            }
+            notice_request(alloc, request, tree, out, err, catalog, identifier)
+                .map(RunEnd::Noticed)
         }
         Subcommand::Why(crates) => {
-            match why_request(alloc, request, crates, tree, out, err, catalog, identifier) {
-                Ok(reads) => Ok(RunEnd::Told(reads)),
-                Err(error) => Err(error),
-            }
+            why_request(alloc, request, crates, tree, out, err, catalog, identifier)
+                .map(RunEnd::Told)
         }
     }
 }
