@@ -1,8 +1,9 @@
 #!/bin/sh
 # Counts the instructions of `why` of one crate among N with a manifest each, of which the first needs two, each of these two, and so on,
 # beside those of a check that prints nothing; of `why` without a name where all are rejected, beside those of a check that prints them;
-# both over half as many; the same where each crate is a root; and of a crate whose field has N different terms, and half as many. Run it
-# in the repository, once `make build` has built the program: sh bench/whys.sh [N [PROGRAM]]. It needs valgrind.
+# both over half as many; the same where each crate is a root; where each has a clarification that does not hold, as its file is not there;
+# and of a crate whose field has N different terms, and half as many. Run it in the repository, once `make build` has built the program:
+# sh bench/whys.sh [N [PROGRAM]]. It needs valgrind.
 set -e
 size=${1:-20000}
 program=${2:-$(pwd)/crates/cargo_deny/out/cargo_deny}
@@ -10,6 +11,7 @@ work=$(mktemp -d)
 trap 'rm -rf "$work"' EXIT
 cd "$work"
 : > Cargo.toml
+: > clarify
 half=$((size / 2))
 
 # Metadata of that many crates, each with that many different terms: with `tree` each leads to two others, else all are roots.
@@ -34,9 +36,19 @@ metadata() {
         }' > metadata.json
 }
 
+# The key of a policy by which each of so many crates has a clarification.
+clarify() {
+    awk -v n="$1" 'BEGIN {
+        print "clarify = ["
+        for (i = 0; i < n; i++)
+            printf "    { crate = \"c%d\", expression = \"MIT\", license-files = [{ path = \"LICENSE\", hash = 1 }] },\n", i
+        print "]"
+    }' > clarify
+}
+
 # The instructions of a run under a policy that allows one licence; what it writes stays in the files `said` and `err`.
 count() {
-    printf '[licenses]\nallow = ["%s"]\n' "$1" > deny.toml
+    { printf '[licenses]\nallow = ["%s"]\n' "$1"; cat clarify; } > deny.toml
     shift
     valgrind --tool=callgrind --callgrind-out-file=out --log-file=counts "$program" --metadata-path metadata.json --config deny.toml "$@" \
         > said 2> err || true
@@ -73,6 +85,16 @@ for form in tree roots; do
     echo "one of check $(ratio "$one" "$check"), of half as many crates $(ratio "$one" "$half_one")"
     echo "all of check $(ratio "$all" "$printed"), of half as many crates $(ratio "$all" "$half_all")"
 done
+clarify "$half"
+metadata "$half" 1 roots
+half_all=$(count ISC why)
+clarify "$size"
+metadata "$size" 1 roots
+printed=$(count ISC check licenses)
+all=$(count ISC why)
+said_of "$size" rejected
+echo "$size crates, each clarified: why of all $all, of check that prints $(ratio "$all" "$printed"), of half as many $(ratio "$all" "$half_all")"
+: > clarify
 metadata 1 "$half" tree
 one=$(count MIT why)
 metadata 1 "$size" tree
