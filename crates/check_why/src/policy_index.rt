@@ -1,7 +1,5 @@
 //! What of a policy is found by an index.
-ghost use Rattle.std.specs.Prelude.{◌≡◌, map, IfOk};
-ghost use Rattle.policy_core.specs.valid.View.{policy_of};
-ghost use Rattle.check_core.specs.evaluate.Entries.{entry_families};
+ghost use Rattle.std.specs.Prelude.{IfOk};
 ghost use Rattle.check_why.specs.Indexes.{IndexesPolicy};
 
 use check_core::evaluate::EntryIndex;
