@@ -22,7 +22,8 @@ impl PolicyIndex {
     pub fn of(alloc: Global, policy: &ValidConfig) -> Result<PolicyIndex, AllocError>
         ensures { IfOk result (IndexesPolicy policy.now) }
     {
-        let entries = EntryIndex::of(alloc, &CountedPolicy::<Brand>::of(policy))?;
+        let counted = CountedPolicy::<Brand>::of(policy);
+        let entries = EntryIndex::of(alloc, &counted)?;
         let clarifications = SpecIndex::of(alloc, policy.clarifications.items())?;
         let exceptions = SpecIndex::of(alloc, policy.exceptions.items())?;
         Ok(PolicyIndex {
