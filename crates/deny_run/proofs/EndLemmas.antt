@@ -1,9 +1,10 @@
 -- How a run ends, by what a command answers.
 use Rattle.std.proofs.Common.{◌≡◌, ◌∙◌, ◌⊎◌, inl, inr, refl, sym, ap, subst, Result, Ok, Err, IfErr, IfOk}
-use Rattle.std.specs.Prelude.{⊤}
+use Rattle.std.specs.Prelude.{⊤, IsOkAnd, MatchResult}
 use Rattle.run_found.specs.declared.error.Error.{Error}
 use Rattle.deny_run.specs.declared.outcome.RunEnd.{RunEnd}
 use Rattle.deny_run.specs.declared.outcome.RunEnd.TheVariants.{Checked, Listed, Sampled, Recorded, Verified, Billed, Noticed, Told, Shown, Usage, Refused}
+use Rattle.run_check.specs.Report.{LabelsLie}
 use Rattle.run_check.specs.declared.report.Report.{Report}
 use Rattle.deny_run.specs.Complete.{EndsAs}
 use Rattle.deny_run.specs.Ends.{HasLabels, as_end, end_of}
@@ -111,3 +112,16 @@ answer_refused (Err own) error apart e = with_same (same_refusal e)
 pub labels_end : (answer : Result RunEnd Error) → IfOk answer HasLabels → HasLabels (end_of answer)
 labels_end (Ok ended) labels = labels
 labels_end (Err error) labels = tt
+
+-- ---- mapped
+
+-- what a value is mapped to by the end of its command is that end of it
+pub mapped : {X : Type 0} (end_by : X → RunEnd) (value : Result X Error) (answer : Result RunEnd Error)
+    → MatchResult value (λ x. IsOkAnd answer (λ ended. ended ≡ end_by x)) (λ error. answer ≡ Err error) → answer ≡ as_end end_by value
+mapped {X} end_by (Ok x) (Ok ended) is = ap Ok is
+mapped {X} end_by (Ok x) (Err error) is = absurd is
+mapped {X} end_by (Err error) answer is = is
+
+pub has_labels : (value : Result Report Error) → LabelsLie value → IfOk (as_end Checked value) HasLabels
+has_labels (Ok report) lie = lie
+has_labels (Err error) lie = tt
