@@ -1,13 +1,22 @@
 -- How a run ends, by what a command answers.
-use Rattle.std.proofs.Common.{◌≡◌, ◌∙◌, ◌⊎◌, inl, inr, refl, sym, ap, subst, Result, Ok, Err, IfErr, IfOk}
+use Rattle.std.proofs.Common.{◌≡◌, ◌∙◌, ◌⊎◌, inl, inr, refl, sym, ap, subst, ℕ, List, Result, Ok, Err, IfErr, IfOk}
 use Rattle.std.specs.Prelude.{⊤, IsOkAnd, MatchResult}
+use Rattle.tree_core.specs.declared.texts.fault.ReadFault.TheVariants.{Absent}
+use Rattle.spdx_terms.specs.catalog.Catalog.{CatalogLists}
+use Rattle.spdx_terms.specs.declared.catalog.identifier.Match.{Match}
 use Rattle.run_found.specs.declared.error.Error.{Error}
+use Rattle.run_found.specs.declared.error.Error.TheVariants.{ConfigRead}
+use Rattle.run_found.specs.Error.{cause_of}
+use Rattle.run_found.specs.Written.{SinkSeen}
+use Rattle.run_sample.specs.Sample.{IsSampleComplete, IsSampled, IsUnfailed, IsWholeSample, WritesLines}
 use Rattle.deny_run.specs.declared.outcome.RunEnd.{RunEnd}
 use Rattle.deny_run.specs.declared.outcome.RunEnd.TheVariants.{Checked, Listed, Sampled, Recorded, Verified, Billed, Noticed, Told, Shown, Usage, Refused}
 use Rattle.run_check.specs.Report.{LabelsLie}
 use Rattle.run_check.specs.declared.report.Report.{Report}
 use Rattle.deny_run.specs.Complete.{EndsAs}
 use Rattle.deny_run.specs.Ends.{HasLabels, as_end, end_of}
+use Rattle.deny_run.specs.Sample.{Samples}
+use Rattle.deny_run.specs.Seen.{IsStill}
 
 -- a value, or a refusal that may be
 abbrev pub EndsBy : {X : Type 0} → (Error → Type 0) → Result X Error → Type 0
@@ -125,3 +134,21 @@ mapped {X} end_by (Err error) answer is = is
 pub has_labels : (value : Result Report Error) → LabelsLie value → IfOk (as_end Checked value) HasLabels
 has_labels (Ok report) lie = lie
 has_labels (Err error) lie = tt
+
+-- what a sample is answered, by what is promised of it
+pub samples : (size : ℕ) (lists : CatalogLists) (match_of : List ℕ → Match) (out err : SinkSeen) (value : Result Report Error)
+    → IfOk value (IsSampled size lists match_of) → WritesLines size lists match_of out.old out.new out.before out.after value
+    → (◌≡◌ {A = Result Report Error} value (Err (ConfigRead Absent)) → ⊥) → IfErr value (λ error. IsUnfailed (cause_of error))
+    → IsSampleComplete size lists match_of value → IsWholeSample size lists value → IsStill err → Samples size lists match_of out err value
+samples size lists match_of out err (Ok report) is lines there unfailed complete whole still = record { is = is; lines = lines; still = still }
+samples size lists match_of out err (Err error) is lines there unfailed complete whole still = record {
+  lines = lines;
+  unfailed = unfailed;
+  complete = complete;
+  built_in = whole;
+  there = λ e. there (as_value e);
+  still = still;
+}
+  where
+    as_value : error ≡ ConfigRead Absent → ◌≡◌ {A = Result Report Error} (Err error) (Err (ConfigRead Absent))
+    as_value e = cc

@@ -9,7 +9,7 @@ use Rattle.run_command.specs.Prelude.{Runs}
 use Rattle.deny_run.specs.declared.outcome.RunEnd.TheVariants.{Billed, Checked, Listed, Noticed, Recorded, Sampled, Told, Verified}
 use Rattle.deny_run.specs.Ends.{Answers, HasLabels, VerifiesAs}
 use Rattle.deny_run.specs.Seen.{IsStill, run_seen}
-use Rattle.deny_run.proofs.EndLemmas.{has_labels, mapped}
+use Rattle.deny_run.proofs.EndLemmas.{has_labels, mapped, samples}
 use Rattle.deny_run.proofs.answer.answer_request.Goals as goal
 
 pub returns-in-Check-clause-answers : goal.returns-in-Check-clause-answers
@@ -100,7 +100,7 @@ returns-in-Sample-clause-answers g c =
     let untouched = made_none (g.T.Tree.content c.args.tree.now) (g.T.Tree.fault_count c.args.tree.now) (g.T.Tree.trace c.args.tree.now) in
     let still : IsStill err = record { silent = refl; count = refl } in
     subst (λ command. Answers lists match_of text_of c.args.request.now command (run_seen tree out err) c.map-in-Sample.result) (sym c.in-Sample.is)
-    (record { value = c.sample.result; is = mapped Sampled c.sample.result c.map-in-Sample.result c.map-in-Sample.ensures.cases; is_so = (untouched, record { is = c.sample.ensures.sampled; lines = c.sample.ensures.written; still = still }) })
+    (record { value = c.sample.result; is = mapped Sampled c.sample.result c.map-in-Sample.result c.map-in-Sample.ensures.cases; is_so = (untouched, samples c.in-Sample.size lists match_of out err c.sample.result c.sample.ensures.sampled c.sample.ensures.written c.sample.ensures.policy c.sample.ensures.unfailed c.sample.ensures.complete c.sample.ensures.built_in still) })
 
 pub returns-in-Check-clause-labels : goal.returns-in-Check-clause-labels
 returns-in-Check-clause-labels g c =
