@@ -46,36 +46,36 @@ fn answer_request<T: Tree, O: Sink, E: Sink, C: Catalog, I: Identifier + TextLoo
 {
     match &request.command {
         Subcommand::Check(args) => {
-            check_request(alloc, request, args, tree, out, err, catalog, identifier)
-                .map(RunEnd::Checked)
+            let answer = check_request(alloc, request, args, tree, out, err, catalog, identifier);
+            answer.map(RunEnd::Checked)
         }
         Subcommand::List(args) => {
-            list_request(alloc, request, *args, tree, out, err, catalog, identifier)
-                .map(RunEnd::Listed)
+            let answer = list_request(alloc, request, *args, tree, out, err, catalog, identifier);
+            answer.map(RunEnd::Listed)
         }
         Subcommand::Sample(size) => {
             sample(alloc, out, catalog, identifier, *size).map(RunEnd::Sampled)
         }
         Subcommand::Record => {
-            record_request(alloc, request, tree, out, err, catalog, identifier)
-                .map(RunEnd::Recorded)
+            let answer = record_request(alloc, request, tree, out, err, catalog, identifier);
+            answer.map(RunEnd::Recorded)
         }
         Subcommand::Verify(path) => {
             let path = path.as_path();
-            verify_request(alloc, request, path, tree, out, err, catalog, identifier)
-                .map(RunEnd::Verified)
+            let answer = verify_request(alloc, request, path, tree, out, err, catalog, identifier);
+            answer.map(RunEnd::Verified)
         }
         Subcommand::Bill(args) => {
-            bill_request(alloc, request, args, tree, out, err, catalog, identifier)
-                .map(RunEnd::Billed)
+            let answer = bill_request(alloc, request, args, tree, out, err, catalog, identifier);
+            answer.map(RunEnd::Billed)
         }
         Subcommand::Notice => {
-            notice_request(alloc, request, tree, out, err, catalog, identifier)
-                .map(RunEnd::Noticed)
+            let answer = notice_request(alloc, request, tree, out, err, catalog, identifier);
+            answer.map(RunEnd::Noticed)
         }
         Subcommand::Why(crates) => {
-            why_request(alloc, request, crates, tree, out, err, catalog, identifier)
-                .map(RunEnd::Told)
+            let answer = why_request(alloc, request, crates, tree, out, err, catalog, identifier);
+            answer.map(RunEnd::Told)
         }
     }
 }
