@@ -3,6 +3,7 @@ ghost use Rattle.std.specs.Prelude.{◌≡◌};
 ghost use Rattle.tree_core.specs.Faults.{next_count};
 
 use crate::command::command_of;
+use crate::outcomes::let_go;
 use crate::seen::{is_seen, put_command, put_seen};
 use crate::settings::{Ending, Setting, calls_of, ending_of, laters_of, lengths_of, rooms_of};
 use std::alloc::{AllocError, Global};
@@ -139,6 +140,8 @@ impl Comparison<'_> {
         self.runs = self.runs.saturating_add(1);
         self.compare_entries(setting, setting.case.base, &ending);
         self.compare_entries(setting, setting.case.own, &ending);
+        let Ending { outcome, .. } = ending;
+        let_go(outcome);
         Some(())
     }
 

@@ -6,6 +6,7 @@ mod compared;
 mod counted;
 mod identifiers;
 mod lines;
+mod outcomes;
 mod seen;
 mod settings;
 

@@ -1,4 +1,5 @@
 //! The line of a run over a tree: its status, its verdicts or how it ended, and the XXH32 of both outputs.
+use crate::outcomes::let_go;
 use deny_run::run::run;
 use deny_run::{CrateReport, Outcome, RunEnd, Verdict};
 use deny_text::hash::hash;
@@ -129,5 +130,7 @@ pub fn put_run(
     let words = words_in(alloc, line)?;
     let ended = ended_over(alloc, words.as_slice(), store, tree)?;
     put_outcome(text, number, &ended);
+    let RunEnded { outcome, .. } = ended;
+    let_go(outcome);
     Ok(())
 }

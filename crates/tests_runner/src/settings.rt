@@ -1,6 +1,7 @@
 //! The runs of a case: which calls of its tree fail, how much its sinks take, and how each run ends.
 use crate::counted::{CountedSink, CountedTree};
 use crate::identifiers::{CaseIdentifier, known_as};
+use crate::outcomes::let_go;
 use deny_run::Outcome;
 use deny_run::run::run;
 use spdx_terms::catalog::Table;
@@ -226,8 +227,9 @@ pub fn calls_of(alloc: Global, whole: &Setting<'_>) -> Option<(u64, u64)> {
     match whole.case.word("fail") {
         "" => Some((0, 0)),
         "each" => {
-            let ending = ending_of(alloc, whole)?;
-            Some((1, ending.tree.calls))
+            let Ending { outcome, tree, .. } = ending_of(alloc, whole)?;
+            let_go(outcome);
+            Some((1, tree.calls))
         }
         // Several calls fail in one run.
         word if word.contains(' ') => Some((0, 0)),
