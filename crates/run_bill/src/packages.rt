@@ -14,7 +14,7 @@ use check_bill::{Bill, BillPackage, BillPackages, TextForm};
 use check_core::CrateReport;
 use deny_text::Text;
 use graph_core::Krate;
-use run_check::{JudgedCrates, Report, reads_of_reports};
+use run_check::JudgedCrates;
 use run_found::Error;
 use run_request::bill::BillArgs;
 use std::alloc::{AllocError, Global};
@@ -121,8 +121,6 @@ pub(crate) fn reported_bill(
     ensures { IsReportedBill words.now (crates_judged judged) judged.report.crates result }
 {
     let bill = bill_of_judged(alloc, words, &judged)?;
-    let JudgedCrates { report, .. } = judged;
-    let Report { crates, .. } = report;
-    let reads = reads_of_reports(alloc, crates)?;
+    let reads = judged.into_reads(alloc)?;
     Ok(ReportedBill { bill, reads })
 }

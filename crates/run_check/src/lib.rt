@@ -6,11 +6,10 @@ mod carried;
 mod check;
 pub mod command;
 pub mod judged;
-pub mod reads;
+mod reads;
 pub mod report;
 
 pub use carried::unsupported_in;
 pub use command::{check_since, cmd, judged_of, judged_since, report_since};
 pub use judged::JudgedCrates;
-pub use reads::reads_of_reports;
 pub use report::{CrateReport, Report};

@@ -70,8 +70,7 @@ fn listing_found<T: Tree, S: Sink, C: Catalog, I: Identifier>(
         catalog,
         identifier,
     )?;
-    let listing = listing_of(alloc, summary)?;
-    Ok(listing)
+    listing_of(alloc, summary)
 }
 
 /// Writes a listing, in the format and the layout that are asked for. The counts of a refused write are those of this

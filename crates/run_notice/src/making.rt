@@ -18,7 +18,7 @@ use check_notice::{Notice, NoticeError, NoticeSource, TextFinder, first_unaccept
 use deny_text::{ListOf, Text};
 use gather_core::cut_threshold;
 use graph_core::Krate;
-use run_check::{JudgedCrates, Report, reads_of_reports};
+use run_check::JudgedCrates;
 use run_found::{CrateReads, Error};
 use spdx_core::{Identifier, TextLookup};
 use std::alloc::{AllocError, Global};
@@ -89,9 +89,7 @@ fn notice_by<I: Identifier + TextLookup>(
 fn not_accepted(alloc: Global, id: Text, judged: JudgedCrates) -> Error
     ensures { RefusesUnaccepted id judged result }
 {
-    let JudgedCrates { report, .. } = judged;
-    let Report { crates, .. } = report;
-    match reads_of_reports(alloc, crates) {
+    match judged.into_reads(alloc) {
         Ok(reads) => Error::NotAccepted { id, reads },
         Err(_) => Error::Memory,
     }
@@ -154,9 +152,7 @@ fn notice_of_accepted<T: Tree, I: Identifier + TextLookup>(
         (seen_between T.content T.fault_count T.trace tree.old tree.new) result }
 {
     let MadeNotice { made, own } = made_of(alloc, &judged, identifier, tree)?;
-    let JudgedCrates { report, .. } = judged;
-    let Report { crates, .. } = report;
-    let reads = reads_of_reports(alloc, crates)?;
+    let reads = judged.into_reads(alloc)?;
     match made {
         Ok(notice) => Ok(NoticedCrates { notice, reads, own }),
         Err(NoticeError::NoText { id, key }) => Err(Error::NoText {

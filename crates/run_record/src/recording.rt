@@ -18,7 +18,7 @@ use check_record::{Record, RecordItem, RecordItems, encode};
 use check_verify::recorded_verdict;
 use deny_text::{Bytes, Text};
 use diag_print::LogContext;
-use run_check::{CrateReport, Report, reads_of_reports, report_since};
+use run_check::{CrateReport, Report, report_since};
 use run_command::{no_levels, write_answer};
 use run_found::{CrateReads, Error};
 use run_request::KrateContext;
@@ -78,9 +78,8 @@ fn record_report<O: Sink>(alloc: Global, out: &mut O, report: Report) -> Result<
         (sink_between O.written O.fault_count out.old out.new) result }
     ensures later { O.fault_count out.old ≤ O.fault_count out.new }
 {
-    let Report { crates, .. } = report;
-    let file = file_of(alloc, crates.items())?;
-    let reads = reads_of_reports(alloc, crates)?;
+    let file = file_of(alloc, report.crates.items())?;
+    let reads = report.into_reads(alloc)?;
     write_answer(out, file.items())?;
     Ok(reads)
 }

@@ -27,7 +27,7 @@ use deny_text::{Text, Texts};
 use diag_core::Files;
 use diag_print::LogContext;
 use graph_workspace::{Include, UnsupportedPart};
-use run_check::{Report, judged_of, reads_of_reports};
+use run_check::{Report, judged_of};
 use run_command::{
     CratesFound, MetadataFound, PolicyUse, crates_of, metadata_found, no_levels, unsupported_in,
     write_answer,
@@ -239,8 +239,7 @@ fn put_why<O: Sink>(alloc: Global, out: &mut O, found: WhyFound) -> Result<Crate
     ensures later { O.fault_count out.old ≤ O.fault_count out.new }
 {
     let WhyFound { report, texts } = found;
-    let Report { crates, .. } = report;
-    let reads = reads_of_reports(alloc, crates)?;
+    let reads = report.into_reads(alloc)?;
     let text = joined(alloc, texts.items())?;
     write_answer(out, text.as_str().as_bytes())?;
     Ok(reads)
