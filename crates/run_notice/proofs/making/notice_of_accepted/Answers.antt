@@ -5,8 +5,8 @@ use Rattle.run_notice.specs.Steps.{IsMade}
 use Rattle.run_notice.proofs.MakingLemmas.{lacks_behind}
 use Rattle.run_notice.proofs.making.notice_of_accepted.Goals as goal
 
-pub returns : goal.returns
-returns g c =
+pub returns-in-Err-Memory : goal.returns-in-Err-Memory
+returns-in-Err-Memory g c =
     let texts = texts_given (g.I.Identifier.match_of c.args.identifier.now) (g.I.TextLookup.text_of c.args.identifier.now) in
     let seen = seen_between g.T.Tree.content g.T.Tree.fault_count g.T.Tree.trace c.args.tree.now c.made_of.new.tree in
     lacks_behind texts c.args.judged seen (IsMade texts c.args.judged c.in_ok-made.field-0) c.requires c.in_ok-made.ensures.made
