@@ -1,10 +1,12 @@
 #!/bin/sh
-# Times the lower layers, and beside them the same work in plain Rust, xxhsum and Python, where these are installed: of each the
-# least of five. Run it in the repository, by `make bench`, which proves and builds the program where it is not there yet;
-# another one may be named.
+# Times the lowest layers, and beside them the same work in plain Rust and xxhsum, where these are installed; and a listing of
+# packages with all that cargo writes of them beside Python, which only reads their metadata: of each the least of five. Run it in
+# the repository, by `make bench`, which proves and builds the programs where they are not there yet; others may be named:
+# sh bench/compare.sh [BENCH [PROGRAM]].
 set -e
 root=$(pwd)
 program=${1:-$root/crates/bench/out/bench}
+deny=${2:-$root/crates/cargo_deny/out/cargo_deny}
 [ -x "$program" ] || sh tools/build.sh bench
 work=$(mktemp -d)
 trap 'rm -rf "$work"' EXIT
@@ -48,16 +50,6 @@ awk '
     { printf "%-20s %9d us\n", $1, $2 / 1000 }
 ' "$work/plain" "$work/ours"
 
-# How a measure grows with its size.
-for name in excludes checks; do
-    for size in 2500 5000 10000 20000; do
-        echo "$name $size values $(least "$name" "$size") ns"
-    done
-done
-for size in 2000 4000 8000; do
-    echo "metadata $size packages $(least metadata "$size") ns"
-done
-
 # The least of five whole runs in seconds, and the memory at its highest in KiB.
 whole() {
     for _ in 1 2 3 4 5; do
@@ -65,15 +57,17 @@ whole() {
     done | sort -n | head -n 1
 }
 
-if command -v python3 > /dev/null && [ -x /usr/bin/time ]; then
+if command -v python3 > /dev/null && command -v rustc > /dev/null && [ -x /usr/bin/time ] && [ -x "$deny" ]; then
+    rustc -O -o "$work/workspaces" "$root/bench/workspaces.rs"
     cd "$work"
-    for measure in 'metadata 8000' 'metadata-small 80000'; do
-        "$program" text $measure > metadata.json
-        ours=$(whole "$program" metadata metadata.json)
+    : > Cargo.toml
+    for size in 5000 10000; do
+        ./workspaces wide "$size"
+        ours=$(whole "$deny" --metadata-path metadata.json --config deny.toml list)
         plain=$(whole python3 -c 'import json; json.load(open("metadata.json"))')
-        echo "$measure $(wc -c < metadata.json) $ours $plain" | awk '{
-            printf "%s of %d packages, %d bytes: %.2f of the time of Python'"'"'s json, ", $1, $2, $3, $4 / $6
-            printf "memory %.1f times the text (Python %.1f)\n", $5 * 1024 / $3, $7 * 1024 / $3
+        echo "$size $(wc -c < metadata.json) $ours $plain" | awk '{
+            printf "a listing of %d packages, %d bytes of metadata: %.2f s, %.2f of the time of Python'"'"'s json, ", $1, $2, $3, $3 / $5
+            printf "memory %.1f times the text (Python %.1f)\n", $4 * 1024 / $2, $6 * 1024 / $2
         }'
     done
 fi

@@ -1,54 +1,51 @@
 //! Texts that are made in memory, of any size.
 use std::alloc::{AllocError, Global};
-use tests_files::AnswerText;
 
-/// Puts a piece that is behind a percent sign. Its first character is a mark: a digit stands for the number
-/// that is so much higher, but for the last one at most, and a comma for itself, except in the last part.
-fn put_marked(out: &mut AnswerText, piece: &str, number: usize, last: usize) {
-    let mut marked = piece.chars();
-    match marked.next() {
-        Some(',') if number < last => out.put(","),
-        Some(mark) => {
-            if let Some(further) = mark.to_digit(10) {
-                let shown = number.saturating_add(further as usize).min(last);
-                write!(out, "{shown}");
+/// What a text has so many times: a piece; behind it, in some texts, the number of the time and a further piece.
+pub(crate) struct Recipe {
+    piece: &'static str,
+    numbered: Option<&'static str>,
+}
+
+/// Lines of 64 bytes.
+pub(crate) const LICENCE: Recipe = Recipe {
+    piece: "Permission is hereby granted, free of charge, to any person who\n",
+    numbered: None,
+};
+
+/// Lines with a CR before the LF.
+pub(crate) const RETURNS: Recipe = Recipe {
+    piece: "Permission is hereby granted, free of charge, to any person\r\n",
+    numbered: None,
+};
+
+/// A path in each line.
+pub(crate) const PATHS: Recipe = Recipe {
+    piece: "/home/user/.cargo/registry/src/index.crates.io-1949cf8c6b5b557f/crate-",
+    numbered: Some("/Cargo.toml\n"),
+};
+
+/// Entries of 14 bytes, on a line each and on one line.
+pub(crate) const ENTRY_LINES: Recipe = Recipe {
+    piece: "\"licence-é\",\n",
+    numbered: None,
+};
+
+pub(crate) const ENTRY_LINE: Recipe = Recipe {
+    piece: "\"licence-é\", ",
+    numbered: None,
+};
+
+impl Recipe {
+    /// The text that has its pieces so many times.
+    pub(crate) fn made(&self, alloc: Global, count: usize) -> Result<String, AllocError> {
+        let mut out = String::new(alloc);
+        for number in 0..count {
+            out.push_str(self.piece)?;
+            if let Some(end) = self.numbered {
+                write!(out, "{number}{end}")?;
             }
         }
-        None => {}
+        Ok(out)
     }
-    out.put(marked.as_str());
-}
-
-/// Puts the part of a number.
-fn put_part(out: &mut AnswerText, part: &str, number: usize, last: usize) {
-    for (place, piece) in part.split('%').enumerate() {
-        if place == 0 {
-            out.put(piece);
-        } else {
-            put_marked(out, piece, number, last);
-        }
-    }
-}
-
-/// Puts a part so many times, with its marks.
-fn put_parts(out: &mut AnswerText, part: &str, count: usize) {
-    let last = count.saturating_sub(1);
-    for number in 0..count {
-        put_part(out, part, number, last);
-    }
-}
-
-/// The text of a recipe: what is between `⟦` and `⟧` is there so many times.
-pub(crate) fn made(alloc: Global, recipe: &str, count: usize) -> Result<String, AllocError> {
-    let mut out = AnswerText::new(alloc);
-    for piece in recipe.split('⟦') {
-        match piece.split_once('⟧') {
-            Some((part, rest)) => {
-                put_parts(&mut out, part, count);
-                out.put(rest);
-            }
-            None => out.put(piece),
-        }
-    }
-    out.into_text()
 }
