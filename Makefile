@@ -7,7 +7,7 @@ METADATA = $(CURDIR)/crates/cargo_deny/out/metadata.json
 
 FIRST = ../../examples/first
 
-.PHONY: try build run sample test cases examples map wrong starve stack calls bench dist install
+.PHONY: try build run sample test prove examples map wrong starve stack calls bench dist install
 
 # A first answer in minutes, by an unproved build.
 try:
@@ -27,14 +27,14 @@ run: build
 sample: build
 	@$(PROGRAM) sample 20000
 
-# Proves and tests all; the merge gate, .ci/run, also compares documents and examples.
+# Compares all rows and cases without a proof, in minutes, and prints what differs with its file and line; or those of a folder of
+# crates/tests_rows/data: make test NAME=spdx. NAME=run and NAME=hostile are whole runs.
 test:
-	rt ci
+	@sh tools/test.sh $(NAME)
 
-# Compares the rows and cases of a folder without a proof, and prints what differs with its file and line: make cases NAME=spdx;
-# NAME=run and NAME=hostile are whole runs
-cases:
-	@sh tools/cases.sh $(NAME)
+# Proves and tests all; the merge gate, .ci/run, also compares documents and examples.
+prove:
+	rt ci
 
 # Compares what the built programs print of each example, and of odd words and files, and the outputs that the documents show,
 # with examples/outputs.
@@ -55,9 +55,9 @@ wrong:
 starve:
 	@sh tools/starve.sh $(NAME)
 
-# Runs each case of crates/tests_hostile with less and less stack, as both compilers build that program.
+# Runs each case of crates/tests_rows/data/hostile with less and less stack, as both compilers build that program.
 stack:
-	@sh tools/build.sh tests_hostile
+	@sh tools/build.sh tests_rows
 	@sh tools/stack.sh
 
 # Prints the public calls of the libraries, with why each may be refused, and checks tools/memory_cases.txt; or prints those of one

@@ -80,7 +80,7 @@ public() {
 }
 # Each file of rows and cases, each group and case in it, each test, and each stored run, as tools/memory_cases.txt names them.
 cases() {
-    for file in crates/tests_rows/data/*/*.txt crates/tests_run/data/*/*.txt crates/tests_code/src/*.rt crates/*/stdout; do
+    for file in crates/tests_rows/data/*/*.txt crates/tests_code/src/*.rt crates/*/stdout; do
         case $file in crates/tests_code/*) short=tests_code/${file##*/} ;; */data/*) short=${file#*/data/} ;; *) short=${file#*/} ;; esac
         printf '%s=%s\n' "$short" "$file"
     done | LC_ALL=C awk -F= '

@@ -168,7 +168,7 @@ facts | awk -F '\t' '
         for (at = 1; at <= lates; at++) if (meant(late[at]) == "") gone(late_line[at], late[at])
         open = 0; held = ""; holder = ""; last = ""; lates = 0; bases = kept
     }
-    BEGIN { roots = split("crates/ docs/ examples/ crates/tests_rows/data/ crates/tests_run/data/", root, " ") }
+    BEGIN { roots = split("crates/ docs/ examples/ crates/tests_rows/data/", root, " ") }
     reading && $1 == "path" { path[$2]; if (!index($2, "/")) top[$2]; sub(/.*\//, "", $2); file[$2]; next }
     reading && $1 == "target" { target[$2]; next }
     reading && $1 == "head" { head[$2, $3]; anchors[$2, anchor($3)]; next }

@@ -1,5 +1,5 @@
 #!/bin/sh
-# How much stack the rows of crates/tests_hostile/data need, and how their work grows, by the built program tests_hostile: each case
+# How much stack the cases of crates/tests_rows/data/hostile need, and how their work grows, by the built program tests_rows: each case
 # alone, with its bases.
 #
 # stack.sh [PROGRAM..] runs each case but those of failures.txt with a stack of 8 MiB, as a main thread has, and then with half as
@@ -11,7 +11,7 @@
 # usage: tools/stack.sh [twice] [PROGRAM..]
 set -eu
 cd "$(dirname "$0")/.."
-data=$PWD/crates/tests_hostile/data/hostile
+data=$PWD/crates/tests_rows/data/hostile
 room=$(mktemp -d)
 trap 'rm -rf "$room"' EXIT
 mkdir "$room/hostile"
@@ -45,7 +45,7 @@ is_right() {
     (
         cd "$room"
         ulimit -s "$1"
-        exec env -i "$program"
+        exec env -i "$program" hostile
     ) >/dev/null 2>&1
 }
 
@@ -76,7 +76,7 @@ least_stack() {
 
 # The instructions of a run.
 counted() {
-    (cd "$room" && valgrind --tool=callgrind --callgrind-out-file=/dev/null --main-stacksize=8388608 "$program") 2>&1 |
+    (cd "$room" && valgrind --tool=callgrind --callgrind-out-file=/dev/null --main-stacksize=8388608 "$program" hostile) 2>&1 |
         awk '/Collected : / { print $NF }'
 }
 
@@ -95,11 +95,11 @@ growth() {
 
 word=${1:-}
 if [ "$word" = twice ]; then
-    program=$(realpath "${2:-crates/tests_hostile/out/tests_hostile}")
+    program=$(realpath "${2:-crates/tests_rows/out/tests_rows}")
     growth
     exit 0
 fi
-[ "$#" -gt 0 ] || set -- crates/tests_hostile/out/tests_hostile crates/tests_hostile/out/tests_hostile.by-rattle
+[ "$#" -gt 0 ] || set -- crates/tests_rows/out/tests_rows crates/tests_rows/out/tests_rows.by-rattle
 for name in "$@"; do
     program=$(realpath "$name")
     least_stack "$name"

@@ -1,11 +1,10 @@
 #!/bin/sh
 # Runs while memory is wanting. Nothing but want of memory may be reported: each run says what it came to.
 #
-# starve.sh NAME [FIRST] compares the rows and cases of a folder of crates/tests_rows/data, or of crates/tests_run/data (run) or
-# crates/tests_hostile/data (hostile), with one allocation that fails, at twenty numbers from the first on, each about twice the
-# one before. A run takes one to three minutes.
+# starve.sh NAME [FIRST] compares the rows and cases of a folder of crates/tests_rows/data with one allocation that fails, at twenty
+# numbers from the first on, each about twice the one before. A run takes one to three minutes.
 #
-# starve.sh program [PROGRAM] runs the built program over the two workspaces of crates/tests_hostile/data/hostile/failures.txt
+# starve.sh program [PROGRAM] runs the built program over the two workspaces of crates/tests_rows/data/hostile/failures.txt
 # with less and less memory, in steps of 16 KiB, from enough down to where the system cannot start it. Each run answers as with
 # enough, or ends with status 1 and `error: out of memory`, after a prefix of what it writes with enough.
 #
@@ -21,7 +20,7 @@ trap 'rm -rf "$room"' EXIT
 
 # The files of a workspace of the cases, below a folder.
 workspace() {
-    cases=crates/tests_hostile/data/hostile/failures.txt
+    cases=crates/tests_rows/data/hostile/failures.txt
     awk -v base="base $1" '/^(base|case) / { on = $0 == base } on && /^  file / { print $2 }' "$cases" |
         while read -r path; do
             mkdir -p "$2${path%/*}"
@@ -153,22 +152,14 @@ growths)
 esac
 
 number=${2:-1}
-crate=tests_rows
-word=$name
-case $name in
-run | hostile)
-    crate=tests_$name
-    word=
-    ;;
-esac
-cd "crates/$crate"
+cd crates/tests_rows
 set --
 for file in "data/$name"/*; do
     set -- "$@" --data "$name/$(basename "$file")=$PWD/$file"
 done
 answer="$room/answer"
 for turn in 1 2 3 4 5 6 7 8 9 10 11 12 13 14 15 16 17 18 19 20; do
-    rt try --fail-alloc "$number" "$@" -- $word >"$answer" 2>&1 || true
+    rt try --fail-alloc "$number" "$@" -- "$name" >"$answer" 2>&1 || true
     ended=$(grep '^run=' "$answer" || echo 'run=none')
     told=$(grep -c "^$name/[a-z_]*\.txt:[0-9]*:" "$answer" || true)
     of_memory=$(grep -ci 'memory' "$answer" || true)

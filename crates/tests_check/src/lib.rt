@@ -1,69 +1,62 @@
-//! Rows and cases of verdicts, of verdict files, of bills, and of what the check tells of crates and of policies.
+//! Rows and cases of verdicts, of verdict files and of bills; of fields and where they are; and of the texts that are written in
+//! place of manifests.
 #![tactic(auto)]
 
 mod bills;
+mod given;
 mod judged;
+mod located;
 mod recorded;
+mod texts;
 
-use std::alloc::Global;
-use tests_files::{AnswerText, Case, Cases, KeyAnswer, Rows, compare_cases, compare_rows};
-use tests_gather::answered;
-use tests_gather::given::is_word_of;
+use tests_files::{AnswerText, Asked, Room, Told, compare_all};
 
-/// Rows of texts.
-struct TextRows;
+/// What says here how values are written.
+pub struct Check;
 
-impl Rows for TextRows {
-    fn answer(&self, alloc: Global, group: &str, text: &str, out: &mut AnswerText) -> bool {
-        let tried = match group {
-            "verdict" => judged::put_verdict(alloc, text, out),
-            "passed over" => judged::put_passed_over(alloc, text, out),
-            "bill" => bills::put_read(alloc, text, out),
-            "verdict file" => recorded::put_read(alloc, text, out),
-            "verified" => recorded::put_verified(alloc, text, out),
-            _ => return false,
-        };
-        if tried.is_none() {
-            out.put("a row that can't be tried");
+/// Puts what a row comes to.
+fn answer_row(asked: &Asked<'_>, out: &mut AnswerText) -> Told {
+    let Asked { alloc, text, .. } = *asked;
+    match asked.group {
+        "terms of a field" => texts::put_terms(alloc, text, out),
+        "value of a manifest" => texts::put_value(text, out),
+        "places by slashes" => texts::put_place(text, out),
+        "threshold" => texts::put_threshold(text, out),
+        "verdict" => judged::put_verdict(alloc, text, out),
+        "passed over" => judged::put_passed_over(alloc, text, out),
+        "bill" => bills::put_read(alloc, text, out),
+        "verdict file" => recorded::put_read(alloc, text, out),
+        "verified" => recorded::put_verified(alloc, text, out),
+        _ => return Told::NoSuchGroup,
+    }
+    Told::Answer
+}
+
+impl Room for Check {
+    fn answer(&self, asked: &Asked<'_>, out: &mut AnswerText) -> Told {
+        match asked.group {
+            "text" | "spans" | "cuts" => texts::put_written(asked, out),
+            "located" => located::put_each(asked, out),
+            "plain" | "marked" | "package" | "files-expr" | "open-list" | "line" | "close-list" => {
+                return Told::Given;
+            }
+            "file" | "table" | "fail" | "locate" => return Told::Given,
+            _ => return answer_row(asked, out),
         }
-        true
+        Told::Answer
     }
 }
 
-/// Cases of what is reported of crates and of policies.
-struct ToldCases;
-
-/// The keys that say what is put in.
-const GIVEN: &str =
-    "table place source expression hits verdict note gathered allow exceptions crate unused-allowed-license \
-    unused-license-exception";
-
-impl Cases for ToldCases {
-    fn is_given(&self, key: &str) -> bool {
-        is_word_of(GIVEN, key)
-    }
-
-    fn told(&self, alloc: Global, case: &Case<'_>, key: &str, out: &mut AnswerText) -> KeyAnswer {
-        match key {
-            "human" | "json" | "about" => answered(judged::put_told(alloc, case, key, out)),
-            _ => KeyAnswer::NoSuchKey,
-        }
-    }
-}
-
-const FILES: [&str; 3] = [
-    "check/told_verdicts.txt",
-    "check/told_policies.txt",
-    "check/told_crates.txt",
+const FILES: [&str; 6] = [
+    "check/verdicts.txt",
+    "check/recorded.txt",
+    "check/bills.txt",
+    "check/texts.txt",
+    "check/located.txt",
+    "check/manifests.txt",
 ];
 
 /// Compares the rows and cases of the room, and returns whether nothing differs.
 pub fn compare(rt: &HostRuntime) -> bool {
-    let mut is_as_wanted = compare_rows(rt, "check/verdicts.txt", &TextRows);
-    is_as_wanted = compare_rows(rt, "check/recorded.txt", &TextRows) & is_as_wanted;
-    is_as_wanted = compare_rows(rt, "check/bills.txt", &TextRows) & is_as_wanted;
-    for file in FILES {
-        is_as_wanted = compare_cases(rt, file, &ToldCases) & is_as_wanted;
-    }
-    is_as_wanted
+    compare_all(rt, &FILES, &Check)
 }

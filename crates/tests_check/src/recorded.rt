@@ -1,60 +1,117 @@
 //! Verdict files, and whether a record is right about the crate `a`.
 ghost use Rattle.std.specs.Prelude.{◌≡◌, ◌<◌};
 
+use crate::Check;
+use crate::given::{beside_bar, expression, krate_of, list_of, policy};
 use check_record::{Record, RecordError, decode, encode};
 use check_verify::{NoReason, VerifyAnswer, verify};
-use deny_text::{Steps, Texts};
+use deny_text::{Bytes, ListOf, Steps, Texts};
 use diag_core::Notes;
 use gather_core::{
-    Diags, KeptFiles, KrateLicense, KrateLicenses, LicenseExprInfo, LicenseExprSource, LicenseInfo,
-    Summary,
+    Diags, KeptFiles, KrateLicense, LicenseExprInfo, LicenseExprSource, LicenseInfo, Summary,
 };
 use graph_core::Krate;
 use policy_core::valid::{CountedPolicy, ValidConfig};
-use policy_parts::spec::Places;
-use std::alloc::Global;
+use std::alloc::{AllocError, Global};
 use std::marker::Brand;
 use std::sync::ledger::{Blank, Ledger};
-use tests_files::AnswerText;
-use tests_gather::given::{expression, krate, places, policy};
+use tests_files::{AnswerText, Shown};
 use tree_core::Reads;
 
+/// Puts whether what was read of a text is written as it was.
+pub fn put_written(out: &mut AnswerText, written: &Result<Bytes, AllocError>, text: &str) {
+    match written {
+        Ok(bytes) if bytes.items() == text.as_bytes() => out.put("same"),
+        Ok(_) => out.put("other"),
+        Err(_) => out.want_memory(),
+    }
+}
+
 /// Whether a text is a verdict file, and is written as it was read.
-pub fn put_read(alloc: Global, text: &str, out: &mut AnswerText) -> Option<()> {
-    let verdicts = match decode(alloc, text.as_bytes()) {
-        Ok(verdicts) => verdicts,
-        Err(RecordError::Memory) => return None,
-        Err(_) => {
-            out.put("none");
-            return Some(());
-        }
-    };
-    let written = encode(alloc, &verdicts).ok()?;
-    out.put(if written.items() == text.as_bytes() {
-        "same"
-    } else {
-        "other"
-    });
-    Some(())
+pub fn put_read(alloc: Global, text: &str, out: &mut AnswerText) {
+    match &decode(alloc, text.as_bytes()) {
+        Ok(verdicts) => put_written(out, &encode(alloc, verdicts), text),
+        Err(RecordError::Memory) => out.want_memory(),
+        Err(RecordError::Syntax) => out.put("none"),
+    }
 }
 
-/// The part before a bar, and what is behind it.
-fn cut(text: &str) -> (&str, &str) {
-    let (part, rest) = text.split_once('|').unwrap_or((text, ""));
-    (part.trim(), rest)
-}
-
-/// A file of lines, each an id without blanks, and a verdict.
-fn file_of(alloc: Global, lines: &str) -> Option<String> {
-    let mut file = String::from_str(alloc, "deny-record 1\n").ok()?;
+/// A record of lines, each an id without blanks, and a verdict.
+fn record_in(alloc: Global, lines: &str) -> Option<Record> {
+    let mut file = AnswerText::new(alloc);
+    file.put("deny-record 1\n");
     for line in lines.split_terminator(';') {
         let line = line.trim();
         let (id, verdict) = line.split_once(' ').unwrap_or((line, ""));
         let count = id.len();
-        write!(file, "c {count}:{id} {verdict}\n").ok()?;
+        write!(file, "c {count}:{id} {verdict}\n");
     }
-    file.push_str("end\n").ok()?;
-    Some(file)
+    file.put("end\n");
+    if file.is_whole() {
+        decode(alloc, file.text().as_bytes()).ok()
+    } else {
+        None
+    }
+}
+
+/// The words of a row, which has bars between them.
+#[derive(Clone, Copy)]
+struct Words<'w> {
+    expression: &'w str,
+    allow: &'w str,
+    exceptions: &'w str,
+    /// The places of the exceptions that count for the crate.
+    counted: &'w str,
+    lines: &'w str,
+}
+
+fn words_of(text: &str) -> Words<'_> {
+    let (expression, rest) = beside_bar(text);
+    let (allow, rest) = beside_bar(rest);
+    let (exceptions, rest) = beside_bar(rest);
+    let (counted, lines) = beside_bar(rest);
+    Words {
+        expression,
+        allow,
+        exceptions,
+        counted,
+        lines,
+    }
+}
+
+/// What a record is held against.
+#[derive(Drop)]
+struct Recorded<'w> {
+    alloc: Global,
+    words: Words<'w>,
+    policy: ValidConfig,
+    krate: Krate,
+    verdicts: Record,
+}
+
+/// It may be published anywhere, or else is private.
+fn krate_named(alloc: Global, expression: &str) -> Option<Krate> {
+    let publish = if expression == "private" {
+        Some(Texts::new(alloc))
+    } else {
+        None
+    };
+    krate_of(alloc, Some(publish), Some(None))
+}
+
+fn recorded_of<'w>(alloc: Global, words: Words<'w>) -> Option<Recorded<'w>> {
+    let policy = policy(alloc, words.allow, words.exceptions, true);
+    let krate = krate_named(alloc, words.expression);
+    match policy.zip(krate).zip(record_in(alloc, words.lines)) {
+        Some(((policy, krate), verdicts)) => Some(Recorded {
+            alloc,
+            words,
+            policy,
+            krate,
+            verdicts,
+        }),
+        None => None,
+    }
 }
 
 /// The licence of a crate; there is none of one that is private or has none.
@@ -62,101 +119,120 @@ fn license(alloc: Global, text: &str) -> Option<LicenseInfo> {
     if text == "none" || text == "private" {
         return Some(LicenseInfo::Unlicensed);
     }
-    let expr = expression(alloc, text)?;
-    let nfo = LicenseExprInfo {
-        file_id: 0,
-        offset: 0,
-        whole: None,
-        source: LicenseExprSource::UserOverride,
-    };
-    Some(LicenseInfo::SpdxExpression { expr, nfo })
+    match expression(alloc, text) {
+        Some(expr) => Some(LicenseInfo::SpdxExpression {
+            expr,
+            nfo: LicenseExprInfo {
+                file_id: 0,
+                offset: 0,
+                whole: None,
+                source: LicenseExprSource::UserOverride,
+            },
+        }),
+        None => None,
+    }
 }
 
-/// What was gathered of a crate.
+/// A list of one item.
+fn one_of<T: Drop>(alloc: Global, item: T) -> Option<ListOf<T>> {
+    let mut list = ListOf::new(alloc);
+    match list.push(item) {
+        Ok(()) => Some(list),
+        Err(_) => None,
+    }
+}
+
+/// What was gathered of the crate.
 #[derive(Drop)]
-struct Gathered {
-    lic_info: LicenseInfo,
-    /// The places of the exceptions that count for it.
-    exceptions: Places,
+struct Gathered<'r> {
+    recorded: &'r Recorded<'r>,
+    summary: Summary<'r>,
 }
 
-fn summary_of<'k>(alloc: Global, krate: &'k Krate, gathered: Gathered) -> Option<Summary<'k>> {
-    let Gathered {
-        lic_info,
-        exceptions,
-    } = gathered;
-    let mut nfos = KrateLicenses::new(alloc);
-    let license = KrateLicense {
+fn gathered_of<'r>(recorded: &'r Recorded<'r>) -> Option<Gathered<'r>> {
+    let Recorded {
+        alloc,
+        words,
         krate,
-        lic_info,
-        notes: Notes::new(alloc),
-        diags: Diags::new(alloc),
-        reads: Reads::new(alloc),
-        exceptions,
-        kept: KeptFiles::new(alloc),
+        ..
+    } = recorded;
+    let alloc = *alloc;
+    let counted = list_of::<usize>(alloc, words.counted, ' ');
+    let license = match license(alloc, words.expression).zip(counted) {
+        Some((lic_info, exceptions)) => one_of(
+            alloc,
+            KrateLicense {
+                krate,
+                lic_info,
+                notes: Notes::new(alloc),
+                diags: Diags::new(alloc),
+                reads: Reads::new(alloc),
+                exceptions,
+                kept: KeptFiles::new(alloc),
+            },
+        ),
+        None => None,
     };
-    nfos.push(license).ok()?;
-    Some(Summary { nfos })
+    match license {
+        Some(nfos) => Some(Gathered {
+            recorded,
+            summary: Summary { nfos },
+        }),
+        None => None,
+    }
 }
 
-fn put_answer(out: &mut AnswerText, answer: &VerifyAnswer) {
-    out.put(match answer {
-        VerifyAnswer::Yes => "verified",
-        VerifyAnswer::No(NoReason::Crates) => "the crates differ",
-        VerifyAnswer::No(NoReason::Variant(_)) => "the verdict differs",
-        VerifyAnswer::No(NoReason::NotAChoice(_)) => "the places are no choice",
-        VerifyAnswer::No(NoReason::NotSatisfied(_)) => "an entry does not satisfy",
-        VerifyAnswer::No(NoReason::HasHit(_)) => "a place has a hit",
-        VerifyAnswer::No(NoReason::NotBlocking(_)) => "the places do not block",
-    });
-}
-
-fn verify_file<L: Ledger>(
-    alloc: Global,
-    out: &mut AnswerText,
-    verdicts: &Record,
-    krate: &Krate,
-    gathered: Gathered,
-    policy: &ValidConfig,
-    ledger: Blank,
-) -> Option<()>
+/// Whether a record is right about what was gathered.
+fn verified<L: Ledger>(gathered: &Gathered<'_>, ledger: Blank) -> Result<VerifyAnswer, AllocError>
     requires name { ledger.name ≡ L.name }
     requires parts { ledger.parts ≡ L.parts }
     requires some { 0 < ledger.parts }
 {
-    let summary = summary_of(alloc, krate, gathered)?;
+    let recorded = gathered.recorded;
     let mut steps = Steps::<L>::new(ledger);
-    let policy = CountedPolicy::<L>::of(policy);
-    let answer = verify(alloc, verdicts, &summary, &policy, &mut steps).ok()?;
-    put_answer(out, &answer);
-    Some(())
+    let policy = CountedPolicy::<L>::of(&recorded.policy);
+    verify(
+        recorded.alloc,
+        &recorded.verdicts,
+        &gathered.summary,
+        &policy,
+        &mut steps,
+    )
+}
+
+/// The same over a ledger of its own.
+fn answer_of(gathered: &Gathered<'_>) -> Result<VerifyAnswer, AllocError> {
+    verified::<Brand>(gathered, Blank::new(1))
+}
+
+impl Shown<Check> for VerifyAnswer {
+    fn put(&self, out: &mut AnswerText) {
+        out.put(match self {
+            VerifyAnswer::Yes => "verified",
+            VerifyAnswer::No(NoReason::Crates) => "the crates differ",
+            VerifyAnswer::No(NoReason::Variant(_)) => "the verdict differs",
+            VerifyAnswer::No(NoReason::NotAChoice(_)) => "the places are no choice",
+            VerifyAnswer::No(NoReason::NotSatisfied(_)) => "an entry does not satisfy",
+            VerifyAnswer::No(NoReason::HasHit(_)) => "a place has a hit",
+            VerifyAnswer::No(NoReason::NotBlocking(_)) => "the places do not block",
+        });
+    }
+}
+
+impl Shown<Check> for Gathered<'_> {
+    fn put(&self, out: &mut AnswerText) {
+        out.made::<Check, _, _>(answer_of(self));
+    }
+}
+
+impl Shown<Check> for Recorded<'_> {
+    fn put(&self, out: &mut AnswerText) {
+        out.tried::<Check, _>(gathered_of(self));
+    }
 }
 
 /// Whether a record is right about the crate `a`: its expression, the allowed licences, the exceptions, the places of those
 /// that count for the crate, and the lines of the record, with bars between them.
-pub fn put_verified(alloc: Global, text: &str, out: &mut AnswerText) -> Option<()> {
-    let (text, rest) = cut(text);
-    let (allow, rest) = cut(rest);
-    let (exceptions, rest) = cut(rest);
-    let (counted, lines) = cut(rest);
-    let file = file_of(alloc, lines)?;
-    let policy = policy(alloc, allow, exceptions)?;
-    let mut krate = krate(alloc, "a", "a")?;
-    if text == "private" {
-        krate.publish = Some(Texts::new(alloc));
-    }
-    let gathered = Gathered {
-        lic_info: license(alloc, text)?,
-        exceptions: places(alloc, counted)?,
-    };
-    let verdicts = decode(alloc, file.as_bytes()).ok()?;
-    verify_file::<Brand>(
-        alloc,
-        out,
-        &verdicts,
-        &krate,
-        gathered,
-        &policy,
-        Blank::new(1),
-    )
+pub fn put_verified(alloc: Global, text: &str, out: &mut AnswerText) {
+    out.tried::<Check, _>(recorded_of(alloc, words_of(text)));
 }

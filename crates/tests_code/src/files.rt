@@ -1,40 +1,29 @@
 //! What is reported of files that can't be read, and of rows and cases that differ.
-use std::alloc::{AllocError, Global};
+use std::io;
+use std::process::ExitCode;
 use std::rt::Runtime;
-use std::test::Fail;
-use tests_files::cases::told_cases;
-use tests_files::rows::told_rows;
+use tests_files::compared::told_text;
 use tests_files::told::{show, text_of};
-use tests_files::{
-    AnswerText, Case, Cases, KeyAnswer, Rows, Tally, compare_cases, compare_rows, exit_code,
-};
+use tests_files::{AnswerText, Asked, Room, Tally, Told, compare, exit_code};
 
 /// The group `same` answers each text by itself, and the key `said` by the word behind `say`.
 struct Same;
 
-impl Rows for Same {
-    fn answer(&self, _: Global, group: &str, text: &str, out: &mut AnswerText) -> bool {
-        out.put(text);
-        group == "same"
-    }
-}
-
-impl Cases for Same {
-    fn is_given(&self, key: &str) -> bool {
-        key == "say"
-    }
-
-    fn told(&self, _: Global, case: &Case<'_>, key: &str, out: &mut AnswerText) -> KeyAnswer {
-        if key != "said" {
-            return KeyAnswer::NoSuchKey;
+impl Room for Same {
+    fn answer(&self, asked: &Asked<'_>, out: &mut AnswerText) -> Told {
+        match asked.group {
+            "same" => out.put(asked.text),
+            "said" | "said-begins" => out.put(asked.case.word("say")),
+            "not tried" => out.cant_be_tried(),
+            "say" => return Told::Given,
+            _ => return Told::NoSuchGroup,
         }
-        out.put(case.word("say"));
-        KeyAnswer::Yes
+        Told::Answer
     }
 }
 
 /// Lines of a file of rows, what each group has, and what is reported.
-const ROWS: [(&str, &str, &str); 11] = [
+const ROWS: [(&str, &str, &str); 12] = [
     (
         "[same]\na => a\n\n# none\nb =>\n",
         "same: 2 rows\n",
@@ -49,9 +38,18 @@ const ROWS: [(&str, &str, &str); 11] = [
     (
         "[other]\na => a\n",
         "other: 1 rows\n",
-        "f:2: no such group\n",
+        "f:2: no such group or key\n",
     ),
-    ("a => a\n", ": 1 rows\n", "f:1: no such group\n"),
+    (
+        "[say]\na => a\n",
+        "say: 1 rows\n",
+        "f:2: no such group or key\n",
+    ),
+    (
+        "[not tried]\na => a\n",
+        "not tried: 1 rows\n",
+        "f:2: it can't be tried\n",
+    ),
     (
         "[same]\na\n",
         "same: 1 rows\n",
@@ -85,7 +83,27 @@ const ROWS: [(&str, &str, &str); 11] = [
 ];
 
 /// The same of files of cases.
-const CASES: [(&str, &str, &str); 12] = [
+const CASES: [(&str, &str, &str); 16] = [
+    (
+        "a => a\n",
+        "f: 0 cases\nf: 0 lines wanted\n",
+        "f:1: a line before the first case\n",
+    ),
+    (
+        "base b\n  say x\n  said y\ncase a\n  with b\n",
+        "f: 1 cases\nf: 1 lines wanted\n",
+        "f:3: a\n  is  \"x\"\n  not \"y\"\n",
+    ),
+    (
+        "base b\n  said y\ncase a\n  with b\n  say x\n  said x\n",
+        "f: 1 cases\nf: 1 lines wanted\n",
+        "",
+    ),
+    (
+        "case a\n  say xyz\n  said-begins x\n",
+        "f: 1 cases\nf: 1 lines wanted\n",
+        "",
+    ),
     (
         "case a\n  say x\n  said x\n",
         "f: 1 cases\nf: 1 lines wanted\n",
@@ -104,7 +122,7 @@ const CASES: [(&str, &str, &str); 12] = [
     (
         "case a\n  said\n=00 zz\n  seen y\n",
         "f: 1 cases\nf: 2 lines wanted\n",
-        "f:3: a byte that is no number\nf:2: a\n  is  \"\"\n  not \"\\0\"\nf:4: a key that is not known\n",
+        "f:3: a byte that is no number\nf:2: a\n  is  \"\"\n  not \"\\0\"\nf:4: no such group or key\n",
     ),
     (
         "case a\n  say x\n",
@@ -113,17 +131,17 @@ const CASES: [(&str, &str, &str); 12] = [
     ),
     (
         "case\n  said x\n",
-        "f: 1 cases\nf: 1 lines wanted\n",
+        "f: 1 cases\nf: 0 lines wanted\n",
         "f:1: a case without a name\n",
     ),
     (
         "case a\n  said\ncase a\n  said\n",
-        "f: 2 cases\nf: 2 lines wanted\n",
+        "f: 2 cases\nf: 1 lines wanted\n",
         "f:3: a second case of this name\n",
     ),
     (
         "case a\n  with b\n  said x\n",
-        "f: 1 cases\nf: 1 lines wanted\n",
+        "f: 1 cases\nf: 0 lines wanted\n",
         "f:1: a base that is not there\n",
     ),
     (
@@ -148,56 +166,46 @@ const CASES: [(&str, &str, &str); 12] = [
     ),
 ];
 
-/// Whether counts and differences are reported, and whether a program ends with 1 exactly where something
-/// differs.
-fn is_told(
-    rt: &HostRuntime,
-    told: Tally,
-    counts: &str,
-    differences: &str,
-) -> Result<bool, AllocError> {
-    let is_so = told.counts.as_str() == counts && told.differences.as_str() == differences;
-    let code = exit_code(show(rt, "f", &Ok(told)));
-    let status = format!(in rt.alloc(); "{code:?}")?;
-    let wanted = if differences.is_empty() {
-        "ExitCode(unix_exit_status(0))"
-    } else {
-        "ExitCode(unix_exit_status(1))"
+/// Whether counts and differences are reported, and whether a program ends with 1 exactly where something differs.
+fn is_told(rt: &HostRuntime, told: &io::Result<Tally>, counts: &str, differences: &str) -> bool {
+    let is_so = match told {
+        Ok(told) => told.counts.text() == counts && told.differences.text() == differences,
+        Err(_) => false,
     };
-    Ok(is_so && status.as_str() == wanted)
+    let status = if differences.is_empty() { 0 } else { 1 };
+    is_so && exit_code(show(rt, "f", told)) == ExitCode::from(status)
 }
 
-#[test]
-fn rows_are_told(rt: HostRuntime) -> Result<(), Fail> {
-    for (text, counts, differences) in ROWS.iter() {
-        let told = told_rows(rt.alloc(), "f", text, &Same)?;
-        let is_told = is_told(&rt, told, counts, differences)?;
-        assert!(rt; is_told, "{text}");
+/// The first text of which something else is told.
+fn first_wrong(rt: &HostRuntime, files: &[(&'static str, &str, &str)]) -> &'static str {
+    for (text, counts, differences) in files {
+        let told = Ok(told_text(rt.alloc(), "f", text, &Same));
+        if !is_told(rt, &told, counts, differences) {
+            return text;
+        }
     }
-    Ok(())
+    "none"
 }
 
 #[test]
-fn cases_are_told(rt: HostRuntime) -> Result<(), Fail> {
-    for (text, counts, differences) in CASES.iter() {
-        let told = told_cases(rt.alloc(), "f", text, &Same)?;
-        let is_told = is_told(&rt, told, counts, differences)?;
-        assert!(rt; is_told, "{text}");
-    }
-    Ok(())
+fn rows_are_told(rt: HostRuntime) {
+    assert_eq!(rt; first_wrong(&rt, &ROWS), "none");
 }
 
 #[test]
-fn a_file_that_is_no_text_is_told(rt: HostRuntime) -> Result<(), Fail> {
+fn cases_are_told(rt: HostRuntime) {
+    assert_eq!(rt; first_wrong(&rt, &CASES), "none");
+}
+
+#[test]
+fn a_file_that_is_no_text_is_told(rt: HostRuntime) {
     let mut told = Tally::new(rt.alloc());
-    assert!(rt; text_of(&mut told, "f", b"[same]\na\xff")?.is_none());
-    assert!(rt; is_told(&rt, told, "", "f:2: the file is no UTF-8\n")?);
-    Ok(())
+    let is_text = text_of(&mut told, "f", b"[same]\na\xff").is_some();
+    let is_told = is_told(&rt, &Ok(told), "", "f:2: the file is no UTF-8\n");
+    assert!(rt; is_told && !is_text);
 }
 
 #[test]
-fn a_file_that_is_not_there_is_not_as_wanted(rt: HostRuntime) -> Result<(), Fail> {
-    assert!(rt; !compare_rows(&rt, "no-such-file.txt", &Same));
-    assert!(rt; !compare_cases(&rt, "no-such-file.txt", &Same));
-    Ok(())
+fn a_file_that_is_not_there_is_not_as_wanted(rt: HostRuntime) {
+    assert!(rt; !compare(&rt, "no-such-file.txt", &Same));
 }

@@ -5,8 +5,6 @@
 #[cfg(test)]
 mod files;
 #[cfg(test)]
-mod keys;
-#[cfg(test)]
 mod licenses;
 #[cfg(test)]
 mod listing;

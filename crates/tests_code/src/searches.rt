@@ -2,8 +2,10 @@
 use deny_text::search::{binary_search, contains};
 use deny_text::span::compares_by_value;
 use deny_text::{Span, Spanned, Text, TextMap};
+use std::alloc::{AllocError, Global};
 use std::cmp::Ordering;
 use std::test::Fail;
+use tests_files::AnswerText;
 
 #[test]
 fn finds_places(rt: HostRuntime) -> Result<(), Fail> {
@@ -41,26 +43,39 @@ fn places_do_not_count(rt: HostRuntime) {
     assert_eq!(rt; compares_by_value(&far, &more), (false, Ordering::Less));
 }
 
-#[test]
-fn keeps_the_last_value(rt: HostRuntime) -> Result<(), Fail> {
-    let mut map = TextMap::new(rt.alloc());
-    for (key, value, old) in [
-        ("b", 1u32, None),
-        ("a", 2, None),
-        ("b", 3, Some(1)),
-        ("", 4, None),
-    ] {
-        assert_eq!(rt; map.insert(Text::copy(rt.alloc(), key)?, value)?, old);
-    }
-    let mut entries = map.iter();
-    for want in [("", 4), ("a", 2), ("b", 3)] {
-        let next = entries.next().map(|entry| (entry.0, *entry.1));
-        assert_eq!(rt; next, Some(want));
-    }
-    assert!(rt; entries.next().is_none());
-    assert_eq!(rt; map.get("a").copied(), Some(2));
-    assert_eq!(rt; map.get("c").copied(), None);
-    assert_eq!(rt; map.len(), 3);
-    assert!(rt; !map.is_empty());
+/// Inserts a value by a key, and puts the one that was there.
+fn put_inserted(
+    alloc: Global,
+    out: &mut AnswerText,
+    map: &mut TextMap<u32>,
+    key: &str,
+    value: u32,
+) -> Result<(), AllocError> {
+    let old = map.insert(Text::copy(alloc, key)?, value)?;
+    write!(out, "{old:?} ");
     Ok(())
+}
+
+/// Puts the entries of a map in order, what it finds by two keys, and how many entries it has.
+fn put_map(out: &mut AnswerText, map: &TextMap<u32>) {
+    for (key, value) in map.iter() {
+        write!(out, "[{key}]={value} ");
+    }
+    let there = map.get("a").copied();
+    let absent = map.get("c").copied();
+    write!(out, "{there:?} {absent:?} {} {}", map.len(), map.is_empty());
+}
+
+#[test]
+fn keeps_the_last_value(rt: HostRuntime) {
+    let mut out = AnswerText::new(rt.alloc());
+    let mut map = TextMap::new(rt.alloc());
+    for (key, value) in [("b", 1), ("a", 2), ("b", 3), ("", 4)] {
+        if put_inserted(rt.alloc(), &mut out, &mut map, key, value).is_err() {
+            out.want_memory();
+        }
+    }
+    put_map(&mut out, &map);
+    let wanted = "None None Some(1) None []=4 [a]=2 [b]=3 Some(2) None 3 false";
+    assert_eq!(rt; out.text(), wanted);
 }

@@ -1,15 +1,16 @@
 //! Codes and levels of findings, what overrides make of them, and keys that are no longer wanted.
-use deny_text::{PathBuf, Span, Text};
+use crate::sources;
+use deny_text::{Span, Text};
 use diag_core::{
-    AddError, Check, CodeMap, Deprecated, DeprecationReason, Diag, Diagnostic, DiagnosticCode,
-    DiagnosticOverrides, ErrorSink, FileId, Files, LevelFilter, LevelPair, LevelPairs, Pack,
-    Severity, log_level_to_severity,
+    Check, CodeMap, Deprecated, DeprecationReason, Diag, Diagnostic, DiagnosticCode,
+    DiagnosticOverrides, ErrorSink, LevelFilter, LevelPair, LevelPairs, Pack, Severity,
+    log_level_to_severity,
 };
 use run_request::FromWord;
 use std::alloc::{AllocError, Global};
-use tests_files::AnswerText;
-use tests_text::calls::{MemoryResult, number_in, put_made};
-use tests_text::paths::{pair_of, put_option};
+use tests_files::{AnswerText, Asked, Room, Shown, Told};
+use tests_text::calls::{number_in, put_made};
+use tests_text::paths::pair_of;
 use tree_core::TreeError;
 
 pub fn severity_named(name: &str) -> Severity {
@@ -65,8 +66,29 @@ fn deprecated(alloc: Global, name: &str) -> Result<Diagnostic, AllocError> {
     deprecated.into_diagnostic(alloc)
 }
 
+/// What of a finding is put: its level.
+struct Level;
+
+impl Shown<Level> for Diagnostic {
+    fn put(&self, out: &mut AnswerText) {
+        write!(out, "{:?}", self.severity);
+    }
+}
+
+/// What of a finding is put: its code.
+struct Code;
+
+impl Shown<Code> for Diagnostic {
+    fn put(&self, out: &mut AnswerText) {
+        match &self.code {
+            Some(code) => write!(out, "{code}"),
+            None => out.put("none"),
+        }
+    }
+}
+
 /// Takes a word that overrides: `CODE=LEVEL`, or `LEVEL>LEVEL`.
-fn take(alloc: Global, overrides: &mut DiagnosticOverrides, word: &str) -> MemoryResult {
+fn take(alloc: Global, overrides: &mut DiagnosticOverrides, word: &str) -> Result<(), AllocError> {
     if let Some((name, level)) = word.split_once('=') {
         let name = Text::copy(alloc, name)?;
         let _ = overrides
@@ -79,86 +101,67 @@ fn take(alloc: Global, overrides: &mut DiagnosticOverrides, word: &str) -> Memor
     Ok(())
 }
 
-/// What words override.
-fn overrides_of(alloc: Global, words: &str) -> Result<DiagnosticOverrides, AllocError> {
+/// What words override. That there was no memory for a word is noted.
+fn overrides_of(out: &mut AnswerText, alloc: Global, words: &str) -> DiagnosticOverrides {
     let mut overrides = DiagnosticOverrides {
         code_overrides: CodeMap::new(alloc),
         level_overrides: LevelPairs::new(alloc),
     };
     for word in words.split(' ') {
-        take(alloc, &mut overrides, word)?;
+        if take(alloc, &mut overrides, word).is_err() {
+            out.want_memory();
+        }
     }
-    Ok(overrides)
+    overrides
 }
 
-/// A finding that is as `CODE LEVEL`, or as `LEVEL` without a code.
-fn finding_of(alloc: Global, text: &str) -> Result<Diag, AllocError> {
+/// Puts the level that overrides give to a finding that is as `CODE LEVEL`.
+pub fn put_level(out: &mut AnswerText, overrides: &DiagnosticOverrides, finding: &str) {
+    let (name, level) = finding.split_once(' ').unwrap_or((finding, ""));
+    write!(out, "{:?}", overrides.get(name, severity_named(level)));
+}
+
+fn put_overridden(out: &mut AnswerText, alloc: Global, words: &str, finding: &str) {
+    let overrides = overrides_of(out, alloc, words);
+    put_level(out, &overrides, finding);
+}
+
+/// Adds a finding that is as `CODE LEVEL`, or as `LEVEL` without a code.
+fn push(alloc: Global, pack: &mut Pack, text: &str) -> Result<(), AllocError> {
     let (name, level) = text.split_once(' ').unwrap_or(("", text));
     let finding = Diagnostic::new(alloc, severity_named(level));
-    if name.is_empty() {
-        return Diag::new(finding, None);
-    }
-    Diag::new(finding.with_code(name)?, None)
-}
-
-fn pack_of(alloc: Global, findings: &str) -> Result<Pack, AllocError> {
-    let mut pack = Pack::new(alloc, Check::Licenses);
-    for text in findings.split(", ") {
-        let finding = finding_of(alloc, text)?;
-        pack.push(finding)?;
-    }
-    Ok(pack)
-}
-
-/// A sink with overrides, and the findings that were pushed to it.
-fn sink_of(alloc: Global, words: &str, findings: &str) -> Result<ErrorSink, AllocError> {
-    let pack = pack_of(alloc, findings)?;
-    let Ok(overrides) = overrides_of(alloc, words) else {
-        return Err(AllocError);
+    let finding = match name {
+        "" => Diag::new(finding, None)?,
+        _ => Diag::new(finding.with_code(name)?, None)?,
     };
-    let mut sink = ErrorSink::new(alloc, Some(overrides));
-    match sink.push(pack) {
-        Ok(()) => Ok(sink),
-        Err(error) => Err(error),
-    }
+    pack.push(finding)
 }
 
 /// Puts how many packs a sink has, and each finding's level.
-fn put_levels(out: &mut AnswerText, sink: &ErrorSink) {
-    write!(out, "{}:", sink.packs.items().len());
-    for pack in sink.packs.items() {
-        for finding in pack.iter() {
-            write!(out, " {:?}", finding.diag.severity);
+impl Shown<Findings> for ErrorSink {
+    fn put(&self, out: &mut AnswerText) {
+        write!(out, "{}:", self.packs.items().len());
+        for pack in self.packs.items() {
+            for finding in pack.iter() {
+                write!(out, " {:?}", finding.diag.severity);
+            }
         }
     }
 }
 
+/// Puts what a sink with overrides makes of the findings of a pack.
 fn put_packs(out: &mut AnswerText, alloc: Global, words: &str, findings: &str) {
-    match &sink_of(alloc, words, findings) {
-        Ok(sink) => put_levels(out, sink),
-        Err(_) => out.want_memory(),
+    let mut sink = ErrorSink::new(alloc, Some(overrides_of(out, alloc, words)));
+    let mut pack = Pack::new(alloc, Check::Licenses);
+    for text in findings.split(", ") {
+        if push(alloc, &mut pack, text).is_err() {
+            out.want_memory();
+        }
     }
-}
-
-/// Puts the level that overrides give to a code and a level.
-fn put_level(out: &mut AnswerText, alloc: Global, words: &str, finding: &str) {
-    let (name, level) = finding.split_once(' ').unwrap_or((finding, ""));
-    match &overrides_of(alloc, words) {
-        Ok(overrides) => write!(out, "{:?}", overrides.get(name, severity_named(level))),
-        Err(_) => out.want_memory(),
+    if sink.push(pack).is_err() {
+        out.want_memory();
     }
-}
-
-/// Puts the level or the code of the finding on a deprecated key.
-fn put_deprecated(out: &mut AnswerText, alloc: Global, name: &str, is_level: bool) {
-    match &deprecated(alloc, name) {
-        Ok(finding) if is_level => write!(out, "{:?}", finding.severity),
-        Ok(finding) => match &finding.code {
-            Some(code) => write!(out, "{code}"),
-            None => out.put("none"),
-        },
-        Err(_) => out.want_memory(),
-    }
+    sink.put(out);
 }
 
 fn tree_error_named(name: &str) -> TreeError {
@@ -170,88 +173,6 @@ fn tree_error_named(name: &str) -> TreeError {
     }
 }
 
-/// Adds a file with the first text, and gives it the second one later, where that has letters.
-fn put_file(alloc: Global, files: &mut Files, first: &str, second: &str) -> MemoryResult {
-    let first = Text::copy(alloc, first)?;
-    let Ok(name) = Text::copy(alloc, "named") else {
-        return Err(AllocError);
-    };
-    files.add_unnamed(name, first)?;
-    if !second.is_empty() {
-        files.update(0, Text::copy(alloc, second)?)?;
-    }
-    Ok(())
-}
-
-/// The file with a text, or with the one behind `, then `, which it is given later; none of the text `no file`.
-fn files_of(alloc: Global, text: &str) -> Result<Files, AllocError> {
-    let (first, second) = text.split_once(", then ").unwrap_or((text, ""));
-    let mut files = Files::new(alloc);
-    if text != "no file" {
-        put_file(alloc, &mut files, first, second)?;
-    }
-    Ok(files)
-}
-
-/// Puts what a file says of the byte or the line of that number, or else its name and its text.
-fn put_place(out: &mut AnswerText, group: &str, files: &Files, number: usize) {
-    match group {
-        "line and column" => match files.location(0, number) {
-            Ok(place) => write!(out, "{}:{}", place.line, place.column),
-            Err(error) => write!(out, "{error:?}"),
-        },
-        "file that was updated" => {
-            let source = files.source(0).unwrap_or("no source");
-            write!(out, "{}: {source}", files.name(0).unwrap_or("no name"));
-        }
-        _ => match files.line_range(0, number) {
-            Ok(span) => write!(out, "{}..{}", span.start, span.end),
-            Err(error) => write!(out, "{error:?}"),
-        },
-    }
-}
-
-/// Puts what a file says that is as `NUMBER in TEXT`, or as its text alone.
-fn put_in_file(out: &mut AnswerText, alloc: Global, group: &str, text: &str) {
-    let (number, source) = text.split_once(" in").unwrap_or(("1", text));
-    match &files_of(alloc, source.trim_start()) {
-        Ok(files) => put_place(out, group, files, number_in(number)),
-        Err(_) => out.want_memory(),
-    }
-}
-
-/// Adds the file of a word `PATH=SOURCE`, or of a path that is its own source; one of `name:NAME=SOURCE` no path finds.
-fn add(alloc: Global, files: &mut Files, word: &str) -> Result<FileId, AddError> {
-    let (path, source) = word.split_once('=').unwrap_or((word, word));
-    let source = Text::copy(alloc, source)?;
-    match path.strip_prefix("name:") {
-        Some(name) => Ok(files.add_unnamed(Text::copy(alloc, name)?, source)?),
-        None => files.add(PathBuf::copy(alloc, path)?, source),
-    }
-}
-
-/// Adds the files of some words, puts what was not added, and returns them.
-fn added(out: &mut AnswerText, alloc: Global, words: &str) -> Files {
-    let mut files = Files::new(alloc);
-    for word in words.split(' ') {
-        match &add(alloc, &mut files, word) {
-            Ok(_) => (),
-            Err(AddError::PathTaken(path, source)) => write!(out, "taken: {path} {source}"),
-            Err(AddError::Memory) => out.want_memory(),
-        }
-    }
-    files
-}
-
-/// Adds the files of some words, and puts the text of that with the path behind a bar, where one is looked for.
-fn put_added(out: &mut AnswerText, alloc: Global, text: &str, is_sought: bool) {
-    let (words, path) = pair_of(text);
-    let files = added(out, alloc, words);
-    if is_sought {
-        put_option(out, files.source_by_path(path));
-    }
-}
-
 fn put_qualified(out: &mut AnswerText, alloc: Global, name: &str) {
     match code_named(name) {
         Some(code) => put_made(out, code.qualified_str(alloc)),
@@ -259,41 +180,37 @@ fn put_qualified(out: &mut AnswerText, alloc: Global, name: &str) {
     }
 }
 
-/// Puts what a text comes to in a group of codes and levels, and returns whether there is such a group.
-fn put_of_codes(out: &mut AnswerText, alloc: Global, group: &str, text: &str) -> bool {
-    let (one, other) = pair_of(text);
-    match group {
-        "codes in their order" | "place of a code" => put_code(out, text),
-        "qualified code" => put_qualified(out, alloc, text),
-        "code before another" => write!(out, "{}", code_named(one) < code_named(other)),
-        "level milder than another" => {
-            write!(out, "{}", severity_named(one) < severity_named(other))
-        }
-        "least level" => match LevelFilter::from_word(text) {
-            Some(level) => write!(out, "{:?}", log_level_to_severity(level)),
-            None => out.put("no level"),
-        },
-        _ => return false,
+/// Puts the level of findings that the level of a word asks for at least.
+fn put_least(out: &mut AnswerText, word: &str) {
+    match LevelFilter::from_word(word) {
+        Some(level) => write!(out, "{:?}", log_level_to_severity(level)),
+        None => out.put("no level"),
     }
-    true
 }
 
-/// Puts what a text comes to in a group, and returns whether there is such a group.
-pub fn put(out: &mut AnswerText, alloc: Global, group: &str, text: &str) -> bool {
-    let (one, other) = pair_of(text);
-    match group {
-        "why a key is deprecated" => write!(out, "{}", reason_named(text)),
-        "level of a deprecated key" => put_deprecated(out, alloc, text, true),
-        "code of a deprecated key" => put_deprecated(out, alloc, text, false),
-        "overridden" => put_level(out, alloc, one, other),
-        "overridden in packs" => put_packs(out, alloc, one, other),
-        "failures of a tree" => write!(out, "{}", tree_error_named(text)),
-        "last of some files" => put_added(out, alloc, text, false),
-        "file by its path" => put_added(out, alloc, text, true),
-        "line and column" | "bytes of a line" | "second line of it" | "file that was updated" => {
-            put_in_file(out, alloc, group, text)
+/// Rows of codes and levels, and of files.
+pub struct Findings;
+
+impl Room for Findings {
+    fn answer(&self, asked: &Asked<'_>, out: &mut AnswerText) -> Told {
+        let (alloc, text) = (asked.alloc, asked.text);
+        let (one, other) = pair_of(text);
+        match asked.group {
+            "why a key is deprecated" => write!(out, "{}", reason_named(text)),
+            "level of a deprecated key" => out.made::<Level, _, _>(deprecated(alloc, text)),
+            "code of a deprecated key" => out.made::<Code, _, _>(deprecated(alloc, text)),
+            "overridden" => put_overridden(out, alloc, one, other),
+            "overridden in packs" => put_packs(out, alloc, one, other),
+            "failures of a tree" => write!(out, "{}", tree_error_named(text)),
+            "codes in their order" | "place of a code" => put_code(out, text),
+            "qualified code" => put_qualified(out, alloc, text),
+            "code before another" => write!(out, "{}", code_named(one) < code_named(other)),
+            "level milder than another" => {
+                write!(out, "{}", severity_named(one) < severity_named(other))
+            }
+            "least level" => put_least(out, text),
+            _ => return sources::put(asked, out),
         }
-        _ => return put_of_codes(out, alloc, group, text),
+        Told::Answer
     }
-    true
 }

@@ -1,12 +1,12 @@
 //! Levels of findings that words ask for, and summaries of checks.
-use crate::findings::severity_named;
+use crate::findings::put_level;
 use diag_core::LevelFilter;
 use diag_print::{Color, Format, LogContext, PrintError};
 use diag_stats::{AllStats, Stats, print_stats};
 use run_overrides::{OverrideError, overrides_of};
 use run_request::{CodeOrLevel, CodeOrLevels, FromWord, LintLevels};
 use std::alloc::{AllocError, Global};
-use tests_files::AnswerText;
+use tests_files::{AnswerText, Asked, Room, Told};
 use tests_text::paths::pair_of;
 use tree_core::MemSink;
 
@@ -27,8 +27,8 @@ fn take(levels: &mut LintLevels, option: &str, word: &str) -> Result<(), AllocEr
     }
 }
 
-/// What words ask for: each option with the code or the level behind it, as `-A rejected`.
-fn levels_of(alloc: Global, words: &str) -> Result<LintLevels, AllocError> {
+/// What words ask for: each option with the code or the level behind it, as `-A rejected`. That there was no memory for one is noted.
+fn levels_of(out: &mut AnswerText, alloc: Global, words: &str) -> LintLevels {
     let mut levels = LintLevels {
         warn: CodeOrLevels::new(alloc),
         allow: CodeOrLevels::new(alloc),
@@ -36,16 +36,17 @@ fn levels_of(alloc: Global, words: &str) -> Result<LintLevels, AllocError> {
     };
     for uses in words.split('-') {
         let (option, word) = cut(uses.trim());
-        take(&mut levels, option, word)?;
+        if take(&mut levels, option, word).is_err() {
+            out.want_memory();
+        }
     }
-    Ok(levels)
+    levels
 }
 
-/// Puts the level that is asked for of a code and a level, or what is there twice.
-fn put_overridden(out: &mut AnswerText, alloc: Global, levels: &LintLevels, finding: &str) {
-    let (name, level) = cut(finding);
-    match &overrides_of(alloc, levels) {
-        Ok(overrides) => write!(out, "{:?}", overrides.get(name, severity_named(level))),
+/// Puts the level that words ask for of a code and a level, or what is there twice.
+fn put_asked(out: &mut AnswerText, alloc: Global, words: &str, finding: &str) {
+    match &overrides_of(alloc, &levels_of(out, alloc, words)) {
+        Ok(overrides) => put_level(out, overrides, finding),
         Err(
             OverrideError::OverrideTwice {
                 name,
@@ -54,13 +55,6 @@ fn put_overridden(out: &mut AnswerText, alloc: Global, levels: &LintLevels, find
             },
         ) => write!(out, "twice: {name} {first:?} {second:?}"),
         Err(OverrideError::Memory) => out.want_memory(),
-    }
-}
-
-fn put_asked(out: &mut AnswerText, alloc: Global, words: &str, finding: &str) {
-    match &levels_of(alloc, words) {
-        Ok(levels) => put_overridden(out, alloc, levels, finding),
-        Err(_) => out.want_memory(),
     }
 }
 
@@ -108,17 +102,31 @@ fn put_sink(out: &mut AnswerText, name: &str, sink: &MemSink) {
     }
 }
 
-/// Puts what is written of checks, and the exit code. The sinks take seven bytes a call.
-fn put_written(
-    out: &mut AnswerText,
-    alloc: Global,
-    log_ctx: LogContext,
-    is_shown: bool,
-    stats: &AllStats,
-) -> Result<(), AllocError> {
-    let mut first = MemSink::new(alloc, 4000, 7)?;
-    let mut second = MemSink::new(alloc, 4000, 7)?;
-    let code = print_stats(alloc, stats, is_shown, log_ctx, &mut first, &mut second);
+/// What is printed of checks: a format, a level, and `shown` where the full form is asked for.
+fn form_of(words: &str) -> (LogContext, bool) {
+    let (format, rest) = cut(words);
+    let (level, shown) = cut(rest);
+    let log_ctx = LogContext {
+        format: Format::from_word(format).unwrap_or(Format::Sarif),
+        color: Color::Auto,
+        log_level: LevelFilter::from_word(level).unwrap_or(LevelFilter::Off),
+    };
+    (log_ctx, shown == "shown")
+}
+
+/// Puts what is written to two sinks of the checks in a row, and the exit code.
+fn put_written(out: &mut AnswerText, asked: &Asked<'_>, mut first: MemSink, mut second: MemSink) {
+    let (form, checks) = pair_of(asked.text);
+    let (log_ctx, is_shown) = form_of(form);
+    let stats = all_named(checks);
+    let code = print_stats(
+        asked.alloc,
+        &stats,
+        is_shown,
+        log_ctx,
+        &mut first,
+        &mut second,
+    );
     put_sink(out, "out", &first);
     put_sink(out, "err", &second);
     match code {
@@ -126,30 +134,28 @@ fn put_written(
         Err(PrintError::WriteFault { before, after }) => write!(out, "fault {before} {after}"),
         Err(PrintError::Memory) => out.want_memory(),
     }
-    Ok(())
 }
 
-/// Puts the summary of checks in a form: a format, a level, and `shown` where the full form is asked for.
-fn put_summary(out: &mut AnswerText, alloc: Global, form: &str, checks: &str) {
-    let (format, rest) = cut(form);
-    let (level, shown) = cut(rest);
-    let log_ctx = LogContext {
-        format: Format::from_word(format).unwrap_or(Format::Sarif),
-        color: Color::Auto,
-        log_level: LevelFilter::from_word(level).unwrap_or(LevelFilter::Off),
-    };
-    if put_written(out, alloc, log_ctx, shown == "shown", &all_named(checks)).is_err() {
-        out.want_memory();
+/// Puts the summary of checks. The sinks take seven bytes a call.
+fn put_summary(out: &mut AnswerText, asked: &Asked<'_>) {
+    let sinks = MemSink::new(asked.alloc, 4000, 7).ok();
+    match sinks.zip(MemSink::new(asked.alloc, 4000, 7).ok()) {
+        Some((first, second)) => put_written(out, asked, first, second),
+        None => out.want_memory(),
     }
 }
 
-/// Puts what a text comes to in a group, and returns whether there is such a group.
-pub fn put(out: &mut AnswerText, alloc: Global, group: &str, text: &str) -> bool {
-    let (one, other) = pair_of(text);
-    match group {
-        "level that words ask for" => put_asked(out, alloc, one, other),
-        "summary" => put_summary(out, alloc, one, other),
-        _ => return false,
+/// Rows of levels that words ask for, and of summaries.
+pub struct Levels;
+
+impl Room for Levels {
+    fn answer(&self, asked: &Asked<'_>, out: &mut AnswerText) -> Told {
+        let (words, finding) = pair_of(asked.text);
+        match asked.group {
+            "level that words ask for" => put_asked(out, asked.alloc, words, finding),
+            "summary" => put_summary(out, asked),
+            _ => return Told::NoSuchGroup,
+        }
+        Told::Answer
     }
-    true
 }

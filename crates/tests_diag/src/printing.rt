@@ -1,9 +1,4 @@
 //! Findings and files of cases, what is printed of them, and whether their labels lie in the files.
-ghost use Rattle.std.specs.Prelude.{◌≡◌, OnOk};
-ghost use Rattle.tree_core.specs.Faults.{Gained};
-ghost use Rattle.diag_print.specs.Places.{LabelsAreInside};
-ghost use Rattle.diag_print.specs.Printed.{printed_at};
-
 use crate::findings::severity_named;
 use deny_text::{PathBuf, Span, Text};
 use diag_core::{
@@ -14,19 +9,17 @@ use diag_print::{
 };
 use run_request::FromWord;
 use std::alloc::{AllocError, Global};
-use tests_files::cases::{is_among, wanted};
 use tests_files::tree::number;
-use tests_files::{AnswerText, Case, CaseEntry, Cases, KeyAnswer};
-use tests_text::calls::{CallWords, Called, MemoryResult, lines_of, number_in, put_answered};
-use tree_core::{MemSink, Sink};
+use tests_files::{AnswerText, Asked, Case, CaseEntry, Comparison, Room, Shown, Told};
+use tests_text::calls::{CallWords, Called, number_in, put_answered};
+use tree_core::MemSink;
 
-/// The keys that say what is put in.
-const GIVEN: [&str; 10] = [
-    "file", "finding", "code", "message", "label", "note", "pack", "format", "level", "room",
-];
-
-/// The cases of printing.
-pub struct Printing;
+/// The bytes that are written as `6..12`.
+fn span_of(word: &str) -> Span {
+    let (start, end) = word.split_once("..").unwrap_or((word, word));
+    let (start, end) = (number_in(start), number_in(end));
+    Span { start, end }
+}
 
 /// The text below a key.
 fn text_of(entry: &CaseEntry) -> &str {
@@ -35,7 +28,7 @@ fn text_of(entry: &CaseEntry) -> &str {
 
 /// A label in a file, which is by its number before the bytes; `place` is a place that becomes a label.
 fn label_of(alloc: Global, entry: &CaseEntry) -> Result<Label, AllocError> {
-    let (style, place) = entry.word.as_str().split_once(' ').unwrap_or(("", ""));
+    let (style, place) = entry.word().split_once(' ').unwrap_or(("", ""));
     let (file, span) = place.split_once(' ').unwrap_or((place, ""));
     let (file, span) = (number_in(file), span_of(span));
     let label = match style {
@@ -46,23 +39,16 @@ fn label_of(alloc: Global, entry: &CaseEntry) -> Result<Label, AllocError> {
     label.with_message(text_of(entry))
 }
 
-/// The bytes that are written as `6..12`.
-fn span_of(word: &str) -> Span {
-    let (start, end) = word.split_once("..").unwrap_or((word, word));
-    let (start, end) = (number_in(start), number_in(end));
-    Span { start, end }
-}
-
 /// A finding with what an entry adds to it.
 fn with_entry(
     alloc: Global,
     finding: Diagnostic,
     entry: &CaseEntry,
 ) -> Result<Diagnostic, AllocError> {
-    match entry.key.as_str() {
-        "code" => finding.with_code(wanted(entry)),
-        "message" => finding.with_message(wanted(entry)),
-        "note" => finding.with_note(wanted(entry)),
+    match entry.key() {
+        "code" => finding.with_code(entry.wanted()),
+        "message" => finding.with_message(entry.wanted()),
+        "note" => finding.with_note(entry.wanted()),
         "label" => match label_of(alloc, entry) {
             Ok(label) => finding.with_label(label),
             Err(error) => Err(error),
@@ -72,10 +58,13 @@ fn with_entry(
 }
 
 /// Takes a finding, or what the last one has.
-fn take(alloc: Global, findings: &mut Vec<Diagnostic>, entry: &CaseEntry) -> MemoryResult {
-    if entry.key.as_str() == "finding" {
-        let severity = severity_named(entry.word.as_str());
-        return Ok(findings.push(Diagnostic::new(alloc, severity))?);
+fn take(
+    alloc: Global,
+    findings: &mut Vec<Diagnostic>,
+    entry: &CaseEntry,
+) -> Result<(), AllocError> {
+    if entry.key() == "finding" {
+        return Ok(findings.push(Diagnostic::new(alloc, severity_named(entry.word())))?);
     }
     match findings.pop() {
         Some(finding) => Ok(findings.push(with_entry(alloc, finding, entry)?)?),
@@ -102,28 +91,29 @@ fn pack_about(alloc: Global, id: &str) -> Result<Pack, AllocError> {
     }
 }
 
-fn fill(pack: &mut Pack, findings: Vec<Diagnostic>) -> MemoryResult {
+/// A pack with findings; none where there is no memory for one.
+fn filled(mut pack: Pack, findings: Vec<Diagnostic>) -> Option<Pack> {
+    let mut is_whole = true;
     for finding in findings {
-        let finding = Diag::new(finding, None)?;
-        pack.push(finding)?;
+        match Diag::new(finding, None) {
+            Ok(finding) => is_whole = pack.push(finding).is_ok() & is_whole,
+            Err(_) => is_whole = false,
+        }
     }
-    Ok(())
+    if is_whole { Some(pack) } else { None }
 }
 
 /// The findings of a case in a pack, about the crate that is behind the key `pack`.
-fn pack_of(alloc: Global, case: &Case<'_>) -> Result<Pack, AllocError> {
-    let findings = findings_of(alloc, case)?;
-    let Ok(mut pack) = pack_about(alloc, case.word("pack")) else {
-        return Err(AllocError);
-    };
-    match fill(&mut pack, findings) {
-        Ok(()) => Ok(pack),
-        Err(error) => Err(error),
+fn pack_of(alloc: Global, case: &Case<'_>) -> Option<Pack> {
+    let pack = pack_about(alloc, case.word("pack")).ok();
+    match pack.zip(findings_of(alloc, case).ok()) {
+        Some((pack, findings)) => filled(pack, findings),
+        None => None,
     }
 }
 
 fn put_file(alloc: Global, files: &mut Files, entry: &CaseEntry) -> Result<(), AddError> {
-    let path = PathBuf::copy(alloc, entry.word.as_str())?;
+    let path = PathBuf::copy(alloc, entry.word())?;
     files.add(path, Text::copy(alloc, text_of(entry))?)?;
     Ok(())
 }
@@ -133,12 +123,26 @@ fn files_of(alloc: Global, case: &Case<'_>) -> Result<Files, AddError> {
     let mut files = Files::new(alloc);
     for entries in [case.base, case.own] {
         for entry in entries {
-            if entry.key.as_str() == "file" {
+            if entry.key() == "file" {
                 put_file(alloc, &mut files, entry)?;
             }
         }
     }
     Ok(files)
+}
+
+/// What a case says: its findings in a pack, and its files.
+#[derive(Drop)]
+struct Given {
+    pack: Pack,
+    files: Files,
+}
+
+fn given_of(alloc: Global, case: &Case<'_>) -> Option<Given> {
+    match pack_of(alloc, case).zip(files_of(alloc, case).ok()) {
+        Some((pack, files)) => Some(Given { pack, files }),
+        None => None,
+    }
 }
 
 fn context_of(case: &Case<'_>) -> LogContext {
@@ -149,49 +153,37 @@ fn context_of(case: &Case<'_>) -> LogContext {
     }
 }
 
-/// Prints a finding to a sink: nothing at level off.
-fn print_to<S: Sink>(
-    alloc: Global,
-    context: LogContext,
-    finding: &Diagnostic,
-    files: &Files,
-    sink: &mut S,
-) -> Result<(), PrintError>
-    requires { LabelsAreInside files.now finding.now }
-    ensures { OnOk result
-        (Gained (S.written sink.old) (S.written sink.new) (printed_at context files.now finding.now)) }
-{
-    match DiagPrinter::new(context) {
-        None => Ok(()),
-        Some(printer) => {
-            let mut lock = printer.lock(sink);
-            lock.print(alloc, finding, files)
+impl Given {
+    /// Prints the pack where a case has the key `pack`, or else its first finding; nothing at level off. Returns what the call
+    /// answers; none where a label is outside its file.
+    fn print(&self, asked: &Asked<'_>, sink: &mut MemSink) -> Option<Result<(), PrintError>> {
+        let (alloc, pack, files) = (asked.alloc, &self.pack, &self.files);
+        let Some(printer) = DiagPrinter::new(context_of(&asked.case)) else {
+            return Some(Ok(()));
+        };
+        let mut lock = printer.lock(sink);
+        match pack.iter().next() {
+            Some(first) if asked.case.entry("pack").is_none() => {
+                if labels_are_inside(&first.diag, files) {
+                    Some(lock.print(alloc, &first.diag, files))
+                } else {
+                    None
+                }
+            }
+            _ if pack_labels_are_inside(pack, files) => {
+                Some(lock.print_krate_pack(alloc, pack, files))
+            }
+            _ => None,
         }
     }
-}
 
-/// Prints the pack where a case has the key `pack`, or else its first finding; nothing at level off. Returns what the call
-/// answers; none where a label is outside its file.
-fn print(
-    alloc: Global,
-    case: &Case<'_>,
-    pack: &Pack,
-    files: &Files,
-    sink: &mut MemSink,
-) -> Option<Result<(), PrintError>> {
-    if !pack_labels_are_inside(pack, files) {
-        return None;
-    }
-    let context = context_of(case);
-    match pack.iter().next() {
-        Some(first) if case.entry("pack").is_none() && labels_are_inside(&first.diag, files) => {
-            return Some(print_to(alloc, context, &first.diag, files, sink));
+    /// Prints to a sink of a case's room, and puts what the call answers or what is written.
+    fn put_printed(&self, asked: &Asked<'_>, out: &mut AnswerText, mut sink: MemSink) {
+        match self.print(asked, &mut sink) {
+            None => out.cant_be_tried(),
+            Some(answer) if asked.group == "answer" => write!(out, "{answer:?}"),
+            Some(_) => out.put(str::from_utf8(sink.written()).unwrap_or("no UTF-8")),
         }
-        _ => {}
-    }
-    match DiagPrinter::new(context) {
-        None => Some(Ok(())),
-        Some(printer) => Some(printer.lock(sink).print_krate_pack(alloc, pack, files)),
     }
 }
 
@@ -203,101 +195,75 @@ struct Inside<'f> {
 
 /// Whether a label lies in its file.
 impl Called for Inside<'_> {
-    fn put_answer(
-        &mut self,
-        out: &mut AnswerText,
-        alloc: Global,
-        call: CallWords<'_>,
-    ) -> MemoryResult {
+    fn put_answer(&mut self, out: &mut AnswerText, alloc: Global, call: CallWords<'_>) {
         let label = Label::primary(alloc, number_in(call.verb), span_of(call.path));
-        let finding = Diagnostic::new(alloc, Severity::Note).with_label(label)?;
-        write!(out, " => {}", labels_are_inside(&finding, self.files));
-        Ok(())
+        match &Diagnostic::new(alloc, Severity::Note).with_label(label) {
+            Ok(finding) => write!(out, " => {}", labels_are_inside(finding, self.files)),
+            Err(_) => out.want_memory(),
+        }
     }
 }
 
-fn put_finding(out: &mut AnswerText, finding: &Diag) {
-    let diag = &finding.diag;
-    out.put("; ");
-    out.put(diag.message.as_str());
-    let labels = diag.labels.items().len();
-    let notes = diag.notes.items().len();
-    let crates = finding.graph_nodes.items().len();
-    write!(out, ", {labels} labels, {notes} notes, {crates} crates");
+impl Shown<Printing> for Diag {
+    fn put(&self, out: &mut AnswerText) {
+        let diag = &self.diag;
+        let (labels, notes) = (diag.labels.items().len(), diag.notes.items().len());
+        let crates = self.graph_nodes.items().len();
+        write!(out, "; {}, {labels} labels", diag.message);
+        write!(out, ", {notes} notes, {crates} crates");
+    }
 }
 
 /// Puts how many findings a pack has, whether it is empty, and what each has that is taken out of it.
-fn put_kept(out: &mut AnswerText, alloc: Global, case: &Case<'_>) -> Result<KeyAnswer, AddError> {
-    let pack = pack_of(alloc, case)?;
+fn put_kept(out: &mut AnswerText, pack: Pack) {
     write!(out, "{} {}", pack.len(), pack.is_empty());
     for finding in pack {
-        put_finding(out, &finding);
-    }
-    Ok(KeyAnswer::Yes)
-}
-
-/// Puts what a call that prints answers, or what is written.
-fn put_answer(
-    out: &mut AnswerText,
-    key: &str,
-    answer: &Option<Result<(), PrintError>>,
-    written: &[u8],
-) -> KeyAnswer {
-    match answer {
-        None => return KeyAnswer::CantBeTried,
-        Some(answer) if key == "answer" => write!(out, "{answer:?}"),
-        Some(_) => out.put(str::from_utf8(written).unwrap_or("no UTF-8")),
-    }
-    KeyAnswer::Yes
-}
-
-/// Prints what a case says to a sink of its room.
-fn put_printed(
-    out: &mut AnswerText,
-    alloc: Global,
-    case: &Case<'_>,
-    key: &str,
-    pack: &Pack,
-    files: &Files,
-) -> Result<KeyAnswer, AddError> {
-    let room = number(case.word("room")).unwrap_or(1024);
-    let mut sink = MemSink::new(alloc, room as usize, 7)?;
-    let answer = print(alloc, case, pack, files, &mut sink);
-    Ok(put_answer(out, key, &answer, sink.written()))
-}
-
-fn put_print(
-    out: &mut AnswerText,
-    alloc: Global,
-    case: &Case<'_>,
-    key: &str,
-) -> Result<KeyAnswer, AddError> {
-    let files = files_of(alloc, case)?;
-    match &pack_of(alloc, case) {
-        Ok(pack) => put_printed(out, alloc, case, key, pack, &files),
-        Err(_) => Err(AddError::Memory),
+        finding.put(out);
     }
 }
 
-fn put_inside(out: &mut AnswerText, alloc: Global, case: &Case<'_>) -> Result<KeyAnswer, AddError> {
-    let files = files_of(alloc, case)?;
-    let mut inside = Inside { files: &files };
-    put_answered(out, alloc, lines_of(case, "inside"), &mut inside);
-    Ok(KeyAnswer::Yes)
+impl Room for Given {
+    fn answer(&self, asked: &Asked<'_>, out: &mut AnswerText) -> Told {
+        let (alloc, case, files) = (asked.alloc, &asked.case, &self.files);
+        match asked.group {
+            "inside" => put_answered(out, alloc, case.given("inside"), Inside { files }),
+            "kept" => match pack_of(alloc, case) {
+                Some(pack) => put_kept(out, pack),
+                None => out.want_memory(),
+            },
+            "written" | "answer" => {
+                let room = number(case.word("room")).unwrap_or(1024);
+                match MemSink::new(alloc, room as usize, 7) {
+                    Ok(sink) => self.put_printed(asked, out, sink),
+                    Err(_) => out.want_memory(),
+                }
+            }
+            "file"
+            | "finding"
+            | "code"
+            | "message"
+            | "label"
+            | "note"
+            | "pack"
+            | "format"
+            | "level"
+            | "room" => return Told::Given,
+            _ => return Told::NoSuchGroup,
+        }
+        Told::Answer
+    }
 }
 
-impl Cases for Printing {
-    fn is_given(&self, key: &str) -> bool {
-        is_among(key, &GIVEN)
+/// The cases of printing.
+pub struct Printing;
+
+impl Room for Printing {
+    fn answer(&self, _asked: &Asked<'_>, _out: &mut AnswerText) -> Told {
+        Told::NoSuchGroup
     }
 
-    fn told(&self, alloc: Global, case: &Case<'_>, key: &str, out: &mut AnswerText) -> KeyAnswer {
-        let put = match key {
-            "inside" => put_inside(out, alloc, case),
-            "kept" => put_kept(out, alloc, case),
-            "written" | "answer" => put_print(out, alloc, case, key),
-            _ => Ok(KeyAnswer::NoSuchKey),
-        };
-        put.unwrap_or(KeyAnswer::CantBeTried)
+    fn compare_runs(&self, compared: &mut Comparison<'_>, case: &Case<'_>) -> bool {
+        compared.compare_ran(given_of(compared.alloc, case), case);
+        true
     }
 }

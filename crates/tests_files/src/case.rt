@@ -3,7 +3,8 @@
 //! end, one with an equals sign is bytes in hex, one with a star is a count and a text that is repeated so often, and one
 //! with an at sign is a count and a text that is numbered.
 //! Other lines are empty or begin with `#`.
-use crate::told::{Tally, UnreadLine};
+use crate::compared::{Comparison, is_read};
+use crate::told::UnreadLine;
 use std::alloc::{AllocError, Global};
 
 /// A key, what is behind it, and a text.
@@ -11,8 +12,8 @@ use std::alloc::{AllocError, Global};
 pub struct CaseEntry {
     /// The line that it begins in, counted from 1.
     pub line: u64,
-    pub key: String,
-    pub word: String,
+    key: String,
+    word: String,
     pub text: Vec<u8>,
 }
 
@@ -21,37 +22,65 @@ pub struct CaseEntry {
 pub struct Block {
     pub line: u64,
     pub is_base: bool,
-    pub name: String,
-    pub entries: Vec<CaseEntry>,
+    name: String,
+    entries: Vec<CaseEntry>,
 }
 
 /// A case with the entries of its base, which are before its own.
 #[derive(Clone, Copy)]
 pub struct Case<'c> {
-    pub file: &'c str,
+    /// The line that it begins in.
+    pub line: u64,
     pub name: &'c str,
     pub base: &'c [CaseEntry],
     pub own: &'c [CaseEntry],
 }
 
+impl CaseEntry {
+    pub fn key(&self) -> &str {
+        self.key.as_str()
+    }
+
+    /// What is behind the key.
+    pub fn word(&self) -> &str {
+        self.word.as_str()
+    }
+
+    /// What it wants, or is given: the word behind its key, or else the text below it.
+    pub fn wanted(&self) -> &str {
+        if self.word().is_empty() {
+            str::from_utf8(&self.text).unwrap_or("no UTF-8")
+        } else {
+            self.word()
+        }
+    }
+
+    /// Whether its key is for each room the same: the base, and a value that is in texts by its name.
+    pub fn is_shared(&self) -> bool {
+        self.key() == "with" || self.key() == "let"
+    }
+}
+
 fn entry_among<'e>(entries: &'e [CaseEntry], key: &str) -> Option<&'e CaseEntry> {
     for entry in entries {
-        if entry.key.as_str() == key {
+        if entry.key() == key {
             return Some(entry);
         }
     }
     None
 }
 
-/// What is behind a key of a block, or nothing.
-pub fn word_of<'b>(block: &'b Block, key: &str) -> &'b str {
-    match entry_among(&block.entries, key) {
-        Some(entry) => entry.word.as_str(),
-        None => "",
-    }
-}
-
 impl<'c> Case<'c> {
+    /// What a row has for a case: no entries.
+    pub fn of_row() -> Case<'static> {
+        Case {
+            line: 0,
+            name: "",
+            base: &[],
+            own: &[],
+        }
+    }
+
     /// The first entry of a key: of the case, or else of its base.
     pub fn entry(&self, key: &str) -> Option<&'c CaseEntry> {
         match entry_among(self.own, key) {
@@ -60,10 +89,15 @@ impl<'c> Case<'c> {
         }
     }
 
+    /// Whether the case says something by a key itself.
+    pub fn has_own(&self, key: &str) -> bool {
+        entry_among(self.own, key).is_some()
+    }
+
     /// What is behind a key, or else this.
     pub fn word_or(&self, key: &str, or: &'c str) -> &'c str {
         match self.entry(key) {
-            Some(entry) => entry.word.as_str(),
+            Some(entry) => entry.word(),
             None => or,
         }
     }
@@ -72,64 +106,35 @@ impl<'c> Case<'c> {
     pub fn word(&self, key: &str) -> &'c str {
         self.word_or(key, "")
     }
+
+    /// The word behind a key, or the lines below it.
+    pub fn given(&self, key: &str) -> &'c str {
+        match self.entry(key) {
+            Some(entry) => entry.wanted(),
+            None => "",
+        }
+    }
 }
 
-fn entry_of(alloc: Global, line: u64, text: &str) -> Result<CaseEntry, AllocError> {
-    let text = text.trim();
-    let (key, word) = text.split_once(' ').unwrap_or((text, ""));
-    let key = String::from_str(alloc, key)?;
-    let word = String::from_str(alloc, word.trim())?;
-    Ok(CaseEntry {
-        line,
-        key,
-        word,
-        text: Vec::new(alloc),
-    })
-}
-
-fn block_of(alloc: Global, line: u64, is_base: bool, name: &str) -> Result<Block, AllocError> {
-    let name = String::from_str(alloc, name.trim())?;
-    let entries = Vec::new(alloc);
-    Ok(Block {
-        line,
-        is_base,
-        name,
-        entries,
-    })
-}
-
-fn put_byte(text: &mut Vec<u8>, byte: u8) -> Result<(), AllocError> {
-    Ok(text.push(byte)?)
+fn push<T: Drop>(items: &mut Vec<T>, item: T) -> Result<(), UnreadLine> {
+    match items.push(item) {
+        Ok(()) => Ok(()),
+        Err(_) => Err(UnreadLine::Memory),
+    }
 }
 
 /// Appends the bytes that are written in hex.
 fn put_hex(text: &mut Vec<u8>, line: &str) -> Result<(), UnreadLine> {
     for word in line.split_whitespace() {
         match u8::from_str_radix(word, 16) {
-            Ok(byte) => put_byte(text, byte)?,
+            Ok(byte) => push(text, byte)?,
             Err(_) => return Err(UnreadLine::Line("a byte that is no number")),
         }
     }
     Ok(())
 }
 
-fn put_often(text: &mut Vec<u8>, count: u32, piece: &str) -> Result<(), AllocError> {
-    for _ in 0..count {
-        text.extend_from_slice(piece.as_bytes())?;
-    }
-    Ok(())
-}
-
-/// Appends a text so often as the number before it says.
-fn put_repeated(text: &mut Vec<u8>, line: &str) -> Result<(), UnreadLine> {
-    let (count, piece) = line.trim().split_once(' ').unwrap_or((line, ""));
-    match count.parse::<u32>() {
-        Ok(count) => Ok(put_often(text, count, piece)?),
-        Err(_) => Err(UnreadLine::Line("a count that is no number")),
-    }
-}
-
-fn put_number(alloc: Global, text: &mut Vec<u8>, number: u64) -> Result<(), AllocError> {
+fn put_number(alloc: Global, text: &mut Vec<u8>, number: u32) -> Result<(), AllocError> {
     let digits = format!(in alloc; "{number}")?;
     text.extend_from_slice(digits.as_bytes())
 }
@@ -138,68 +143,57 @@ fn put_number(alloc: Global, text: &mut Vec<u8>, number: u64) -> Result<(), Allo
 fn put_numbered(
     alloc: Global,
     text: &mut Vec<u8>,
-    number: u64,
+    number: u32,
     piece: &str,
-) -> Result<(), AllocError> {
+) -> Result<(), UnreadLine> {
     for byte in piece.as_bytes() {
         match *byte {
             b'#' => put_number(alloc, text, number)?,
             b'^' => put_number(alloc, text, number.saturating_add(1))?,
-            b'|' => put_byte(text, b'\n')?,
-            b'~' => put_byte(text, b'\r')?,
-            byte => put_byte(text, byte)?,
+            b'|' => push(text, b'\n')?,
+            b'~' => push(text, b'\r')?,
+            byte => push(text, byte)?,
         }
     }
     Ok(())
 }
 
-fn put_all_numbered(
+/// Appends a text so often as the number before it says, as it is or numbered, from 0.
+fn put_counted(
     alloc: Global,
     text: &mut Vec<u8>,
-    count: u32,
-    piece: &str,
-) -> Result<(), AllocError> {
-    let mut number: u64 = 0;
-    for _ in 0..count {
-        put_numbered(alloc, text, number, piece)?;
-        number = number.saturating_add(1);
-    }
-    Ok(())
-}
-
-/// Appends a text so often as the number before it says, each numbered, from 0.
-fn put_counted(alloc: Global, text: &mut Vec<u8>, line: &str) -> Result<(), UnreadLine> {
+    line: &str,
+    is_numbered: bool,
+) -> Result<(), UnreadLine> {
     let (count, piece) = line.trim().split_once(' ').unwrap_or((line, ""));
-    match count.parse::<u32>() {
-        Ok(count) => Ok(put_all_numbered(alloc, text, count, piece)?),
-        Err(_) => Err(UnreadLine::Line("a count that is no number")),
+    let Ok(count) = count.parse::<u32>() else {
+        return Err(UnreadLine::Line("a count that is no number"));
+    };
+    for number in 0..count {
+        if is_numbered {
+            put_numbered(alloc, text, number, piece)?;
+        } else {
+            text.extend_from_slice(piece.as_bytes())?;
+        }
     }
-}
-
-fn put_whole(text: &mut Vec<u8>, line: &str) -> Result<(), AllocError> {
-    text.extend_from_slice(line.as_bytes())?;
-    text.push(b'\n')?;
     Ok(())
 }
 
 /// Appends a line of an entry's text.
 fn put_line(alloc: Global, text: &mut Vec<u8>, line: &str) -> Result<(), UnreadLine> {
-    if let Some(whole) = line.strip_prefix('|') {
-        return Ok(put_whole(text, whole)?);
+    let rest = line.get(1..).unwrap_or("");
+    match line.as_bytes().first().copied() {
+        Some(b'|') => {
+            text.extend_from_slice(rest.as_bytes())?;
+            push(text, b'\n')?;
+        }
+        Some(b':') => text.extend_from_slice(rest.as_bytes())?,
+        Some(b'=') => put_hex(text, rest)?,
+        Some(b'@') => put_counted(alloc, text, rest, true)?,
+        Some(b'*') => put_counted(alloc, text, rest, false)?,
+        _ => return Err(UnreadLine::Line("a line of no known kind")),
     }
-    if let Some(part) = line.strip_prefix(':') {
-        return Ok(text.extend_from_slice(part.as_bytes())?);
-    }
-    if let Some(bytes) = line.strip_prefix('=') {
-        return put_hex(text, bytes);
-    }
-    if let Some(counted) = line.strip_prefix('@') {
-        return put_counted(alloc, text, counted);
-    }
-    match line.strip_prefix('*') {
-        Some(repeated) => put_repeated(text, repeated),
-        None => Err(UnreadLine::Line("a line of no known kind")),
-    }
+    Ok(())
 }
 
 fn put_entry(
@@ -207,9 +201,21 @@ fn put_entry(
     entries: &mut Vec<CaseEntry>,
     line: u64,
     text: &str,
-) -> Result<(), AllocError> {
-    let entry = entry_of(alloc, line, text)?;
-    Ok(entries.push(entry)?)
+) -> Result<(), UnreadLine> {
+    let text = text.trim();
+    let (key, word) = text.split_once(' ').unwrap_or((text, ""));
+    let key = String::from_str(alloc, key)?;
+    let Ok(word) = String::from_str(alloc, word.trim()) else {
+        return Err(UnreadLine::Memory);
+    };
+    let text = Vec::new(alloc);
+    let entry = CaseEntry {
+        line,
+        key,
+        word,
+        text,
+    };
+    push(entries, entry)
 }
 
 /// Takes a line that begins no block: an entry, or a line of the last one's text.
@@ -220,7 +226,7 @@ fn put(
     text: &str,
 ) -> Result<(), UnreadLine> {
     if text.starts_with(' ') {
-        return Ok(put_entry(alloc, entries, line, text)?);
+        return put_entry(alloc, entries, line, text);
     }
     match entries.last_mut() {
         Some(entry) => put_line(alloc, &mut entry.text, text),
@@ -242,17 +248,6 @@ fn beginning(line: &str) -> Option<(bool, &str)> {
     }
 }
 
-fn put_block(
-    alloc: Global,
-    blocks: &mut Vec<Block>,
-    line: u64,
-    is_base: bool,
-    name: &str,
-) -> Result<(), AllocError> {
-    let block = block_of(alloc, line, is_base, name)?;
-    Ok(blocks.push(block)?)
-}
-
 fn add_line(
     alloc: Global,
     blocks: &mut Vec<Block>,
@@ -260,7 +255,15 @@ fn add_line(
     text: &str,
 ) -> Result<(), UnreadLine> {
     if let Some((is_base, name)) = beginning(text) {
-        return Ok(put_block(alloc, blocks, line, is_base, name)?);
+        let name = String::from_str(alloc, name.trim())?;
+        let entries = Vec::new(alloc);
+        let block = Block {
+            line,
+            is_base,
+            name,
+            entries,
+        };
+        return push(blocks, block);
     }
     match blocks.last_mut() {
         Some(block) => put(alloc, &mut block.entries, line, text),
@@ -268,36 +271,66 @@ fn add_line(
     }
 }
 
-/// Takes a line, and tells it where it can't be read.
-fn take(
-    alloc: Global,
-    told: &mut Tally,
-    file: &str,
-    blocks: &mut Vec<Block>,
-    line: u64,
-    text: &str,
-) -> Result<(), AllocError> {
-    if text.is_empty() || text.starts_with('#') {
-        return Ok(());
-    }
-    match add_line(alloc, blocks, line, text) {
-        Ok(()) => Ok(()),
-        Err(why) => told.tell_unread(file, line, why),
-    }
-}
-
 /// The blocks of a file's text. Lines that can't be read are reported and passed over.
-pub fn blocks_of(
-    alloc: Global,
-    told: &mut Tally,
-    file: &str,
-    text: &str,
-) -> Result<Vec<Block>, AllocError> {
+pub fn blocks_of(alloc: Global, compared: &mut Comparison<'_>, text: &str) -> Vec<Block> {
     let mut blocks = Vec::new(alloc);
     let mut number: u64 = 0;
     for line in text.lines() {
         number = number.saturating_add(1);
-        take(alloc, told, file, &mut blocks, number, line)?;
+        if is_read(line) {
+            if let Err(why) = add_line(alloc, &mut blocks, number, line) {
+                compared.tell(number, why.what());
+            }
+        }
     }
-    Ok(blocks)
+    blocks
+}
+
+fn block_named<'b>(blocks: &'b [Block], is_base: bool, name: &str) -> Option<&'b Block> {
+    for block in blocks {
+        if block.is_base == is_base && block.name.as_str() == name {
+            return Some(block);
+        }
+    }
+    None
+}
+
+/// The entries of a block's base; none where there is no such base.
+fn base_of<'b>(blocks: &'b [Block], block: &Block) -> Option<&'b [CaseEntry]> {
+    let name = match entry_among(&block.entries, "with") {
+        Some(entry) => entry.word(),
+        None => return Some(&[]),
+    };
+    match block_named(blocks, true, name) {
+        Some(base) => Some(&base.entries),
+        None => None,
+    }
+}
+
+/// What is wrong with a block by itself, among all of its file.
+fn fault_of(blocks: &[Block], block: &Block) -> Option<&'static str> {
+    let name = block.name.as_str();
+    if name.is_empty() {
+        return Some("a case without a name");
+    }
+    match block_named(blocks, block.is_base, name) {
+        Some(first) if first.line != block.line => Some("a second case of this name"),
+        _ => None,
+    }
+}
+
+/// A case of a file, or what is wrong with it.
+pub fn case_of<'c>(blocks: &'c [Block], block: &'c Block) -> Result<Case<'c>, &'static str> {
+    if let Some(fault) = fault_of(blocks, block) {
+        return Err(fault);
+    }
+    match base_of(blocks, block) {
+        Some(base) => Ok(Case {
+            line: block.line,
+            name: block.name.as_str(),
+            base,
+            own: &block.entries,
+        }),
+        None => Err("a base that is not there"),
+    }
 }

@@ -1,6 +1,7 @@
 //! Texts in which a backslash and what is behind it are one character, or a piece that is repeated.
+use crate::shown::AnswerText;
 use crate::told::UnreadLine;
-use std::alloc::{AllocError, Global};
+use std::alloc::Global;
 
 /// What a character is read as.
 #[derive(Clone, Copy)]
@@ -25,8 +26,7 @@ enum State {
 struct Reading {
     state: State,
     /// The digits or the piece that was read of an escape.
-    held: String,
-    out: String,
+    held: AnswerText,
 }
 
 /// The character that a letter behind a backslash stands for.
@@ -50,36 +50,27 @@ fn character(digits: &str) -> Option<char> {
 }
 
 impl Reading {
-    fn new(alloc: Global) -> Reading {
-        Reading {
-            state: State::Plain,
-            held: String::new(alloc),
-            out: String::new(alloc),
-        }
-    }
-
-    fn plain(&mut self, letter: char) -> Result<(), AllocError> {
+    fn plain(&mut self, out: &mut AnswerText, letter: char) {
         if letter == '\\' {
             self.state = State::Escape;
-            return Ok(());
+        } else {
+            out.push(letter);
         }
-        self.out.push(letter)
     }
 
-    fn escape(&mut self, letter: char) -> Result<(), UnreadLine> {
+    fn escape(&mut self, out: &mut AnswerText, letter: char) -> Result<(), UnreadLine> {
         self.held.clear();
         self.state = match letter {
             'u' => State::Open,
             '*' => State::OpenPiece,
             _ => State::Plain,
         };
-        if letter == 'u' || letter == '*' {
-            return Ok(());
-        }
         match escaped(letter) {
-            Some(letter) => Ok(self.out.push(letter)?),
-            None => Err(UnreadLine::Line("an escape that is not known")),
+            Some(letter) => out.push(letter),
+            None if letter == 'u' || letter == '*' => {}
+            None => return Err(UnreadLine::Line("an escape that is not known")),
         }
+        Ok(())
     }
 
     /// Goes on where a brace opens.
@@ -91,71 +82,74 @@ impl Reading {
         Ok(())
     }
 
-    fn code(&mut self, letter: char) -> Result<(), UnreadLine> {
+    fn code(&mut self, out: &mut AnswerText, letter: char) -> Result<(), UnreadLine> {
         if letter != '}' {
-            return Ok(self.held.push(letter)?);
+            self.held.push(letter);
+            return Ok(());
         }
         self.state = State::Plain;
-        match character(self.held.as_str()) {
-            Some(letter) => Ok(self.out.push(letter)?),
-            None => Err(UnreadLine::Line("an escape whose number is none")),
+        match character(self.held.text()) {
+            Some(letter) => out.push(letter),
+            None => return Err(UnreadLine::Line("an escape whose number is none")),
         }
+        Ok(())
     }
 
     fn count(&mut self, letter: char) -> Result<(), UnreadLine> {
         if letter != ':' {
-            return Ok(self.held.push(letter)?);
+            self.held.push(letter);
+            return Ok(());
         }
-        let count = self.held.as_str().parse::<u32>().ok();
+        let count = self.held.text().parse::<u32>().ok();
         self.held.clear();
         match count {
-            Some(count) => {
-                self.state = State::Piece(count);
-                Ok(())
-            }
-            None => Err(UnreadLine::Line("a count that is no number")),
+            Some(count) => self.state = State::Piece(count),
+            None => return Err(UnreadLine::Line("a count that is no number")),
         }
+        Ok(())
     }
 
-    fn piece(&mut self, letter: char, count: u32) -> Result<(), AllocError> {
+    fn piece(&mut self, out: &mut AnswerText, letter: char, count: u32) {
         if letter != '}' {
             return self.held.push(letter);
         }
         self.state = State::Plain;
         for _ in 0..count {
-            self.out.push_str(self.held.as_str())?;
+            out.put_whole(&self.held);
+        }
+    }
+
+    fn take(&mut self, out: &mut AnswerText, letter: char) -> Result<(), UnreadLine> {
+        match self.state {
+            State::Plain => self.plain(out, letter),
+            State::Escape => self.escape(out, letter)?,
+            State::Open => self.open(letter, State::Code)?,
+            State::Code => self.code(out, letter)?,
+            State::OpenPiece => self.open(letter, State::Count)?,
+            State::Count => self.count(letter)?,
+            State::Piece(count) => self.piece(out, letter, count),
         }
         Ok(())
     }
 
-    fn take(&mut self, letter: char) -> Result<(), UnreadLine> {
-        match self.state {
-            State::Plain => Ok(self.plain(letter)?),
-            State::Escape => self.escape(letter),
-            State::Open => self.open(letter, State::Code),
-            State::Code => self.code(letter),
-            State::OpenPiece => self.open(letter, State::Count),
-            State::Count => self.count(letter),
-            State::Piece(count) => Ok(self.piece(letter, count)?),
+    fn take_all(&mut self, out: &mut AnswerText, text: &str) -> Result<(), UnreadLine> {
+        for letter in text.chars() {
+            self.take(out, letter)?;
         }
-    }
-
-    fn is_plain(&self) -> bool {
-        matches!(self.state, State::Plain)
+        match self.state {
+            State::Plain => Ok(()),
+            _ => Err(UnreadLine::Line("an escape that does not end")),
+        }
     }
 }
 
-/// A text without its escapes: `\t`, `\n`, `\r`, `\v`, `\0`, `\s` for a blank, `\\`, `\[`, `\#`, `\=`,
+/// Puts a text without its escapes: `\t`, `\n`, `\r`, `\v`, `\0`, `\s` for a blank, `\\`, `\[`, `\#`, `\=`,
 /// `\u{85}` for the character of that number in hex, and `\*{3:ab}` for a piece that is there so often. A
 /// piece has no escapes.
-pub fn unescaped(alloc: Global, text: &str) -> Result<String, UnreadLine> {
-    let mut reading = Reading::new(alloc);
-    for letter in text.chars() {
-        reading.take(letter)?;
-    }
-    if reading.is_plain() {
-        Ok(reading.out)
-    } else {
-        Err(UnreadLine::Line("an escape that does not end"))
-    }
+pub fn put_unescaped(alloc: Global, out: &mut AnswerText, text: &str) -> Result<(), UnreadLine> {
+    let mut reading = Reading {
+        state: State::Plain,
+        held: AnswerText::new(alloc),
+    };
+    reading.take_all(out, text)
 }

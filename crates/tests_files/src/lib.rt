@@ -3,18 +3,18 @@
 #![tactic(auto)]
 
 pub mod case;
-pub mod cases;
+pub mod compared;
 pub mod escapes;
 pub mod names;
-mod none;
+pub mod room;
 pub mod rows;
 pub mod shown;
 pub mod told;
 pub mod tree;
 
 pub use case::{Case, CaseEntry};
-pub use cases::{Cases, KeyAnswer, compare_cases};
+pub use compared::{Comparison, compare, compare_all};
 pub use names::NameIdentifier;
-pub use rows::{Rows, compare_rows};
-pub use shown::AnswerText;
+pub use room::{Asked, Room, Told};
+pub use shown::{AnswerText, Shown, let_go};
 pub use told::{Tally, exit_code};

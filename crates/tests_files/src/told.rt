@@ -1,12 +1,13 @@
 //! What a program tells of a file: how many rows or cases it has, and what differs in them.
-ghost use Rattle.std.specs.Prelude.{◌≡◌, ◌↔◌, ◌+◌, ◌-◌, ◌^◌, min, IsTrue, IfOk, IfNone, OnOk, IsOkAnd, bytes_eq, if◌then◌else◌};
+ghost use Rattle.std.specs.Prelude.{◌≡◌, ◌↔◌, IsTrue, IfNone, IsOkAnd, if◌then◌else◌};
 ghost use Rattle.std.specs.Process.{exit_status};
 ghost use Rattle.tree_core.specs.Faults.{next_count};
 
+use crate::shown::AnswerText;
 use std::alloc::{AllocError, Global};
+use std::io;
 use std::process::ExitCode;
 use std::rt::Runtime;
-use std::{fs, io};
 
 /// Why a line can't be read.
 #[derive(Clone, Copy, Debug, PartialEq, Eq)]
@@ -22,12 +23,22 @@ impl From<AllocError> for UnreadLine {
     }
 }
 
+impl UnreadLine {
+    /// What is wrong, in words.
+    pub fn what(self) -> &'static str {
+        match self {
+            UnreadLine::Memory => "out of memory",
+            UnreadLine::Line(what) => what,
+        }
+    }
+}
+
 /// A line for each group or file with the number of its rows or cases, and what is to be reported of single
 /// lines.
 #[derive(Drop)]
 pub struct Tally {
-    pub counts: String,
-    pub differences: String,
+    pub counts: AnswerText,
+    pub differences: AnswerText,
     /// How often something was reported of a line.
     pub times: u64,
 }
@@ -37,65 +48,25 @@ impl Tally {
         ensures { result.times ≡ 0 }
     {
         Tally {
-            counts: String::new(alloc),
-            differences: String::new(alloc),
+            counts: AnswerText::new(alloc),
+            differences: AnswerText::new(alloc),
             times: 0,
         }
     }
 
     /// Tells how many rows or cases something has.
-    pub fn count(&mut self, name: &str, number: u64, of: &str) -> Result<(), AllocError>
+    pub fn count(&mut self, name: &str, number: u64, of: &str)
         ensures { self.new.times ≡ self.old.times }
     {
-        write!(self.counts, "{name}: {number} {of}\n")
+        write!(self.counts, "{name}: {number} {of}\n");
     }
 
     /// Tells something of a line, which is counted from 1.
-    pub fn tell(&mut self, file: &str, line: u64, what: &str) -> Result<(), AllocError>
+    pub fn tell(&mut self, file: &str, line: u64, what: &str)
         ensures { self.new.times ≡ next_count self.old.times }
     {
         self.times = self.times.saturating_add(1);
-        write!(self.differences, "{file}:{line}: {what}\n")
-    }
-
-    /// Tells that a line can't be read.
-    pub fn tell_unread(&mut self, file: &str, line: u64, why: UnreadLine) -> Result<(), AllocError>
-        ensures { OnOk result (self.new.times ≡ next_count self.old.times) }
-    {
-        match why {
-            UnreadLine::Memory => Err(AllocError),
-            UnreadLine::Line(what) => self.tell(file, line, what),
-        }
-    }
-
-    /// Tells what was reported elsewhere, so often.
-    pub fn tell_all(&mut self, differences: &str, times: u64) -> Result<(), AllocError>
-        ensures { self.new.times ≡ min (self.old.times + times) (2 ^ 64 - 1) }
-    {
-        self.times = self.times.saturating_add(times);
-        self.differences.push_str(differences)
-    }
-
-    /// Tells where what was seen of something is not what is wanted.
-    pub fn compare(
-        &mut self,
-        file: &str,
-        line: u64,
-        what: &str,
-        seen: &str,
-        wanted: &str,
-    ) -> Result<(), AllocError>
-        ensures { self.new.times ≡
-            (if bytes_eq seen.now wanted.now then self.old.times else next_count self.old.times) }
-    {
-        if seen == wanted {
-            return Ok(());
-        }
-        self.times = self.times.saturating_add(1);
-        write!(
-            self.differences,
-            "{file}:{line}: {what}\n  is  {seen:?}\n  not {wanted:?}\n"
-        )
+        write!(self.differences, "{file}:{line}: {what}\n");
     }
 }
 
@@ -111,31 +82,28 @@ fn line_at(bytes: &[u8], place: usize) -> u64 {
 }
 
 /// The text of a file; none where it is no UTF-8, which is reported.
-pub fn text_of<'b>(
-    told: &mut Tally,
-    file: &str,
-    bytes: &'b [u8],
-) -> Result<Option<&'b str>, AllocError>
-    ensures { IfOk result (λ text. IfNone text (told.new.times ≡ next_count told.old.times)) }
+pub fn text_of<'b>(told: &mut Tally, file: &str, bytes: &'b [u8]) -> Option<&'b str>
+    ensures { IfNone result (told.new.times ≡ next_count told.old.times) }
 {
     match str::from_utf8(bytes) {
-        Ok(text) => Ok(Some(text)),
+        Ok(text) => Some(text),
         Err(error) => {
             let line = line_at(bytes, error.valid_up_to());
-            told.tell(file, line, "the file is no UTF-8")?;
-            Ok(None)
+            told.tell(file, line, "the file is no UTF-8");
+            None
         }
     }
 }
 
-/// The bytes of a file of the folder that the program runs in.
-pub fn bytes_of(rt: &HostRuntime, file: &str) -> io::Result<Vec<u8>> {
-    fs::read(rt, file)
-}
-
-fn print(rt: &HostRuntime, told: &Tally) -> io::Result<()> {
-    print!(rt; "{}", told.counts.as_str())?;
-    eprint!(rt; "{}", told.differences.as_str())
+/// Prints what is told, and returns whether there was memory for all of it.
+fn print(rt: &HostRuntime, file: &str, told: &Tally) -> io::Result<bool> {
+    print!(rt; "{}", told.counts.text())?;
+    eprint!(rt; "{}", told.differences.text())?;
+    let is_whole = told.counts.is_whole() & told.differences.is_whole();
+    if !is_whole {
+        eprintln!(rt; "{file}: out of memory")?;
+    }
+    Ok(is_whole)
 }
 
 /// Whether all of a file is as wanted: it was read, and nothing was reported of a line.
@@ -153,8 +121,11 @@ pub fn show(rt: &HostRuntime, file: &str, told: &io::Result<Tally>) -> bool
     ensures { IsTrue result → IsOkAnd told.now (λ all. all.times ≡ 0) }
 {
     let is_printed = match told {
-        Ok(told) => print(rt, told).is_ok(),
-        Err(error) => eprintln!(rt; "{file}: {error}").is_ok(),
+        Ok(told) => matches!(print(rt, file, told), Ok(true)),
+        Err(error) => {
+            let _ = eprintln!(rt; "{file}: {error}");
+            false
+        }
     };
     is_printed && is_as_wanted(told)
 }

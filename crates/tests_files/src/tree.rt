@@ -6,10 +6,10 @@ use tree_core::MemTree;
 
 /// The value of an entry `let NAME = VALUE`, if it is of this name.
 fn value_in<'e>(entry: &'e CaseEntry, name: &str) -> Option<&'e str> {
-    if entry.key.as_str() != "let" {
+    if entry.key() != "let" {
         return None;
     }
-    let (key, value) = entry.word.as_str().split_once(" =")?;
+    let (key, value) = entry.word().split_once(" =")?;
     if key == name {
         Some(value.trim())
     } else {
@@ -79,7 +79,7 @@ fn put_file(
     entry: &CaseEntry,
 ) -> io::Result<()> {
     let bytes = text_of(alloc, case, entry)?;
-    match tree.put(entry.word.as_str(), &bytes) {
+    match tree.put(entry.word(), &bytes) {
         Ok(()) => Ok(()),
         Err(_) => Err(io::Error::from(io::ErrorKind::InvalidInput)),
     }
@@ -93,7 +93,7 @@ fn put_files(
     entries: &[CaseEntry],
 ) -> io::Result<()> {
     for entry in entries {
-        if entry.key.as_str() == "file" {
+        if entry.key() == "file" {
             put_file(alloc, tree, case, entry)?;
         }
     }

@@ -7,90 +7,58 @@ mod records;
 mod sources;
 mod trees;
 
-use std::alloc::Global;
-use tests_files::cases::{is_among, wanted};
-use tests_files::{AnswerText, Case, Cases, KeyAnswer, Rows, compare_cases, compare_rows};
+use graph_core::selection::ExcludeSpec;
+use graph_metadata::records;
+use records::Faults;
+use sources::Sources;
+use std::fmt::Debug;
+use tests_files::{AnswerText, Asked, Room, Shown, Told, compare_all};
 
 /// The folder in which cargo keeps crates of the sparse index of crates.io.
 const SPARSE_DIR: &str = "index.crates.io-1949cf8c6b5b557f";
 
-/// The rows or cases of a file.
-#[derive(Clone, Copy)]
-struct RowFile {
-    file: &'static str,
-}
-
-impl Rows for RowFile {
-    fn answer(&self, alloc: Global, group: &str, text: &str, out: &mut AnswerText) -> bool {
-        match self.file {
-            "graph/faults.txt" => records::put_fault(alloc, out, text),
-            "graph/specs.txt" => graphs::put_spec(alloc, out, text),
-            "graph/searches.txt" => trees::put_searches(alloc, out, text),
-            _ => sources::put(alloc, out, group, text),
-        }
-        true
+/// Puts what was made, or why it was not, and lets it go.
+fn put_made<T: Shown<Graph> + Drop, E: Debug + Drop>(out: &mut AnswerText, made: Result<T, E>) {
+    match &made {
+        Ok(value) => value.put(out),
+        Err(error) => write!(out, "{error:?}"),
     }
 }
 
-/// The word behind a key, or the lines below it.
-fn given<'c>(case: &Case<'c>, key: &str) -> &'c str {
-    match case.entry(key) {
-        Some(entry) => wanted(entry),
-        None => "",
-    }
-}
+/// What answers of graphs, of their records, and of trees.
+struct Graph;
 
-impl Cases for RowFile {
-    fn is_given(&self, key: &str) -> bool {
-        match self.file {
-            "graph/records.txt" => is_among(key, &["metadata", "sources"]),
-            "graph/graphs.txt" => is_among(key, &["graph", "members", "root", "exclude"]),
-            "graph/walks.txt" => is_among(
-                key,
-                &["graph", "members", "root", "exclude", "policy-exclude"],
-            ),
-            _ => is_among(
-                key,
-                &[
-                    "file",
-                    "metadata",
-                    "exclude",
-                    "policy-exclude",
-                    "set",
-                    "fail",
-                ],
-            ),
-        }
-    }
-
-    fn told(&self, alloc: Global, case: &Case<'_>, key: &str, out: &mut AnswerText) -> KeyAnswer {
-        match key {
-            "records" => records::put_records(alloc, out, given(case, "metadata"), true),
-            "order" => sources::put_order(alloc, out, given(case, "sources")),
-            "gathered" => return trees::put_gathered(alloc, out, case),
+impl Room for Graph {
+    fn answer(&self, asked: &Asked<'_>, out: &mut AnswerText) -> Told {
+        let (alloc, text) = (asked.alloc, asked.text);
+        match asked.group {
+            "specs" => out.made_or::<Graph, _, _>(ExcludeSpec::read(alloc, text), "unreadable"),
+            "searches" | "searches in which looks fail" => trees::put_searches(alloc, text, out),
+            "records" => {
+                out.made::<Graph, _, _>(records(alloc, asked.case.given("metadata"), SPARSE_DIR));
+            }
+            "order" => sources::put_order(alloc, asked.case.given("sources"), out),
             "no-setting" | "exclude-dev" | "workspace" | "exclude-unpublished" | "selected" => {
-                graphs::put_graph(alloc, out, case, key)
+                graphs::put_reached(asked, out);
             }
             "walks" | "walks-exclude-dev" | "walks-workspace" | "walks-exclude-unpublished" => {
-                graphs::put_graph(alloc, out, case, key)
+                out.tried::<Graph, _>(graphs::chosen_of(asked));
             }
             "unchecked" | "unchecked-exclude-dev" | "unchecked-exclude-unpublished" => {
-                graphs::put_graph(alloc, out, case, key)
+                out.tried::<Graph, _>(graphs::chosen_of(asked));
             }
-            _ => return KeyAnswer::NoSuchKey,
+            "gathered" => trees::put_gathered(asked, out),
+            "graph" | "members" | "root" | "exclude" | "policy-exclude" => return Told::Given,
+            "metadata" | "sources" | "file" | "fail" => return Told::Given,
+            _ => return Told::NoSuchGroup,
         }
-        KeyAnswer::Yes
+        Told::Answer
     }
 }
 
-const ROWS: [&str; 4] = [
-    "graph/faults.txt",
-    "graph/sources.txt",
+const FILES: [&str; 6] = [
     "graph/specs.txt",
     "graph/searches.txt",
-];
-
-const CASES: [&str; 4] = [
     "graph/records.txt",
     "graph/graphs.txt",
     "graph/walks.txt",
@@ -99,14 +67,8 @@ const CASES: [&str; 4] = [
 
 /// Compares the rows and cases of the room, and returns whether nothing differs.
 pub fn compare(rt: &HostRuntime) -> bool {
-    let mut is_as_wanted = true;
-    for file in ROWS {
-        let is_one = compare_rows(rt, file, &RowFile { file });
-        is_as_wanted = is_as_wanted & is_one;
-    }
-    for file in CASES {
-        let is_one = compare_cases(rt, file, &RowFile { file });
-        is_as_wanted = is_as_wanted & is_one;
-    }
-    is_as_wanted
+    let faults = compare_all(rt, &["graph/faults.txt"], &Faults);
+    let sources = compare_all(rt, &["graph/sources.txt"], &Sources);
+    let graphs = compare_all(rt, &FILES, &Graph);
+    faults & sources & graphs
 }

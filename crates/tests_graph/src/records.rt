@@ -1,10 +1,9 @@
 //! The records that metadata tells, or what its fault is.
-use crate::SPARSE_DIR;
+use crate::{Graph, SPARSE_DIR};
 use deny_text::Texts;
 use graph_metadata::{Edge, Krate, MetaError, Metadata, records};
-use std::alloc::Global;
 use std::fmt::Display;
-use tests_files::AnswerText;
+use tests_files::{AnswerText, Asked, Room, Shown, Told, let_go};
 
 /// The metadata of one crate, in which a row puts one text in place of another.
 const ONE_CRATE: &str = r#"
@@ -12,21 +11,48 @@ const ONE_CRATE: &str = r#"
 "workspace_members":["a 1.0.0"],"workspace_root":"/w",
 "resolve":{"nodes":[{"id":"a 1.0.0","deps":[]}],"root":"a 1.0.0"}}"#;
 
-/// Reads the metadata of one crate with the text before the arrow replaced by the one behind it, or a text without an arrow as it is.
-pub fn put_fault(alloc: Global, out: &mut AnswerText, text: &str) {
-    let Some((part, other)) = text.split_once(" ->") else {
-        return put_records(alloc, out, text, false);
-    };
-    let Some((front, back)) = ONE_CRATE.split_once(part) else {
-        return out.put("no such part");
-    };
-    let mut changed = AnswerText::new(alloc);
-    changed.put(front);
-    changed.put(other.strip_prefix(' ').unwrap_or(other));
-    changed.put(back);
-    match changed.into_text() {
-        Ok(text) => put_records(alloc, out, text.as_str(), false),
-        Err(_) => out.want_memory(),
+/// What answers of faults: the metadata of one crate with the text before the arrow replaced by the one behind it, or a text without
+/// an arrow as it is. Of metadata without a fault it is only told that it is read.
+pub struct Faults;
+
+impl Room for Faults {
+    fn answer(&self, asked: &Asked<'_>, out: &mut AnswerText) -> Told {
+        let mut text = AnswerText::new(asked.alloc);
+        match asked.text.split_once(" ->") {
+            Some((part, other)) if ONE_CRATE.contains(part) => put_changed(&mut text, part, other),
+            Some(_) => out.cant_be_tried(),
+            None => text.put(asked.text),
+        }
+        if !text.is_whole() {
+            out.want_memory();
+        }
+        match records(asked.alloc, text.text(), SPARSE_DIR) {
+            Ok(metadata) => {
+                let_go(metadata);
+                out.put("read");
+            }
+            Err(error) => error.put(out),
+        }
+        Told::Answer
+    }
+}
+
+/// Puts the metadata of one crate with one text in place of another.
+fn put_changed(out: &mut AnswerText, part: &str, other: &str) {
+    let (front, back) = ONE_CRATE.split_once(part).unwrap_or((ONE_CRATE, ""));
+    let other = other.strip_prefix(' ').unwrap_or(other);
+    write!(out, "{front}{other}{back}");
+}
+
+impl Shown<Graph> for MetaError {
+    fn put(&self, out: &mut AnswerText) {
+        match self {
+            MetaError::Syntax => out.put("no JSON"),
+            MetaError::Shape(fault) => {
+                write!(out, "{:?} at {:?}", fault.fault, fault.place.as_str());
+            }
+            MetaError::Memory => out.want_memory(),
+        }
     }
 }
 
@@ -80,28 +106,16 @@ fn put_edge(out: &mut AnswerText, crates: &[Krate], edge: &Edge) {
     out.put("\n");
 }
 
-/// Puts a line for each crate with all its fields, and below it one for each edge with its kinds.
-fn put_metadata(out: &mut AnswerText, metadata: &Metadata) {
-    for (place, krate) in metadata.crates().iter().enumerate() {
-        put_krate(out, krate);
-        if place < metadata.len() {
-            for edge in metadata.edges_at(place) {
-                put_edge(out, metadata.crates(), edge);
+/// A line for each crate with all its fields, and below it one for each edge with its kinds.
+impl Shown<Graph> for Metadata {
+    fn put(&self, out: &mut AnswerText) {
+        for (place, krate) in self.crates().iter().enumerate() {
+            put_krate(out, krate);
+            if place < self.len() {
+                for edge in self.edges_at(place) {
+                    put_edge(out, self.crates(), edge);
+                }
             }
         }
-    }
-}
-
-/// Puts the whole records of a text, or only that they are read; or its fault.
-pub fn put_records(alloc: Global, out: &mut AnswerText, text: &str, is_whole: bool) {
-    let read = records(alloc, text, SPARSE_DIR);
-    match &read {
-        Ok(metadata) if is_whole => put_metadata(out, metadata),
-        Ok(_) => out.put("read"),
-        Err(MetaError::Syntax) => out.put("no JSON"),
-        Err(MetaError::Shape(fault)) => {
-            write!(out, "{:?} at {:?}", fault.fault, fault.place.as_str());
-        }
-        Err(MetaError::Memory) => out.want_memory(),
     }
 }

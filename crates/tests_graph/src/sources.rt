@@ -3,7 +3,7 @@ use crate::SPARSE_DIR;
 use graph_core::source::{Source, SourceError, matches_address, normalize_git_url};
 use std::alloc::Global;
 use std::cmp::Ordering;
-use tests_files::AnswerText;
+use tests_files::{AnswerText, Asked, Room, Told};
 use url::Url;
 
 /// The source that metadata has, with the path of the crate's manifest behind ` at `; or `crates.io`, or `crates.io, sparse`.
@@ -47,15 +47,14 @@ fn put_kinds(out: &mut AnswerText, source: &Source) {
 }
 
 fn put_match(alloc: Global, out: &mut AnswerText, source: &Source, address: &str, exact: bool) {
-    let address = Url::parse(alloc, address);
-    match &address {
+    match &Url::parse(alloc, address) {
         Ok(address) => write!(out, "{}", matches_address(source, address, exact)),
         Err(error) => write!(out, "{error:?}"),
     }
 }
 
 /// Puts the normal form of a git repository's address, and what its query names.
-fn put_normal(alloc: Global, out: &mut AnswerText, text: &str) {
+fn put_normal(alloc: Global, text: &str, out: &mut AnswerText) {
     match Url::parse(alloc, text) {
         Ok(mut url) => match normalize_git_url(alloc, &mut url) {
             Ok((spec, value)) => write!(out, "{spec:?} {value:?} {}", url.as_str()),
@@ -65,54 +64,53 @@ fn put_normal(alloc: Global, out: &mut AnswerText, text: &str) {
     }
 }
 
-fn put_source(alloc: Global, out: &mut AnswerText, group: &str, source: &Source, other: &str) {
-    match group {
-        "printed sources" => write!(out, "{source}"),
-        "kinds of sources" => put_kinds(out, source),
-        "exact addresses" => put_match(alloc, out, source, other, true),
-        "beginnings of addresses" => put_match(alloc, out, source, other, false),
-        // An advisory for a source is one for another, or for `none`.
-        "sources of advisories" => {
-            let other = source_of(alloc, other);
-            write!(out, "{}", source.matches_rustsec(other.as_ref().ok()));
+/// What answers of sources, and of what is behind the bar.
+pub struct Sources;
+
+impl Room for Sources {
+    fn answer(&self, asked: &Asked<'_>, out: &mut AnswerText) -> Told {
+        let alloc = asked.alloc;
+        let (text, other) = asked.text.split_once(" | ").unwrap_or((asked.text, ""));
+        match (asked.group, &source_of(alloc, text)) {
+            ("normal addresses", _) => put_normal(alloc, text, out),
+            ("printed sources", Ok(source)) => write!(out, "{source}"),
+            ("kinds of sources", Ok(source)) => put_kinds(out, source),
+            ("exact addresses", Ok(source)) => put_match(alloc, out, source, other, true),
+            ("beginnings of addresses", Ok(source)) => put_match(alloc, out, source, other, false),
+            // An advisory for a source is one for another, or for `none`.
+            ("sources of advisories", Ok(source)) => {
+                let other = source_of(alloc, other).ok();
+                write!(out, "{}", source.matches_rustsec(other.as_ref()));
+            }
+            (_, Ok(source)) => put_whole(out, source),
+            (_, Err(error)) => write!(out, "{error:?}"),
         }
-        _ => put_whole(out, source),
+        Told::Answer
     }
 }
 
-/// Puts what a group tells of a source and of what is behind the bar, or why there is no source.
-pub fn put(alloc: Global, out: &mut AnswerText, group: &str, text: &str) {
-    if group == "normal addresses" {
-        return put_normal(alloc, out, text);
-    }
-    let (text, other) = text.split_once(" | ").unwrap_or((text, ""));
-    let source = source_of(alloc, text);
-    match &source {
-        Ok(source) => put_source(alloc, out, group, source, other),
-        Err(error) => write!(out, "{error:?}"),
+/// The sign between two sources; a question mark where the order and equality differ.
+fn sign(one: &Source, other: &Source) -> &'static str {
+    match (one.cmp(other), one == other) {
+        (Ordering::Less, false) => "<",
+        (Ordering::Equal, true) => "=",
+        (Ordering::Greater, false) => ">",
+        _ => "?",
     }
 }
 
-/// Puts the sign between two sources; a question mark where the order and equality differ.
-fn put_sign(alloc: Global, out: &mut AnswerText, one: &str, other: &str) {
-    let one = source_of(alloc, one);
-    let other = source_of(alloc, other);
-    match (&one, &other) {
-        (Ok(one), Ok(other)) => out.put(match (one.cmp(other), one == other) {
-            (Ordering::Less, false) => "<",
-            (Ordering::Equal, true) => "=",
-            (Ordering::Greater, false) => ">",
-            _ => "?",
-        }),
-        _ => out.put("no source"),
+fn put_sign(alloc: Global, one: &str, other: &str, out: &mut AnswerText) {
+    match &source_of(alloc, one).ok().zip(source_of(alloc, other).ok()) {
+        Some((one, other)) => out.put(sign(one, other)),
+        None => out.put("no source"),
     }
 }
 
 /// Puts for the source of each line a line with the signs between it and each of them.
-pub fn put_order(alloc: Global, out: &mut AnswerText, text: &str) {
+pub fn put_order(alloc: Global, text: &str, out: &mut AnswerText) {
     for one in text.lines() {
         for other in text.lines() {
-            put_sign(alloc, out, one, other);
+            put_sign(alloc, one, other, out);
         }
         out.put("\n");
     }

@@ -1,47 +1,50 @@
-//! Rows of the parts and entries of a policy, each a text that is one value, and of parts that are validated.
-use crate::cases::{put_policy, read_policy};
-use crate::show::{
-    Fields, put_at, put_clarified, put_excepted, put_findings, put_refusal, put_spans,
-};
+//! Rows of the parts and entries of a policy, each a text that is one value, of parts that are validated, and policies as they are
+//! written.
+use crate::Policy;
+use crate::show::{put_clarified, put_excepted, put_findings, put_root, put_spans, put_texts};
 use deny_text::{Span, Spanned, Text};
 use diag_core::{Diagnostic, Files, Severity};
-use policy_core::text::{ConfigError, ConfigText, ReadFault};
+use policy_core::text::{ConfigText, ReadFault, read_config};
 use policy_core::{
-    BlanketAgreement, Clarification, Config, Exception, ExceptionsFile, FileSource, GraphConfig,
-    Licensee, LintLevel, OutputConfig, Private, Reason, Scope, SpannedList, UnvalidatedConfig,
-    ValidConfig, ValidationContext,
+    BlanketAgreement, Config, Licensee, LintLevel, Reason, RootConfig, SpannedList,
+    UnvalidatedConfig, ValidConfig, ValidationContext,
 };
 use policy_load::{Diagnostics, LoadError};
 use policy_toml::rows::{Spans, deprecated, finish};
-use policy_toml::{Deserialize, TableHelper, Value};
+use policy_toml::{DeserError, Deserialize, TableHelper, Value};
 use spdx_core::Table;
 use std::alloc::{AllocError, Global};
-use tests_files::{AnswerText, Rows};
+use tests_files::{AnswerText, Asked, Shown, let_go};
 use toml_value::read_value;
 
-fn value_of(alloc: Global, text: &str) -> Result<Value<'_>, ConfigError> {
+/// What a type reads from a text that is one value; none where the text is no value.
+fn read<T: Deserialize<Table> + Drop>(alloc: Global, text: &str) -> Option<Result<T, DeserError>> {
     match read_value(alloc, text, 0, 0) {
-        Ok((value, _)) => Ok(value),
-        Err(error) => Err(ConfigError::from(error)),
+        Ok((mut value, _)) => {
+            let read = T::deserialize(alloc, &mut value, &Table);
+            let_go(value);
+            Some(read)
+        }
+        Err(_) => None,
     }
 }
 
-/// Lets a value go. Whoever owns one hands it on to here, since to let it go is dear to prove.
-fn let_go(_value: Value<'_>) {}
-
-/// What a type reads from a text that is one value.
-fn read<T: Deserialize<Table> + Drop>(alloc: Global, text: &str) -> Result<T, ConfigError> {
-    let mut value = value_of(alloc, text)?;
-    let read = T::deserialize(alloc, &mut value, &Table);
-    let_go(value);
-    Ok(read?)
+/// Puts what a type reads from the text of a row, or why it is refused.
+pub fn put_as<T: Deserialize<Table> + Shown<Policy> + Drop>(
+    asked: &Asked<'_>,
+    out: &mut AnswerText,
+) {
+    match read::<T>(asked.alloc, asked.text) {
+        Some(read) => out.made::<Policy, T, DeserError>(read),
+        None => out.cant_be_tried(),
+    }
 }
 
-/// Puts what a type reads from a text that is one value, or why it is refused.
-fn put_as<T: Deserialize<Table> + Fields + Drop>(alloc: Global, text: &str, out: &mut AnswerText) {
-    match read::<T>(alloc, text) {
-        Ok(read) => read.put(out),
-        Err(error) => put_refusal(out, &LoadError::from(error)),
+/// Puts what stands for a thing that is left out.
+pub fn put_left_out(asked: &Asked<'_>, out: &mut AnswerText) {
+    match asked.text {
+        "agreement" => BlanketAgreement::default().put(out),
+        _ => LintLevel::default().put(out),
     }
 }
 
@@ -57,26 +60,20 @@ fn order(one: &Licensee, other: &Licensee) -> &'static str {
 }
 
 /// Puts how the first of two licensees beside a bar compares to the second.
-fn put_order(alloc: Global, text: &str, out: &mut AnswerText) -> Result<(), ConfigError> {
-    let (one, other) = text.split_once(" | ").unwrap_or((text, ""));
-    let one: Licensee = read(alloc, one)?;
-    put_order_of(alloc, &one, other, out)
+pub fn put_order(asked: &Asked<'_>, out: &mut AnswerText) {
+    let (one, other) = asked.text.split_once(" | ").unwrap_or((asked.text, ""));
+    match (
+        &read::<Licensee>(asked.alloc, one),
+        &read::<Licensee>(asked.alloc, other),
+    ) {
+        (Some(Ok(one)), Some(Ok(other))) => out.put(order(one, other)),
+        _ => out.cant_be_tried(),
+    }
 }
 
-fn put_order_of(
-    alloc: Global,
-    one: &Licensee,
-    other: &str,
-    out: &mut AnswerText,
-) -> Result<(), ConfigError> {
-    let other: Licensee = read(alloc, other)?;
-    out.put(order(one, &other));
-    Ok(())
-}
-
-/// The text of a policy's file, of which is read what these words say.
-fn heard(alloc: Global, words: &str) -> Result<ConfigText, ConfigError> {
-    let heard = match words {
+/// The text of a policy's file, of which is read what a row says.
+pub fn heard(asked: &Asked<'_>) -> Result<ConfigText, LoadError> {
+    let heard = match asked.text {
         "nothing is there" => Err(ReadFault::Absent),
         "it is a folder" => Err(ReadFault::Folder),
         "no UTF-8 at 11" => Err(ReadFault::NotUtf8 { at: 11 }),
@@ -84,23 +81,20 @@ fn heard(alloc: Global, words: &str) -> Result<ConfigText, ConfigError> {
             before: 0,
             after: 1,
         }),
-        text => Ok(Text::copy(alloc, text)?),
+        text => Ok(Text::copy(asked.alloc, text)?),
     };
-    ConfigText::from_heard(alloc, heard)
+    Ok(ConfigText::from_heard(asked.alloc, heard)?)
 }
 
-fn put_heard(alloc: Global, words: &str, out: &mut AnswerText) -> Result<(), ConfigError> {
-    let found = heard(alloc, words)?;
-    write!(out, "{:?} {}", found.text, found.is_there);
-    Ok(())
+impl Shown<Policy> for ConfigText {
+    fn put(&self, out: &mut AnswerText) {
+        write!(out, "{:?} {}", self.text, self.is_there);
+    }
 }
 
 /// Puts a reason, and whether its table has other keys, which go back.
 fn put_reason(alloc: Global, value: &mut Value<'_>, out: &mut AnswerText) {
-    match Reason::deserialize(alloc, value, &Table) {
-        Ok(reason) => put_at(out, &reason.0),
-        Err(error) => put_refusal(out, &LoadError::from(ConfigError::from(error))),
-    }
+    out.made::<Policy, Reason, DeserError>(Reason::deserialize(alloc, value, &Table));
     if value.has_keys() {
         out.put(" and other keys");
     }
@@ -108,62 +102,97 @@ fn put_reason(alloc: Global, value: &mut Value<'_>, out: &mut AnswerText) {
 
 /// Puts what a key `old` that holds a flag and is no longer used gives, where it is there, and what is
 /// reported at the table's end.
-fn put_removed(
-    alloc: Global,
-    value: &mut Value<'_>,
-    out: &mut AnswerText,
-) -> Result<(), ConfigError> {
-    let mut table = TableHelper::new(alloc, value)?;
-    let put = put_flag(alloc, &mut table, out);
-    let end = finish(alloc, table, ());
-    put?;
-    end?;
-    out.put("no more");
-    Ok(())
+fn put_removed(alloc: Global, value: &mut Value<'_>, out: &mut AnswerText) {
+    match TableHelper::new(alloc, value) {
+        Ok(mut table) => {
+            put_flag(alloc, &mut table, out);
+            out.made::<Policy, (), DeserError>(finish(alloc, table, ()));
+        }
+        Err(error) => error.put(out),
+    }
 }
 
-fn put_flag(
-    alloc: Global,
-    table: &mut TableHelper<'_>,
-    out: &mut AnswerText,
-) -> Result<(), AllocError> {
+fn put_flag(alloc: Global, table: &mut TableHelper<'_>, out: &mut AnswerText) {
     let mut spans = Spans::new(alloc);
-    let flag: Option<bool> = deprecated(alloc, table, "old", &mut spans, &())?;
-    write!(out, "{flag:?};");
+    let flag: Result<Option<bool>, AllocError> = deprecated(alloc, table, "old", &mut spans, &());
+    match flag {
+        Ok(flag) => write!(out, "{flag:?};"),
+        Err(_) => out.want_memory(),
+    }
     put_spans(out, spans.items());
     out.put(" and ");
-    Ok(())
+}
+
+/// What is told at the end of a table without other keys.
+impl Shown<Policy> for () {
+    fn put(&self, out: &mut AnswerText) {
+        out.put("no more");
+    }
 }
 
 /// Puts what a table comes to of which more is reported than what its type reads.
-fn put_table(
-    alloc: Global,
-    group: &str,
-    text: &str,
-    out: &mut AnswerText,
-) -> Result<(), ConfigError> {
-    let mut value = value_of(alloc, text)?;
-    let put = put_of_table(alloc, group, &mut value, out);
-    let_go(value);
-    put
-}
-
-fn put_of_table(
-    alloc: Global,
-    group: &str,
-    value: &mut Value<'_>,
-    out: &mut AnswerText,
-) -> Result<(), ConfigError> {
-    if group == "reason" {
-        put_reason(alloc, value, out);
-        return Ok(());
+pub fn put_table(asked: &Asked<'_>, out: &mut AnswerText) {
+    match read_value(asked.alloc, asked.text, 0, 0) {
+        Ok((mut value, _)) => {
+            match asked.group {
+                "reason" => put_reason(asked.alloc, &mut value, out),
+                _ => put_removed(asked.alloc, &mut value, out),
+            }
+            let_go(value);
+        }
+        Err(_) => out.cant_be_tried(),
     }
-    put_removed(alloc, value, out)
 }
 
-/// The table `licenses` of a policy with an expression, an address, or these keys.
-fn config_of(alloc: Global, group: &str, text: &str) -> Result<Option<Config>, ConfigError> {
-    let (before, behind) = match group {
+/// The policy of a text, of which nothing is said: whoever calls this owes nothing of the contract.
+fn read_policy(alloc: Global, text: &str) -> Result<RootConfig, LoadError> {
+    match read_config(alloc, text, &Table) {
+        Ok(root) => Ok(root),
+        Err(error) => Err(LoadError::from(error)),
+    }
+}
+
+/// A policy as it is written, and the key of what is told of it.
+#[derive(Drop)]
+pub struct Written<'a> {
+    key: &'a str,
+    root: RootConfig,
+}
+
+/// The policy of a text, of which a group or a key tells.
+pub fn written_in<'a>(asked: &Asked<'a>, text: &str) -> Result<Written<'a>, LoadError> {
+    match read_policy(asked.alloc, text) {
+        Ok(root) => Ok(Written {
+            key: asked.group,
+            root,
+        }),
+        Err(error) => Err(error),
+    }
+}
+
+/// The fields of the whole policy or of its table `licenses`, or that it has no faults.
+impl Shown<Policy> for Written<'_> {
+    fn put(&self, out: &mut AnswerText) {
+        match (self.key, &self.root.licenses) {
+            ("whole", _) => put_root(out, &self.root),
+            ("faults" | "whole-faults", _) => out.put("none"),
+            ("read", licenses) => {
+                if let Some(config) = licenses {
+                    out.each::<Policy, _>("", config.allow.items());
+                }
+                put_texts(out, "exclude", &self.root.graph.exclude);
+            }
+            ("licenses", Some(config)) => config.put(out),
+            ("version", Some(config)) => write!(out, "{}", config.version),
+            (_, Some(config)) => write!(out, "{}", config.confidence_threshold.0),
+            (_, None) => out.put("no licences"),
+        }
+    }
+}
+
+/// What the table `licenses` has of the policy that a row is a part of.
+fn config_of(asked: &Asked<'_>) -> Result<Option<Config>, LoadError> {
+    let (before, behind) = match asked.group {
         "private addresses" => ("[licenses.private]\nignore-sources = [", "]\n"),
         "tied exceptions" => ("licenses = { ", " }\n"),
         _ => (
@@ -171,43 +200,26 @@ fn config_of(alloc: Global, group: &str, text: &str) -> Result<Option<Config>, C
             " }]\n",
         ),
     };
-    let policy = format!(in alloc; "{before}{text}{behind}")?;
-    Ok(read_policy(alloc, policy.as_str())?.licenses)
-}
-
-fn put_valid_lists(out: &mut AnswerText, valid: &ValidConfig) {
-    put_clarified(out, &valid.clarifications);
-    for address in valid.ignore_sources.items() {
-        write!(out, "{address};");
-    }
-    put_excepted(out, &valid.exceptions);
-}
-
-/// Puts the expressions, the addresses and the exceptions of a policy with one of them that are valid.
-fn put_valid(
-    alloc: Global,
-    group: &str,
-    text: &str,
-    context: ValidationContext<'_>,
-    out: &mut AnswerText,
-) -> Result<(), ConfigError> {
-    match config_of(alloc, group, text)? {
-        Some(config) => {
-            let valid = config.validate(alloc, context, &Table)?;
-            put_valid_lists(out, &valid);
+    let policy = format!(in asked.alloc; "{before}{}{behind}", asked.text)?;
+    match read_policy(asked.alloc, policy.as_str()) {
+        Ok(mut root) => {
+            let config = root.licenses.take();
+            let_go(root);
+            Ok(config)
         }
-        None => out.put("no table"),
+        Err(error) => Err(error),
     }
-    Ok(())
 }
 
-/// Puts what is valid of a policy, and all that is reported. The policy has the number 3.
-fn put_told(
-    alloc: Global,
-    group: &str,
-    text: &str,
-    out: &mut AnswerText,
-) -> Result<(), ConfigError> {
+/// What is valid of a policy, and all that is reported of it.
+#[derive(Drop)]
+pub struct Judged {
+    valid: ValidConfig,
+    found: Diagnostics,
+}
+
+/// Validates a policy, which has the number 3.
+fn validated(alloc: Global, config: Config) -> Result<Judged, AllocError> {
     let mut files = Files::new(alloc);
     let mut found = Diagnostics::new(alloc);
     let context = ValidationContext {
@@ -215,9 +227,38 @@ fn put_told(
         files: &mut files,
         diagnostics: &mut found,
     };
-    let put = put_valid(alloc, group, text, context, out);
-    put_findings(out, &found);
-    put
+    match config.validate(alloc, context, &Table) {
+        Ok(valid) => Ok(Judged { valid, found }),
+        Err(error) => Err(error),
+    }
+}
+
+/// What is valid of the policy that a row is a part of; none where that has no table `licenses`.
+pub fn judged_in(asked: &Asked<'_>) -> Result<Option<Judged>, LoadError> {
+    match config_of(asked) {
+        Ok(Some(config)) => Ok(Some(validated(asked.alloc, config)?)),
+        Ok(None) => Ok(None),
+        Err(error) => Err(error),
+    }
+}
+
+/// The expressions, the addresses and the exceptions that are valid, and all that is reported.
+impl Shown<Policy> for Judged {
+    fn put(&self, out: &mut AnswerText) {
+        put_clarified(out, &self.valid.clarifications);
+        for address in self.valid.ignore_sources.items() {
+            write!(out, "{address};");
+        }
+        put_excepted(out, &self.valid.exceptions);
+        put_findings(out, &self.found);
+    }
+}
+
+/// The words that are left of a list, and all that is reported of it.
+#[derive(Drop)]
+pub struct Left<'t> {
+    words: SpannedList<&'t str>,
+    found: Diagnostics,
 }
 
 /// The words of a text, which are at 0, 1 and so on.
@@ -232,101 +273,42 @@ fn words_of(alloc: Global, text: &str) -> Result<SpannedList<&str>, AllocError> 
     Ok(list)
 }
 
-/// The words of a text that are left where equal ones are reported; or the text is the message of a finding.
+/// The words of a row that are left where equal ones are reported; or the row is the message of a finding.
 fn words_left<'t>(
-    alloc: Global,
-    group: &str,
-    text: &'t str,
+    asked: &Asked<'t>,
     mut context: ValidationContext<'_>,
 ) -> Result<SpannedList<&'t str>, AllocError> {
-    if group == "finding" {
-        let finding = Diagnostic::new(alloc, Severity::Note).with_message(text)?;
-        context.push(finding)?;
-        return Ok(SpannedList::new(alloc));
+    if asked.group == "finding" {
+        context.push(Diagnostic::new(asked.alloc, Severity::Note).with_message(asked.text)?)?;
+        return Ok(SpannedList::new(asked.alloc));
     }
-    let mut words = words_of(alloc, text)?;
-    match context.dedup(alloc, &mut words) {
+    let mut words = words_of(asked.alloc, asked.text)?;
+    match context.dedup(asked.alloc, &mut words) {
         Ok(()) => Ok(words),
         Err(error) => Err(error),
     }
 }
 
-/// Puts all that is reported of some words, and those that are left.
-fn put_left(alloc: Global, group: &str, text: &str, out: &mut AnswerText) {
-    let mut files = Files::new(alloc);
-    let mut found = Diagnostics::new(alloc);
+/// The words of a row that are left, and all that is reported.
+pub fn left_in<'t>(asked: &Asked<'t>) -> Result<Left<'t>, AllocError> {
+    let mut files = Files::new(asked.alloc);
+    let mut found = Diagnostics::new(asked.alloc);
     let context = ValidationContext {
         cfg_id: 3,
         files: &mut files,
         diagnostics: &mut found,
     };
-    let words = words_left(alloc, group, text, context);
-    put_findings(out, &found);
-    put_words(out, &words);
+    match words_left(asked, context) {
+        Ok(words) => Ok(Left { words, found }),
+        Err(error) => Err(error),
+    }
 }
 
-fn put_words(out: &mut AnswerText, words: &Result<SpannedList<&str>, AllocError>) {
-    match words {
-        Ok(words) => {
-            for word in words.items() {
-                write!(out, "{} at {};", word.value, word.span.start);
-            }
+impl Shown<Policy> for Left<'_> {
+    fn put(&self, out: &mut AnswerText) {
+        put_findings(out, &self.found);
+        for word in self.words.items() {
+            write!(out, "{} at {};", word.value, word.span.start);
         }
-        Err(_) => out.want_memory(),
-    }
-}
-
-/// Puts what a text comes to in a group of which several calls are made.
-fn put_called(
-    alloc: Global,
-    group: &str,
-    text: &str,
-    out: &mut AnswerText,
-) -> Result<(), ConfigError> {
-    match group {
-        "reason" | "removed key" => put_table(alloc, group, text, out),
-        "two licensees" => put_order(alloc, text, out),
-        "policy's file" => put_heard(alloc, text, out),
-        _ => put_told(alloc, group, text, out),
-    }
-}
-
-fn put_tried(alloc: Global, group: &str, text: &str, out: &mut AnswerText) {
-    if let Err(error) = put_called(alloc, group, text, out) {
-        put_refusal(out, &LoadError::from(error));
-    }
-}
-
-/// Rows of policies.
-pub struct PolicyRows;
-
-impl Rows for PolicyRows {
-    fn answer(&self, alloc: Global, group: &str, text: &str, out: &mut AnswerText) -> bool {
-        match group {
-            "private crates" => put_as::<Private>(alloc, text, out),
-            "output" => put_as::<OutputConfig>(alloc, text, out),
-            "licence file" => put_as::<FileSource>(alloc, text, out),
-            "graph" => put_as::<GraphConfig>(alloc, text, out),
-            "scope" => put_as::<Scope>(alloc, text, out),
-            "agreement" => put_as::<BlanketAgreement>(alloc, text, out),
-            "lint level" => put_as::<LintLevel>(alloc, text, out),
-            "left out" if text == "agreement" => BlanketAgreement::default().put(out),
-            "left out" => LintLevel::default().put(out),
-            "licensee entry" => put_as::<Licensee>(alloc, text, out),
-            "exception" => put_as::<Exception>(alloc, text, out),
-            "exceptions file" => put_as::<ExceptionsFile>(alloc, text, out),
-            "clarification" => put_as::<Clarification>(alloc, text, out),
-            "threshold" => put_policy(alloc, group, text, out),
-            "equal items" | "finding" => put_left(alloc, group, text, out),
-            "reason"
-            | "removed key"
-            | "two licensees"
-            | "policy's file"
-            | "clarified expression"
-            | "private addresses"
-            | "tied exceptions" => put_tried(alloc, group, text, out),
-            _ => return false,
-        }
-        true
     }
 }

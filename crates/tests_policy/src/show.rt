@@ -1,19 +1,22 @@
 //! What was read, reported or refused as one text: each field, or the faults with their places.
+use crate::Policy;
 use deny_text::{Span, Spanned, Texts};
 use diag_core::{Label, LabelStyle, Severity};
 use policy_core::{
     BlanketAgreement, Clarification, Config, Exception, ExceptionsFile, FileSource, FileSources,
-    GraphConfig, Licensee, Licensees, LintLevel, OutputConfig, Private, RootConfig, Scope,
+    GraphConfig, Licensee, Licensees, LintLevel, OutputConfig, Private, Reason, RootConfig, Scope,
     ValidClarifications, ValidExceptions,
 };
-use policy_load::{Diagnostics, LoadError};
+use policy_load::{Diagnostics, LoadError, ShapeErrors};
+use policy_toml::DeserError;
 use std::fmt::Display;
-use tests_files::AnswerText;
+use tests_files::{AnswerText, Shown};
 
 pub fn put_span(out: &mut AnswerText, span: Span) {
     write!(out, "{}..{}", span.start, span.end);
 }
 
+/// Puts places, each with a semicolon.
 pub fn put_spans(out: &mut AnswerText, spans: &[Span]) {
     for span in spans {
         put_span(out, *span);
@@ -22,7 +25,7 @@ pub fn put_spans(out: &mut AnswerText, spans: &[Span]) {
 }
 
 /// Puts a value and where it is there.
-pub fn put_at<T: Display>(out: &mut AnswerText, item: &Spanned<T>) {
+fn put_at<T: Display>(out: &mut AnswerText, item: &Spanned<T>) {
     write!(out, "{} at ", item.value);
     put_span(out, item.span);
 }
@@ -34,40 +37,35 @@ pub fn put_texts(out: &mut AnswerText, name: &str, texts: &Texts) {
     }
 }
 
-/// What is shown by its fields.
-pub trait Fields {
-    fn put(&self, out: &mut AnswerText);
-}
-
 /// A level, with how grave what it finds is.
-impl Fields for LintLevel {
+impl Shown<Policy> for LintLevel {
     fn put(&self, out: &mut AnswerText) {
         let level = *self;
         write!(out, "{level:?} {:?}", Severity::from(level));
     }
 }
 
-impl Fields for BlanketAgreement {
+impl Shown<Policy> for BlanketAgreement {
     fn put(&self, out: &mut AnswerText) {
         let agreement = *self;
         write!(out, "{agreement:?}");
     }
 }
 
-impl Fields for Scope {
+impl Shown<Policy> for Scope {
     fn put(&self, out: &mut AnswerText) {
         out.put(self.as_str());
     }
 }
 
-impl Fields for FileSource {
+impl Shown<Policy> for FileSource {
     fn put(&self, out: &mut AnswerText) {
         put_at(out, &self.path);
         write!(out, " {}", self.hash);
     }
 }
 
-impl Fields for Private {
+impl Shown<Policy> for Private {
     fn put(&self, out: &mut AnswerText) {
         write!(out, "ignore={} sources=", self.ignore);
         for source in self.ignore_sources.items() {
@@ -78,7 +76,7 @@ impl Fields for Private {
     }
 }
 
-impl Fields for OutputConfig {
+impl Shown<Policy> for OutputConfig {
     fn put(&self, out: &mut AnswerText) {
         match self.feature_depth {
             Some(depth) => write!(out, "depth {depth}"),
@@ -87,7 +85,7 @@ impl Fields for OutputConfig {
     }
 }
 
-impl Fields for GraphConfig {
+impl Shown<Policy> for GraphConfig {
     fn put(&self, out: &mut AnswerText) {
         for target in self.targets.items() {
             put_at(out, &target.filter);
@@ -105,37 +103,38 @@ impl Fields for GraphConfig {
     }
 }
 
-impl Fields for Licensee {
+impl Shown<Policy> for Licensee {
     fn put(&self, out: &mut AnswerText) {
         put_at(out, &self.0);
         out.put(";");
     }
 }
 
+impl Shown<Policy> for Reason {
+    fn put(&self, out: &mut AnswerText) {
+        put_at(out, &self.0);
+    }
+}
+
 /// An exception, with the files that it is tied to where it has that key.
-impl Fields for Exception {
+impl Shown<Policy> for Exception {
     fn put(&self, out: &mut AnswerText) {
         write!(out, "{}:", self.spec);
-        put_all(out, self.allow.items());
+        out.each::<Policy, _>("", self.allow.items());
         if let Some(files) = &self.license_files {
             out.put(" files");
-            put_tied(out, files);
+            for file in files.items() {
+                out.put(" ");
+                file.put(out);
+                out.put(";");
+            }
         }
     }
 }
 
-/// Puts the files that an exception is tied to, each with the place of its path.
-fn put_tied(out: &mut AnswerText, files: &FileSources) {
-    for file in files.items() {
-        out.put(" ");
-        file.put(out);
-        out.put(";");
-    }
-}
-
-impl Fields for ExceptionsFile {
+impl Shown<Policy> for ExceptionsFile {
     fn put(&self, out: &mut AnswerText) {
-        put_all(out, self.exceptions.items());
+        out.each::<Policy, _>("", self.exceptions.items());
         for clarification in self.clarify.items() {
             out.put("clarify ");
             clarification.put(out);
@@ -143,7 +142,7 @@ impl Fields for ExceptionsFile {
     }
 }
 
-impl Fields for Clarification {
+impl Shown<Policy> for Clarification {
     fn put(&self, out: &mut AnswerText) {
         write!(out, "{}: ", self.spec);
         put_at(out, &self.expression);
@@ -151,12 +150,6 @@ impl Fields for Clarification {
         for file in self.license_files.items() {
             write!(out, "{} {};", file.path.value, file.hash);
         }
-    }
-}
-
-pub fn put_all<T: Fields>(out: &mut AnswerText, items: &[T]) {
-    for item in items {
-        item.put(out);
     }
 }
 
@@ -172,18 +165,20 @@ fn put_settings(out: &mut AnswerText, config: &Config) {
     );
 }
 
-pub fn put_config(out: &mut AnswerText, config: &Config) {
-    config.private.put(out);
-    put_settings(out, config);
-    out.put("\nallow=");
-    put_all(out, config.allow.items());
-    out.put("\nclarify=");
-    put_all(out, config.clarify.items());
-    out.put("\nexceptions=");
-    put_all(out, config.exceptions.items());
-    out.put("\ndeprecated=");
-    put_spans(out, config.deprecated_spans.items());
-    out.put("\n");
+impl Shown<Policy> for Config {
+    fn put(&self, out: &mut AnswerText) {
+        self.private.put(out);
+        put_settings(out, self);
+        out.put("\nallow=");
+        out.each::<Policy, _>("", self.allow.items());
+        out.put("\nclarify=");
+        out.each::<Policy, _>("", self.clarify.items());
+        out.put("\nexceptions=");
+        out.each::<Policy, _>("", self.exceptions.items());
+        out.put("\ndeprecated=");
+        put_spans(out, self.deprecated_spans.items());
+        out.put("\n");
+    }
 }
 
 /// Puts a policy, its table `licenses` by whether it is there.
@@ -280,23 +275,37 @@ pub fn put_findings(out: &mut AnswerText, found: &Diagnostics) {
     }
 }
 
-/// Puts why a policy or a part of it is refused.
-pub fn put_refusal(out: &mut AnswerText, error: &LoadError) {
-    match error {
-        LoadError::Memory => out.want_memory(),
-        LoadError::ConfigRead(fault) => write!(out, "{fault:?}"),
-        LoadError::ConfigSyntax(fault) => {
-            write!(out, "{:?} ", fault.reason);
-            put_span(out, fault.span);
+fn put_shape(out: &mut AnswerText, faults: &ShapeErrors) {
+    for fault in faults.items() {
+        put_span(out, fault.span);
+        write!(out, " {fault};");
+    }
+}
+
+/// Why a part of a policy is refused.
+impl Shown<Policy> for DeserError {
+    fn put(&self, out: &mut AnswerText) {
+        match self {
+            DeserError::Faults(faults) => put_shape(out, faults),
+            DeserError::Memory => out.want_memory(),
         }
-        LoadError::ConfigShape(faults) => {
-            for fault in faults.items() {
+    }
+}
+
+/// Why a policy is refused.
+impl Shown<Policy> for LoadError {
+    fn put(&self, out: &mut AnswerText) {
+        match self {
+            LoadError::Memory => out.want_memory(),
+            LoadError::ConfigRead(fault) => write!(out, "{fault:?}"),
+            LoadError::ConfigSyntax(fault) => {
+                write!(out, "{:?} ", fault.reason);
                 put_span(out, fault.span);
-                write!(out, " {fault};");
             }
+            LoadError::ConfigShape(faults) => put_shape(out, faults),
+            LoadError::NotCarried => out.put("not carried"),
+            LoadError::ConfigInvalid(found) => put_findings(out, found),
+            LoadError::WriteFault { before, after } => write!(out, "write {before} {after}"),
         }
-        LoadError::NotCarried => out.put("not carried"),
-        LoadError::ConfigInvalid(found) => put_findings(out, found),
-        LoadError::WriteFault { before, after } => write!(out, "write {before} {after}"),
     }
 }

@@ -6,8 +6,9 @@ use std::process::ExitCode;
 use std::{env, io};
 use tests_files::exit_code;
 
-const FOLDERS: [&str; 9] = [
-    "text", "spdx", "diag", "toml", "graph", "policy", "gather", "check", "start",
+/// The folders: of rows and cases of each room, and then of whole runs, and of runs over input that a stranger wrote.
+const FOLDERS: [&str; 10] = [
+    "text", "spdx", "diag", "toml", "graph", "policy", "check", "start", "run", "hostile",
 ];
 
 /// Compares what is in a folder, and returns whether nothing differs.
@@ -19,9 +20,10 @@ fn compare(rt: &HostRuntime, folder: &str) -> bool {
         "toml" => tests_toml::compare(rt),
         "graph" => tests_graph::compare(rt),
         "policy" => tests_policy::compare(rt),
-        "gather" => tests_gather::compare(rt),
         "check" => tests_check::compare(rt),
         "start" => tests_start::compare(rt),
+        "run" => tests_runner::compare(rt),
+        "hostile" => tests_runner::compare_hostile(rt),
         _ => {
             let _ = eprintln!(rt; "{folder}: no such folder");
             false

@@ -1,17 +1,14 @@
 //! Cases of the whole run of the gate, which are in files: what a run is over, and what it comes to.
 #![tactic(auto)]
 
-mod command;
-mod compared;
 mod counted;
 mod identifiers;
-mod lines;
-mod outcomes;
+mod runs;
 mod seen;
 mod settings;
 
-use compared::compare_runs;
-pub use lines::put_run;
+use runs::RunCases;
+use tests_files::compare_all;
 
 /// Files of cases: of the first path and failures, of what words ask for and how they are refused, of metadata, of
 /// policies, of what is found, of what is read of each crate, of the calls of the tree, of licence families, of
@@ -47,20 +44,12 @@ const HOSTILE: [&str; 5] = [
     "hostile/failures.txt",
 ];
 
-fn compare_files(rt: &HostRuntime, files: &[&str]) -> bool {
-    let mut is_as_wanted = true;
-    for file in files {
-        is_as_wanted = compare_runs(rt, file) & is_as_wanted;
-    }
-    is_as_wanted
-}
-
 /// Compares the runs of the cases of the room, and returns whether nothing differs.
 pub fn compare(rt: &HostRuntime) -> bool {
-    compare_files(rt, &FILES)
+    compare_all(rt, &FILES, &RunCases)
 }
 
 /// The same of input that a stranger wrote, and of failures.
 pub fn compare_hostile(rt: &HostRuntime) -> bool {
-    compare_files(rt, &HOSTILE)
+    compare_all(rt, &HOSTILE, &RunCases)
 }

@@ -1,7 +1,6 @@
 //! What is seen of how a run ended, under each key.
-use crate::command::CommandEnd;
 use crate::counted::CountedSink;
-use crate::settings::Ending;
+use crate::settings::{Ending, Setting};
 use deny_run::{
     Color, CrateReport, DiagPrinter, Diagnostics, Error, Format, LicenseExprSource, LogContext,
     NoReason, Report, Request, RunEnd, ShapeErrors, Stats, StoreFault, SyntaxError, Verdict,
@@ -12,43 +11,14 @@ use diag_core::LevelFilter;
 use diag_print::pack_labels_are_inside;
 use std::alloc::Global;
 use std::fmt::Display;
-use tests_files::AnswerText;
-use tests_files::cases::is_among;
 use tests_files::tree::number;
+use tests_files::{AnswerText, Asked, Room, Told};
 use tree_core::ReadAnswer;
-
-/// The keys of every run, and then those of a report.
-const SEEN: [&str; 19] = [
-    "status",
-    "ended",
-    "command",
-    "request",
-    "out",
-    "out-begins",
-    "err",
-    "err-begins",
-    "load",
-    "faults",
-    "calls",
-    "asked",
-    "crates",
-    "verdicts",
-    "found",
-    "policy",
-    "notes",
-    "stats",
-    "failed",
-];
 
 /// The number of the file whose text is wanted, by a key as `text-1`.
 fn file_in(key: &str) -> Option<usize> {
     let file = number(key.strip_prefix("text-")?)?;
     Some(file as usize)
-}
-
-/// Whether something is seen of a run under a key.
-pub fn is_seen(key: &str) -> bool {
-    is_among(key, &SEEN) || file_in(key).is_some()
 }
 
 fn put_span(out: &mut AnswerText, span: Span) {
@@ -257,6 +227,18 @@ fn put_failed(out: &mut AnswerText, report: &Report) {
     }
 }
 
+/// Puts a line for each finding with the crates that it is about.
+fn put_about(out: &mut AnswerText, report: &Report) {
+    for pack in report.findings.items() {
+        for finding in pack.iter() {
+            for node in finding.graph_nodes.items() {
+                out.put(node.kid.as_str());
+            }
+            out.put("\n");
+        }
+    }
+}
+
 /// Puts the policy's file, what it allows, and how many exceptions it has.
 fn put_policy(out: &mut AnswerText, report: &Report) {
     write!(out, "file {}:", report.policy.file_id);
@@ -317,6 +299,7 @@ fn put_report(alloc: Global, out: &mut AnswerText, report: &Report, key: &str, e
     match key {
         "ended" | "crates" | "verdicts" => put_crates(out, report, key),
         "failed" => put_failed(out, report),
+        "about" => put_about(out, report),
         "policy" => put_policy(out, report),
         "notes" => {
             let notes = report.stats.licenses.map_or(0, |stats| stats.notes);
@@ -333,21 +316,10 @@ fn put_report(alloc: Global, out: &mut AnswerText, report: &Report, key: &str, e
             let printed = printed(alloc, report, LevelFilter::Warn);
             out.put(err.strip_suffix(found(&printed)).unwrap_or("no findings"));
         }
-        _ => match file_in(key) {
-            Some(file) => out.put(report.files.source(file).unwrap_or("no such file")),
-            None => out.put("no such key"),
-        },
-    }
-}
-
-/// Puts what the command of a run comes to by itself.
-pub fn put_command(out: &mut AnswerText, end: &Option<CommandEnd>) {
-    match end {
-        None => out.put("no command"),
-        Some(end) => match &end.answer {
-            Ok(report) => put_crates(out, report, "ended"),
-            Err(error) => put_error(out, error),
-        },
+        _ => {
+            let file = file_in(key).unwrap_or(usize::MAX);
+            out.put(report.files.source(file).unwrap_or("no such file"));
+        }
     }
 }
 
@@ -391,24 +363,72 @@ fn put_unreported(out: &mut AnswerText, ended: &RunEnd, key: &str, err: &str) {
     }
 }
 
-/// Puts what is seen of an ending under a key.
-pub fn put_seen(alloc: Global, out: &mut AnswerText, ending: &Ending, key: &str) {
-    let err = ending.err.text();
-    match key {
-        "status" => write!(out, "{}", ending.outcome.status),
-        "request" => put_request(out, &ending.outcome.request),
-        "out" | "out-begins" => out.put(ending.out.text()),
-        "err" | "err-begins" => out.put(err),
-        "calls" => write!(out, "{}", ending.tree.calls),
-        "asked" => out.put_whole(&ending.tree.asked),
-        "faults" => {
-            write!(out, "tree {}", ending.tree.failed);
-            write!(out, ", out {}", ending.out.refused);
-            write!(out, ", err {}", ending.err.refused);
-        }
-        _ => match &ending.outcome.ended {
+impl Ending<'_> {
+    /// Puts what is seen of how it ended.
+    fn put_ended(&self, alloc: Global, out: &mut AnswerText, key: &str) {
+        let err = self.err.text();
+        match &self.outcome.ended {
             RunEnd::Checked(report) => put_report(alloc, out, report, key, err),
             ended => put_unreported(out, ended, key, err),
-        },
+        }
+    }
+
+    /// Puts the counts of faults of the tree and of both sinks.
+    fn put_faults(&self, out: &mut AnswerText) {
+        let (out_faults, err_faults) = (self.out.refused, self.err.refused);
+        write!(out, "tree {}", self.tree.failed);
+        write!(out, ", out {out_faults}, err {err_faults}");
+    }
+}
+
+/// What a run came to answers what its case wants.
+impl Room for Ending<'_> {
+    fn answer(&self, asked: &Asked<'_>, out: &mut AnswerText) -> Told {
+        match asked.group {
+            "file" | "words" | "cwd" | "identifier" | "cut" | "fail" | "fail-too" =>
+                return Told::Given,
+            "room-out" | "room-err" | "piece-out" | "piece-err" => return Told::Given,
+            "faults-tree" | "faults-out" | "faults-err" => return Told::Given,
+            "status" => write!(out, "{}", self.outcome.status),
+            "request" => put_request(out, &self.outcome.request),
+            "out" | "out-begins" => out.put(self.out.text()),
+            "err" | "err-begins" => out.put(self.err.text()),
+            "calls" => write!(out, "{}", self.tree.calls),
+            "asked" => out.put_whole(&self.tree.asked),
+            "faults" => self.put_faults(out),
+            "ended"
+            | "crates"
+            | "verdicts"
+            | "failed"
+            | "about"
+            | "policy"
+            | "notes"
+            | "stats"
+            | "found"
+            | "load" => self.put_ended(asked.alloc, out, asked.group),
+            key if file_in(key).is_some() => self.put_ended(asked.alloc, out, key),
+            _ => return Told::NoSuchGroup,
+        }
+        Told::Answer
+    }
+
+    fn room_for(&self, key: &str) -> usize {
+        let Setting { case, out, err, .. } = self.setting;
+        match key {
+            "out" if case.word("room-out") == "below" => out,
+            "err" if case.word("room-err") == "below" => err,
+            _ => usize::MAX,
+        }
+    }
+
+    fn put_run(&self, told: &mut AnswerText) {
+        let Setting { call, out, err, .. } = self.setting;
+        write!(told, "  at  fail {call}, out {out}, err {err}\n");
+        if self.setting.later > 0 {
+            write!(told, "  and call {} fails\n", self.setting.later);
+        }
+        if !self.setting.case.word("cut").is_empty() {
+            write!(told, "  cut to {} bytes\n", self.setting.kept);
+        }
     }
 }

@@ -1,12 +1,10 @@
 //! The runs of a case: which calls of its tree fail, how much its sinks take, and how each run ends.
 use crate::counted::{CountedSink, CountedTree};
 use crate::identifiers::{CaseIdentifier, known_as};
-use crate::outcomes::let_go;
 use deny_run::Outcome;
 use deny_run::run::run;
 use spdx_terms::catalog::Table;
 use std::alloc::{AllocError, Global};
-use tests_files::cases::wanted;
 use tests_files::tree::{number, range_of, text_of, tree_of};
 use tests_files::{Case, CaseEntry};
 use tree_core::MemTree;
@@ -26,9 +24,10 @@ pub struct Setting<'c> {
     pub err: usize,
 }
 
-/// What a run came to, what it was over, and what it has written to.
+/// What a run came to, which run it was, and what it has written to.
 #[derive(Drop)]
-pub struct Ending {
+pub struct Ending<'c> {
+    pub setting: Setting<'c>,
     pub outcome: Outcome,
     pub tree: CountedTree,
     pub out: CountedSink,
@@ -38,11 +37,11 @@ pub struct Ending {
 const WORDS: &str = "cargo-deny --metadata-path m.json --config p.toml check licenses";
 
 /// The words: those behind the key, or one of each line below it.
-pub fn words_of(alloc: Global, case: &Case<'_>) -> Result<Vec<String>, AllocError> {
+fn words_of(alloc: Global, case: &Case<'_>) -> Result<Vec<String>, AllocError> {
     let (text, between) = match case.entry("words") {
         None => (WORDS, ' '),
-        Some(entry) if entry.text.is_empty() => (entry.word.as_str(), ' '),
-        Some(entry) => (wanted(entry), '\n'),
+        Some(entry) if entry.text.is_empty() => (entry.word(), ' '),
+        Some(entry) => (entry.wanted(), '\n'),
     };
     let mut words = Vec::new(alloc);
     for word in text.split_terminator(between) {
@@ -52,9 +51,9 @@ pub fn words_of(alloc: Global, case: &Case<'_>) -> Result<Vec<String>, AllocErro
 }
 
 /// What is behind a key, or else this.
-pub fn word_or<'c>(case: &Case<'c>, key: &str, or: &'static str) -> &'c str {
+fn word_or<'c>(case: &Case<'c>, key: &str, or: &'static str) -> &'c str {
     match case.entry(key) {
-        Some(entry) => entry.word.as_str(),
+        Some(entry) => entry.word(),
         None => or,
     }
 }
@@ -63,7 +62,7 @@ pub fn word_or<'c>(case: &Case<'c>, key: &str, or: &'static str) -> &'c str {
 fn number_or(case: &Case<'_>, key: &str, or: u64) -> Option<u64> {
     match case.entry(key) {
         None => Some(or),
-        Some(entry) => number(entry.word.as_str()),
+        Some(entry) => number(entry.word()),
     }
 }
 
@@ -80,7 +79,7 @@ fn fail_calls(tree: &mut MemTree, calls: &str) -> Option<()> {
 
 fn file_among<'e>(entries: &'e [CaseEntry], path: &str) -> Option<&'e CaseEntry> {
     for entry in entries {
-        if entry.key.as_str() == "file" && entry.word.as_str() == path {
+        if entry.key() == "file" && entry.word() == path {
             return Some(entry);
         }
     }
@@ -138,7 +137,7 @@ fn set(alloc: Global, tree: &mut MemTree, setting: &Setting<'_>) -> Option<()> {
 }
 
 /// The tree of a run, which begins with so many faults.
-pub fn tree_with(alloc: Global, setting: &Setting<'_>, failed: u64) -> Option<CountedTree> {
+fn tree_with(alloc: Global, setting: &Setting<'_>, failed: u64) -> Option<CountedTree> {
     let mut tree = tree_of(alloc, &setting.case).ok()?;
     match set(alloc, &mut tree, setting) {
         Some(()) => Some(CountedTree::new(alloc, tree, failed)),
@@ -159,43 +158,78 @@ fn outcome_of(
     run(alloc, words, cwd, tree, out, err, &Table, known)
 }
 
-fn ending_with(
+/// A sink of a run: `out` or `err`, by the keys that end so.
+fn sink_of(
     alloc: Global,
-    setting: &Setting<'_>,
+    case: &Case<'_>,
+    room: usize,
+    piece: (&str, u64),
+    faults: &str,
+) -> Option<CountedSink> {
+    let piece = number_or(case, piece.0, piece.1)? as usize;
+    let faults = number_or(case, faults, 0)?;
+    Some(CountedSink::new(alloc, room, piece, faults))
+}
+
+/// What a run is over, and what it writes to.
+#[derive(Drop)]
+struct Stage {
+    tree: CountedTree,
+    out: CountedSink,
+    err: CountedSink,
+}
+
+fn stage_of(alloc: Global, setting: &Setting<'_>) -> Option<Stage> {
+    let case = &setting.case;
+    let out = sink_of(alloc, case, setting.out, ("piece-out", 4), "faults-out");
+    let err = sink_of(alloc, case, setting.err, ("piece-err", 1000), "faults-err");
+    let faults = number_or(case, "faults-tree", 0)?;
+    match tree_with(alloc, setting, faults).zip(out).zip(err) {
+        Some(((tree, out), err)) => Some(Stage { tree, out, err }),
+        None => None,
+    }
+}
+
+fn ending_over<'c>(
+    alloc: Global,
+    setting: &Setting<'c>,
     words: &[String],
     known: &CaseIdentifier,
-) -> Option<Ending> {
-    let case = &setting.case;
-    let piece_out = number_or(case, "piece-out", 4)? as usize;
-    let piece_err = number_or(case, "piece-err", 1000)? as usize;
-    let faults_out = number_or(case, "faults-out", 0)?;
-    let faults_err = number_or(case, "faults-err", 0)?;
-    let faults_tree = number_or(case, "faults-tree", 0)?;
-    let mut tree = tree_with(alloc, setting, faults_tree)?;
-    let mut out = CountedSink::new(alloc, setting.out, piece_out, faults_out);
-    let mut err = CountedSink::new(alloc, setting.err, piece_err, faults_err);
-    let cwd = word_or(case, "cwd", "/w");
+    stage: Stage,
+) -> Ending<'c> {
+    let Stage {
+        mut tree,
+        mut out,
+        mut err,
+    } = stage;
+    let cwd = word_or(&setting.case, "cwd", "/w");
     let outcome = outcome_of(alloc, words, cwd, &mut tree, &mut out, &mut err, known);
-    Some(Ending {
+    Ending {
+        setting: *setting,
         outcome,
         tree,
         out,
         err,
-    })
+    }
 }
 
 /// How a run of the case ends; none where it can't be tried.
-pub fn ending_of(alloc: Global, setting: &Setting<'_>) -> Option<Ending> {
-    let words = words_of(alloc, &setting.case).ok()?;
+pub fn ending_of<'c>(alloc: Global, setting: &Setting<'c>) -> Option<Ending<'c>> {
     let identifier = word_or(&setting.case, "identifier", "none");
-    let known = known_as(alloc, identifier).ok()?;
-    ending_with(alloc, setting, &words, &known)
+    let words = words_of(alloc, &setting.case).ok();
+    let known = known_as(alloc, identifier).ok();
+    match words.zip(known).zip(stage_of(alloc, setting)) {
+        Some(((words, known), stage)) => {
+            Some(ending_over(alloc, setting, &words, &known, stage))
+        }
+        None => None,
+    }
 }
 
 /// The rooms of a sink, from the first to the one before the last; they may be those below the text that is wanted.
 pub fn rooms_of(case: &Case<'_>, key: &str, text: &str) -> Option<(usize, usize)> {
     if case.word(key) == "below" {
-        let length = case.entry(text).map_or(0, |entry| wanted(entry).len());
+        let length = case.entry(text).map_or(0, |entry| entry.wanted().len());
         return Some((0, length));
     }
     let room = number_or(case, key, 4000)? as usize;
@@ -222,15 +256,30 @@ pub fn laters_of(case: &Case<'_>) -> Option<(u64, u64)> {
     }
 }
 
+/// What counts the calls of a tree.
+trait Calls {
+    fn calls(&self) -> u64;
+}
+
+impl Calls for Ending<'_> {
+    fn calls(&self) -> u64 {
+        self.tree.calls
+    }
+}
+
+/// How many calls were made in a run, which is let go.
+fn calls_in<C: Calls + Drop>(ended: Option<C>) -> Option<u64> {
+    match &ended {
+        Some(ended) => Some(ended.calls()),
+        None => None,
+    }
+}
+
 /// The calls that fail alone in a run each, from the first to the last; `each` is of all that this run makes, in which none fails.
 pub fn calls_of(alloc: Global, whole: &Setting<'_>) -> Option<(u64, u64)> {
     match whole.case.word("fail") {
         "" => Some((0, 0)),
-        "each" => {
-            let Ending { outcome, tree, .. } = ending_of(alloc, whole)?;
-            let_go(outcome);
-            Some((1, tree.calls))
-        }
+        "each" => Some((1, calls_in(ending_of(alloc, whole))?)),
         // Several calls fail in one run.
         word if word.contains(' ') => Some((0, 0)),
         word => match range_of(word) {

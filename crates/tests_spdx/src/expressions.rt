@@ -1,85 +1,77 @@
 //! Texts as expressions, how these are printed, and the certificates of their verdicts.
-use crate::terms::{pair_of, put_fault, put_span};
-use spdx_core::certificates::{Hit, Hits, TermPlaces, Verdict, certificate};
+use crate::terms::{pair_of, put_span};
+use crate::texts::Spdx;
+use spdx_core::certificates::{Hit, Verdict, certificate};
 use spdx_core::{ExprError, ExprNode, Expression, ParseMode, Table};
 use spdx_printed::printed;
 use std::alloc::{AllocError, Global};
-use tests_files::AnswerText;
+use tests_files::{AnswerText, Asked, Shown, let_go};
 
 /// What is made of an expression; behind a bar is what was found of its terms.
-pub fn put(alloc: Global, out: &mut AnswerText, group: &str, text: &str) {
-    let (text, hits) = pair_of(text);
-    match read(alloc, group, text) {
+pub fn put(asked: &Asked<'_>, out: &mut AnswerText) {
+    let (text, hits) = pair_of(asked.text);
+    match read(asked, text) {
         Ok(read) => {
-            if put_read(alloc, out, group, &read, hits).is_err() {
-                out.want_memory();
-            }
+            put_read(asked, out, &read, hits);
+            let_go(read);
         }
-        Err(error) => put_fault(out, &error),
+        Err(error) => error.put(out),
     }
 }
 
-fn read(alloc: Global, group: &str, text: &str) -> Result<Expression, ExprError> {
-    let mode = match group {
-        "size" => return Expression::parse(alloc, text, &Table),
+fn read(asked: &Asked<'_>, text: &str) -> Result<Expression, ExprError> {
+    let mode = match asked.group {
+        "size" => return Expression::parse(asked.alloc, text, &Table),
         "strict" => ParseMode::STRICT,
         "lax" | "printed expression" => ParseMode::LAX,
-        _ => ParseMode {
-            allow_deprecated: false,
+        group => ParseMode {
             allow_imprecise_license_names: group == "imprecise",
-            allow_postfix_plus_on_gpl: false,
             allow_slash_as_or_operator: group != "imprecise",
+            ..ParseMode::STRICT
         },
     };
-    Expression::parse_mode(alloc, text, mode, &Table)
+    Expression::parse_mode(asked.alloc, text, mode, &Table)
 }
 
-fn put_read(
-    alloc: Global,
-    out: &mut AnswerText,
-    group: &str,
-    read: &Expression,
-    hits: &str,
-) -> Result<(), AllocError> {
-    match group {
+fn put_read(asked: &Asked<'_>, out: &mut AnswerText, read: &Expression, hits: &str) {
+    let alloc = asked.alloc;
+    match asked.group {
         "size" => put_size(out, read),
-        "printed expression" => out.put(printed(alloc, read)?.as_str()),
-        "certificate" => {
-            let hits = hits_of(alloc, hits)?;
-            let verdict = certificate(alloc, read, &hits)?;
-            put_verdict(out, &verdict);
-        }
-        _ => {
-            let copy = read.copy(alloc)?;
-            put_expression(out, &copy);
-        }
+        "printed expression" => match printed(alloc, read) {
+            Ok(text) => out.write_fmt(text),
+            Err(_) => out.want_memory(),
+        },
+        "certificate" => match hits_of(alloc, hits) {
+            Ok(hits) => out.made::<Spdx, _, _>(certificate(alloc, read, &hits)),
+            Err(_) => out.want_memory(),
+        },
+        _ => out.made::<Spdx, _, _>(read.copy(alloc)),
     }
-    Ok(())
 }
 
 /// How many terms and nodes there are, and where the last term is.
 fn put_size(out: &mut AnswerText, read: &Expression) {
-    let terms = read.requirements().len();
-    let nodes = read.nodes().len();
-    write!(out, "{terms} {nodes}");
-    if let Some(last) = read.requirements().last() {
+    let terms = read.requirements();
+    write!(out, "{} {}", terms.len(), read.nodes().len());
+    if let Some(last) = terms.last() {
         put_span(out, last.span);
     }
 }
 
 /// The terms with their places, and the nodes.
-fn put_expression(out: &mut AnswerText, read: &Expression) {
-    for term in read.requirements() {
-        let req = &term.req;
-        write!(out, "{req}");
-        put_span(out, term.span);
-        out.put("; ");
-    }
-    for node in read.nodes() {
-        match node {
-            ExprNode::Term(place) => write!(out, "{place}"),
-            ExprNode::And => out.put("&"),
-            ExprNode::Or => out.put("|"),
+impl Shown<Spdx> for Expression {
+    fn put(&self, out: &mut AnswerText) {
+        for term in self.requirements() {
+            write!(out, "{}", term.req);
+            put_span(out, term.span);
+            out.put("; ");
+        }
+        for node in self.nodes() {
+            match node {
+                ExprNode::Term(place) => write!(out, "{place}"),
+                ExprNode::And => out.put("&"),
+                ExprNode::Or => out.put("|"),
+            }
         }
     }
 }
@@ -96,44 +88,49 @@ fn hit_of(word: &str) -> Option<Hit> {
 }
 
 fn hits_of(alloc: Global, words: &str) -> Result<Vec<Option<Hit>>, AllocError> {
-    let mut hits = Vec::new(alloc);
-    for word in words.split_whitespace() {
-        hits.push(hit_of(word))?;
-    }
-    Ok(hits)
+    words.split_whitespace().map(hit_of).collect(alloc)
 }
 
-fn put_places(out: &mut AnswerText, places: &TermPlaces) {
-    for place in places.items() {
-        write!(out, " {place}");
+impl Shown<Spdx> for usize {
+    fn put(&self, out: &mut AnswerText) {
+        write!(out, "{self}");
     }
-    out.put(";");
 }
 
-fn put_hits(out: &mut AnswerText, hits: &Hits) {
-    for hit in hits.items() {
-        match hit {
-            Hit::Allowed(entry) => write!(out, " allowed {entry}"),
-            Hit::Exception { exception, entry } => write!(out, " exception {exception} {entry}"),
+impl Shown<Spdx> for Hit {
+    fn put(&self, out: &mut AnswerText) {
+        match self {
+            Hit::Allowed(entry) => write!(out, "allowed {entry}"),
+            Hit::Exception { exception, entry } => write!(out, "exception {exception} {entry}"),
         }
+    }
+}
+
+/// Puts each item behind a blank, and a semicolon.
+fn put_list<T: Shown<Spdx>>(out: &mut AnswerText, items: &[T]) {
+    for item in items {
+        out.put(" ");
+        item.put(out);
     }
     out.put(";");
 }
 
 /// A verdict with its certificate.
-fn put_verdict(out: &mut AnswerText, verdict: &Verdict) {
-    match verdict {
-        Verdict::Skipped => out.put("skipped"),
-        Verdict::Unlicensed => out.put("unlicensed"),
-        Verdict::Accepted { choice, hits } => {
-            out.put("accepted");
-            put_places(out, choice);
-            put_hits(out, hits);
-        }
-        Verdict::Rejected { least, blocks } => {
-            out.put("rejected");
-            put_places(out, least);
-            put_places(out, blocks);
+impl Shown<Spdx> for Verdict {
+    fn put(&self, out: &mut AnswerText) {
+        match self {
+            Verdict::Skipped => out.put("skipped"),
+            Verdict::Unlicensed => out.put("unlicensed"),
+            Verdict::Accepted { choice, hits } => {
+                out.put("accepted");
+                put_list(out, choice.items());
+                put_list(out, hits.items());
+            }
+            Verdict::Rejected { least, blocks } => {
+                out.put("rejected");
+                put_list(out, least.items());
+                put_list(out, blocks.items());
+            }
         }
     }
 }

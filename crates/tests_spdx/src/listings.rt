@@ -1,64 +1,75 @@
 //! Files of an organisation's own catalogue, and folders of its texts.
-use deny_text::Bytes;
+use crate::terms::pair_of;
+use crate::texts::{Spdx, put_scanned};
 use spdx_own_names::{FileCatalog, ListingError, StoreError, StoreFault, read_catalog, read_store};
-use spdx_terms::catalog::{Catalog, Identifier, Table};
+use spdx_terms::catalog::{Catalog, LicenseEntry, Table};
 use std::alloc::{AllocError, Global};
-use tests_files::AnswerText;
+use tests_files::{AnswerText, Asked, Shown, let_go};
 use tree_core::MemTree;
 
 /// A text's bytes, with FF in place of each `?`.
-fn bytes_of(alloc: Global, text: &str) -> Result<Bytes, AllocError> {
-    let mut bytes = Bytes::new(alloc);
-    for byte in text.as_bytes() {
-        bytes.push(if *byte == b'?' { 0xff } else { *byte })?;
-    }
-    Ok(bytes)
+fn bytes_of(alloc: Global, text: &str) -> Result<Vec<u8>, AllocError> {
+    let bytes = text.bytes();
+    bytes
+        .map(|byte| if byte == b'?' { 0xff } else { byte })
+        .collect(alloc)
 }
 
-/// Puts what a catalogue knows of a name as a licence and as an exception, and what a text begins with.
-pub fn put_known<C: Catalog>(out: &mut AnswerText, catalog: &C, text: &str) {
-    match catalog.license(text) {
-        Some(entry) => {
-            let family = entry.family;
-            let rank = entry.rank;
-            write!(out, "family {family}, rank {rank}");
-            out.put(if entry.later { ", later" } else { "" });
-            out.put(if entry.deprecated { ", deprecated" } else { "" });
-            out.put(if entry.gnu { ", gnu" } else { "" });
+/// Puts what a catalogue has of a licence, or this where it has nothing.
+pub fn put_license(out: &mut AnswerText, found: Option<LicenseEntry>, or: &str) {
+    let Some(entry) = found else {
+        return out.put(or);
+    };
+    write!(out, "family {}, rank {}", entry.family, entry.rank);
+    out.put(if entry.later { ", later" } else { "" });
+    out.put(if entry.deprecated { ", deprecated" } else { "" });
+    out.put(if entry.gnu { ", gnu" } else { "" });
+}
+
+impl Shown<Spdx> for ListingError {
+    fn put(&self, out: &mut AnswerText) {
+        match self {
+            ListingError::Syntax { line } => write!(out, "line {line}"),
+            ListingError::Memory => out.want_memory(),
         }
-        None => out.put("no licence"),
     }
+}
+
+/// Puts what a file's catalogue knows of what is behind it: of the lines of the built-in one for a file of examples, else of a text.
+pub fn put(asked: &Asked<'_>, out: &mut AnswerText, file: &str, behind: &str) {
+    match read(asked.alloc, file) {
+        Ok(catalog) => {
+            if asked.group == "catalogue of an example" {
+                put_list(out, &catalog, file, behind);
+            } else {
+                put_known(out, &catalog, behind);
+            }
+            let_go(catalog);
+        }
+        Err(error) => error.put(out),
+    }
+}
+
+fn read(alloc: Global, file: &str) -> Result<FileCatalog, ListingError> {
+    match bytes_of(alloc, file) {
+        Ok(bytes) => read_catalog(alloc, &bytes),
+        Err(_) => Err(ListingError::Memory),
+    }
+}
+
+/// What is known of a text as a licence and as an exception, and what the text begins with; without a text that there is a catalogue.
+fn put_known(out: &mut AnswerText, catalog: &FileCatalog, text: &str) {
+    if text.is_empty() {
+        return out.put("a catalogue");
+    }
+    put_license(out, catalog.license(text), "no licence");
     out.put(if catalog.exception(text) {
         "; an exception"
     } else {
         "; no exception"
     });
     if let Some(found) = catalog.imprecise(text) {
-        let len = found.len;
-        let name = found.name;
-        write!(out, "; begins with {len} for {name}");
-    }
-}
-
-fn put_listing_error(out: &mut AnswerText, error: &ListingError) {
-    match error {
-        ListingError::Syntax { line } => write!(out, "line {line}"),
-        ListingError::Memory => out.want_memory(),
-    }
-}
-
-fn read(alloc: Global, text: &str) -> Result<FileCatalog, ListingError> {
-    let bytes = bytes_of(alloc, text)?;
-    read_catalog(alloc, bytes.items())
-}
-
-/// What a file comes to, or, behind a bar, what its catalogue knows of a text.
-pub fn put_file(alloc: Global, out: &mut AnswerText, text: &str) {
-    let (file, asked) = text.split_once(" | ").unwrap_or((text, ""));
-    match read(alloc, file) {
-        Ok(_) if asked.is_empty() => out.put("a catalogue"),
-        Ok(listing) => put_known(out, &listing, asked),
-        Err(error) => put_listing_error(out, &error),
+        write!(out, "; begins with {} for {}", found.len, found.name);
     }
 }
 
@@ -69,11 +80,11 @@ fn count_lines(file: &str, start: &str) -> usize {
 
 /// Whether a catalogue and the built-in one begin a text with all of it, and for the same licence.
 fn begin_alike(listing: &FileCatalog, text: &str) -> bool {
-    match (Table.imprecise(text), listing.imprecise(text)) {
-        (Some(found), Some(own)) => {
-            found.len == text.len() && own.len == text.len() && found.name == own.name
-        }
-        _ => false,
+    match Table.imprecise(text).zip(listing.imprecise(text)) {
+        Some((found, own)) => found.len == text.len()
+            && own.len == text.len()
+            && found.name == own.name,
+        None => false,
     }
 }
 
@@ -82,10 +93,7 @@ fn is_as_built_in(listing: &FileCatalog, line: &str) -> bool {
     let (kind, rest) = line.split_once(' ').unwrap_or((line, ""));
     let (name, behind) = rest.split_once(' ').unwrap_or((rest, ""));
     match kind {
-        "license" => match Table.license(name) {
-            Some(entry) => listing.license(name) == Some(entry),
-            None => false,
-        },
+        "license" => Table.license(name).is_some() && Table.license(name) == listing.license(name),
         "exception" => Table.exception(name) && listing.exception(name),
         "imprecise" => begin_alike(listing, behind),
         _ => true,
@@ -93,96 +101,72 @@ fn is_as_built_in(listing: &FileCatalog, line: &str) -> bool {
 }
 
 /// How much a file lists, and whether its catalogue tells of the lines of the built-in one as that does.
-pub fn put_list(alloc: Global, out: &mut AnswerText, file: &str, built_in: &str) {
-    match read_catalog(alloc, file.as_bytes()) {
-        Ok(listing) => {
-            let licenses = count_lines(file, "license ");
-            let exceptions = count_lines(file, "exception ");
-            let texts = count_lines(file, "imprecise ");
-            write!(
-                out,
-                "{licenses} licences, {exceptions} exceptions, {texts} imprecise texts"
-            );
-            let is_alike = built_in.lines().all(|line| is_as_built_in(&listing, line));
-            out.put(if is_alike { "" } else { "; not as built in" });
-        }
-        Err(error) => put_listing_error(out, &error),
+fn put_list(out: &mut AnswerText, listing: &FileCatalog, file: &str, built_in: &str) {
+    let licenses = count_lines(file, "license ");
+    let exceptions = count_lines(file, "exception ");
+    let texts = count_lines(file, "imprecise ");
+    write!(
+        out,
+        "{licenses} licences, {exceptions} exceptions, {texts} imprecise texts"
+    );
+    if !built_in.lines().all(|line| is_as_built_in(listing, line)) {
+        out.put("; not as built in");
     }
+}
+
+/// Puts what a row says into a tree: `/w/s` holds the files that are written `NAME: TEXT`, with `; ` between; `! N` says that a call
+/// fails. Returns whether all could be put.
+fn put_files(alloc: Global, tree: &mut MemTree, files: &str) -> bool {
+    files.split("; ").all(|file| match file.split_once(": ") {
+        Some((name, text)) => put_file(alloc, tree, name, text),
+        None => fail_call(tree, file.strip_prefix("! ").unwrap_or("0")),
+    })
 }
 
 /// Has the call of that number fail; numbers count from 1.
-fn fail_call(tree: &mut MemTree, number: &str) -> Result<(), AllocError> {
+fn fail_call(tree: &mut MemTree, number: &str) -> bool {
     match number.parse::<u64>() {
-        Ok(call) if call > 0 => tree.fail_call(call),
-        _ => Ok(()),
+        Ok(call) if call > 0 => tree.fail_call(call).is_ok(),
+        _ => true,
     }
 }
 
-/// The tree of a row: `/w/s` holds the files that are written `NAME: TEXT`, with `; ` between; `! N` says that a call fails.
-fn tree_of(alloc: Global, files: &str) -> Result<MemTree, AllocError> {
-    let mut tree = MemTree::new(alloc);
-    for file in files.split("; ") {
-        if let Some((name, text)) = file.split_once(": ") {
-            put_text(alloc, &mut tree, name, text)?;
-        } else if let Some(number) = file.strip_prefix("! ") {
-            fail_call(&mut tree, number)?;
+fn put_file(alloc: Global, tree: &mut MemTree, name: &str, text: &str) -> bool {
+    let path = format!(in alloc; "/w/{name}").ok();
+    match path.zip(bytes_of(alloc, text).ok()) {
+        Some((path, bytes)) => tree.put(path.as_str(), &bytes).is_ok(),
+        None => false,
+    }
+}
+
+impl Shown<Spdx> for StoreError {
+    fn put(&self, out: &mut AnswerText) {
+        match self {
+            StoreError::Fault(StoreFault::Failed { before, after }) => write!(
+                out,
+                "failed {before} {after}"
+            ),
+            StoreError::Fault(StoreFault::Absent) => out.put("absent"),
+            StoreError::Fault(StoreFault::NotFolder) => out.put("no folder"),
+            StoreError::Fault(StoreFault::NotUtf8 { name }) => { write!(out, "not UTF-8: {name}") }
+            StoreError::Memory => out.want_memory(),
         }
     }
-    Ok(tree)
-}
-
-fn put_text(alloc: Global, tree: &mut MemTree, name: &str, text: &str) -> Result<(), AllocError> {
-    let path = format!(in alloc; "/w/{name}")?;
-    let bytes = bytes_of(alloc, text)?;
-    match tree.put(path.as_str(), bytes.items()) {
-        Ok(()) => Ok(()),
-        Err(_) => Err(AllocError),
-    }
-}
-
-fn put_store_error(out: &mut AnswerText, error: &StoreError) {
-    match error {
-        StoreError::Fault(StoreFault::Failed { before, after }) => write!(
-            out,
-            "failed {before} {after}"
-        ),
-        StoreError::Fault(StoreFault::Absent) => out.put("absent"),
-        StoreError::Fault(StoreFault::NotFolder) => out.put("no folder"),
-        StoreError::Fault(StoreFault::NotUtf8 { name }) => {
-            out.put("not UTF-8: ");
-            out.put(name.as_str());
-        }
-        StoreError::Memory => out.want_memory(),
-    }
-}
-
-/// The licence that a text is by the texts of a folder, and how sure that is.
-fn put_found(
-    alloc: Global,
-    out: &mut AnswerText,
-    files: &str,
-    text: &str,
-) -> Result<(), AllocError> {
-    let mut tree = tree_of(alloc, files)?;
-    match read_store(alloc, &mut tree, "/w/s") {
-        Ok(store) => {
-            let found = store.scan(alloc, text)?;
-            match &found.name {
-                Some(name) => out.put(name.as_str()),
-                None => out.put("none"),
-            }
-            let score = found.score;
-            write!(out, " {score}");
-        }
-        Err(error) => put_store_error(out, &error),
-    }
-    Ok(())
 }
 
 /// What a text is by the texts of a folder.
-pub fn put_folder(alloc: Global, out: &mut AnswerText, text: &str) {
-    let (files, text) = text.split_once(" | ").unwrap_or((text, ""));
-    if put_found(alloc, out, files, text).is_err() {
-        out.want_memory();
+pub fn put_folder(asked: &Asked<'_>, out: &mut AnswerText) {
+    let (files, text) = pair_of(asked.text);
+    let mut tree = MemTree::new(asked.alloc);
+    if put_files(asked.alloc, &mut tree, files) {
+        put_scanned(
+            asked.alloc,
+            out,
+            read_store(asked.alloc, &mut tree, "/w/s"),
+            text,
+        );
+    } else {
+        out.cant_be_tried();
     }
+    let_go(tree);
 }

@@ -1,42 +1,40 @@
 //! Texts of licensees and terms, and pairs of them.
 ghost use Rattle.std.specs.Prelude.{◌≡◌, ◌<◌};
 
-use deny_text::{Span, Steps, Text};
-use spdx_core::Table;
-use spdx_terms::{ExprError, Item, ItemKind, LicenseReq, Licensee, ParseMode, items};
-use std::alloc::{AllocError, Global};
+use crate::texts::Spdx;
+use deny_text::{Span, Steps};
+use spdx_core::{Expression, Table};
+use spdx_terms::families::FamilyIndex;
+use spdx_terms::{ExprError, LicenseReq, Licensee, ParseMode};
+use std::alloc::Global;
 use std::cmp::Ordering;
 use std::marker::Brand;
 use std::sync::ledger::{Blank, Ledger};
-use tests_files::AnswerText;
+use tests_files::{AnswerText, Asked, Shown, Told, let_go};
 
 const NAMED: ParseMode = ParseMode {
     allow_deprecated: true,
-    allow_imprecise_license_names: false,
-    allow_postfix_plus_on_gpl: false,
-    allow_slash_as_or_operator: false,
+    ..ParseMode::STRICT
 };
 
-/// Puts what a text or a pair is in a group, and returns whether there is such a group.
-pub fn put(alloc: Global, out: &mut AnswerText, group: &str, text: &str) -> bool {
+/// Puts what a text or a pair is in a group.
+pub fn put(asked: &Asked<'_>, out: &mut AnswerText) -> Told {
+    let (alloc, text) = (asked.alloc, asked.text);
     let (one, other) = pair_of(text);
-    match group {
-        "licensee" => put_licensee(alloc, out, text, ParseMode::LAX),
-        "named licensee" => put_licensee(alloc, out, text, NAMED),
-        "printed" => {
-            put_term(alloc, out, None, text);
-            out.put(" | ");
-            put_licensee(alloc, out, text, NAMED);
-        }
+    match asked.group {
+        "licensee" => out.made::<Spdx, _, _>(licensee(alloc, text, ParseMode::LAX)),
+        "named licensee" => out.made::<Spdx, _, _>(licensee(alloc, text, NAMED)),
+        "printed" => out.tried::<Spdx, _>(term(alloc, text).zip(named(alloc, text))),
         "satisfies" => {
-            put_pair(alloc, out, group, one, other);
+            out.tried::<Spdx, _>(named(alloc, one).zip(term(alloc, other)));
             out.put(" ");
-            put_pair(alloc, out, group, other, one);
+            out.tried::<Spdx, _>(named(alloc, other).zip(term(alloc, one)));
         }
-        "order" => put_pair(alloc, out, group, one, other),
-        _ => return false,
+        "order" => out.tried::<Spdx, _>(named(alloc, one).zip(named(alloc, other))),
+        "places of a family" => out.tried::<Spdx, _>(index_of(alloc, one).zip(term(alloc, other))),
+        _ => return Told::NoSuchGroup,
     }
-    true
+    Told::Answer
 }
 
 /// The two texts of a pair.
@@ -44,92 +42,104 @@ pub fn pair_of(text: &str) -> (&str, &str) {
     text.split_once(" | ").unwrap_or((text, ""))
 }
 
+fn licensee(alloc: Global, text: &str, mode: ParseMode) -> Result<Licensee, ExprError> {
+    Licensee::parse_mode(alloc, text, mode, &Table)
+}
+
+fn named(alloc: Global, text: &str) -> Option<Licensee> {
+    licensee(alloc, text, NAMED).ok()
+}
+
+/// An expression that is one term.
+fn term(alloc: Global, text: &str) -> Option<Expression> {
+    Expression::parse_mode(alloc, text, ParseMode::LAX, &Table).ok()
+}
+
+/// The index of some licences, or of none.
+fn index_of(alloc: Global, names: &str) -> Option<FamilyIndex> {
+    let mut index = FamilyIndex::new(alloc);
+    if names == "none" || names.split(' ').all(|name| push(alloc, &mut index, name)) {
+        Some(index)
+    } else {
+        let_go(index);
+        None
+    }
+}
+
+/// Appends a licence, and returns whether it could be.
+fn push(alloc: Global, index: &mut FamilyIndex, name: &str) -> bool {
+    match licensee(alloc, name, ParseMode::LAX) {
+        Ok(licensee) => {
+            let pushed = index.push(&licensee);
+            let_go(licensee);
+            pushed.is_ok()
+        }
+        Err(_) => false,
+    }
+}
+
 pub fn put_span(out: &mut AnswerText, span: Span) {
-    let Span { start, end } = span;
-    write!(out, " {start} {end}");
+    write!(out, " {} {}", span.start, span.end);
 }
 
 /// The reason and the place of a fault.
-pub fn put_fault(out: &mut AnswerText, error: &ExprError) {
-    match error {
-        ExprError::Parse(fault) => {
-            let reason = fault.reason;
-            write!(out, "{reason}");
-            put_span(out, fault.span);
+impl Shown<Spdx> for ExprError {
+    fn put(&self, out: &mut AnswerText) {
+        match self {
+            ExprError::Parse(fault) => {
+                write!(out, "{}", fault.reason);
+                put_span(out, fault.span);
+            }
+            ExprError::Memory => out.want_memory(),
         }
-        ExprError::Memory => out.want_memory(),
     }
 }
 
-fn put_licensee(alloc: Global, out: &mut AnswerText, text: &str, mode: ParseMode) {
-    match Licensee::parse_mode(alloc, text, mode, &Table) {
-        Ok(licensee) => write!(out, "{licensee}"),
-        Err(error) => put_fault(out, &error),
+impl Shown<Spdx> for Licensee {
+    fn put(&self, out: &mut AnswerText) {
+        write!(out, "{self}");
     }
 }
 
-/// What a group asks of the first as a licensee and the second.
-fn put_pair(alloc: Global, out: &mut AnswerText, group: &str, one: &str, other: &str) {
-    match Licensee::parse_mode(alloc, one, NAMED, &Table) {
-        Ok(one) => match group {
-            "order" => put_order(alloc, out, &one, other),
-            _ => put_term(alloc, out, Some(&one), other),
-        },
-        Err(error) => put_fault(out, &error),
+/// A term, and the licensee of the same text.
+impl Shown<Spdx> for (Expression, Licensee) {
+    fn put(&self, out: &mut AnswerText) {
+        for term in self.0.requirements() {
+            write!(out, "{} | {}", term.req, self.1);
+        }
+    }
+}
+
+/// Whether a licensee satisfies a term.
+impl Shown<Spdx> for (Licensee, Expression) {
+    fn put(&self, out: &mut AnswerText) {
+        for term in self.1.requirements() {
+            let is_satisfied = satisfied(&self.0, &term.req);
+            out.put(if is_satisfied { "yes" } else { "no" });
+        }
     }
 }
 
 /// How a licensee compares to another.
-fn put_order(alloc: Global, out: &mut AnswerText, one: &Licensee, other: &str) {
-    match Licensee::parse_mode(alloc, other, NAMED, &Table) {
-        Ok(other) => out.put(match one.cmp(&other) {
+impl Shown<Spdx> for (Licensee, Licensee) {
+    fn put(&self, out: &mut AnswerText) {
+        out.put(match self.0.cmp(&self.1) {
             Ordering::Less => "less",
             Ordering::Equal => "equal",
             Ordering::Greater => "greater",
-        }),
-        Err(error) => put_fault(out, &error),
+        });
     }
 }
 
-/// The term that a text is, or whether a licensee satisfies it.
-fn put_term(alloc: Global, out: &mut AnswerText, licensee: Option<&Licensee>, text: &str) {
-    match term_of(alloc, text) {
-        Ok(Some(term)) => match licensee {
-            Some(licensee) => out.put(if satisfied(licensee, &term) {
-                "yes"
-            } else {
-                "no"
-            }),
-            None => write!(out, "{term}"),
-        },
-        Ok(None) => out.put("no term"),
-        Err(_) => out.want_memory(),
+/// The places at which the family of a term is among some licences.
+impl Shown<Spdx> for (FamilyIndex, Expression) {
+    fn put(&self, out: &mut AnswerText) {
+        for term in self.1.requirements() {
+            let places = self.0.places(term.req.family());
+            out.put(if places.is_empty() { "none" } else { "" });
+            out.each::<Spdx, _>(" ", places);
+        }
     }
-}
-
-/// The term that a text of one part is.
-fn term_of(alloc: Global, text: &str) -> Result<Option<LicenseReq>, AllocError> {
-    let items = items::items(alloc, text, NAMED, &Table)?;
-    term_among(alloc, items.items())
-}
-
-fn what_at(items: &[Item], place: usize) -> Option<&ItemKind> {
-    match items.get(place) {
-        Some(item) => Some(&item.what),
-        None => None,
-    }
-}
-
-fn term_among(alloc: Global, items: &[Item]) -> Result<Option<LicenseReq>, AllocError> {
-    let Some(ItemKind::Term(named)) = what_at(items, 0) else {
-        return Ok(None);
-    };
-    let exception = match what_at(items, 2) {
-        Some(ItemKind::Exception(name)) => Some(Text::copy(alloc, name.as_str())?),
-        _ => None,
-    };
-    let item = named.item.copy(alloc)?;
-    Ok(Some(LicenseReq { item, exception }))
 }
 
 fn is_satisfied<L: Ledger>(licensee: &Licensee, term: &LicenseReq, ledger: Blank) -> bool

@@ -1,21 +1,21 @@
 //! Texts of licences, which rows name by their files, and what stores of texts find.
 use deny_text::Text;
-use spdx_terms::catalog::{Identifier, LicenseStore, StoreText, StoreTexts};
+use spdx_terms::catalog::{Identifier, LicenseStore, Match, StoreText, StoreTexts};
 use std::alloc::{AllocError, Global};
 use std::rt::Runtime;
 use std::{fs, io};
-use tests_files::AnswerText;
+use tests_files::{AnswerText, Asked, Shown};
 
-/// The texts of the files that rows name, and of a store, each behind its path.
+/// The texts of the files that rows name, and of a store, in the order of their paths.
 #[derive(Drop)]
-pub struct RowTexts {
-    items: Vec<(&'static str, String)>,
+pub struct Spdx {
+    texts: Vec<String>,
 }
 
-impl RowTexts {
+impl Spdx {
     /// The text of a file, or none.
     pub fn text(&self, name: &str) -> &str {
-        for (path, text) in self.items.iter() {
+        for (path, text) in PATHS.iter().zip(&self.texts) {
             if path.strip_prefix("spdx/") == Some(name) {
                 return text.as_str();
             }
@@ -34,75 +34,77 @@ const PATHS: [&str; 7] = [
     "spdx/spdx-list.txt",
 ];
 
-fn push_file(rt: &HostRuntime, files: &mut RowTexts, path: &'static str) -> io::Result<()> {
-    let text = fs::read_to_string(rt, path)?;
-    files.items.push((path, text))?;
-    Ok(())
-}
-
 /// Reads the files that rows name.
-pub fn read(rt: &HostRuntime) -> io::Result<RowTexts> {
-    let items = Vec::new(rt.alloc());
-    let mut files = RowTexts { items };
-    for path in PATHS {
-        push_file(rt, &mut files, path)?;
+pub fn read(rt: &HostRuntime) -> io::Result<Spdx> {
+    let texts = PATHS.iter().map(|path| fs::read_to_string(rt, path));
+    let texts: io::Result<Vec<String>> = texts.try_collect(rt.alloc());
+    match texts {
+        Ok(texts) => Ok(Spdx { texts }),
+        Err(error) => Err(error),
     }
-    Ok(files)
 }
 
-/// The licence that a text is by a group's texts, and how sure that is.
-pub fn put_found(
+/// The licence that a text is by a group's texts, and how sure that is. In the text that of a file stands for the file's name,
+/// which is in braces.
+pub fn put(room: &Spdx, asked: &Asked<'_>, out: &mut AnswerText) {
+    let (before, rest) = asked.text.split_once('{').unwrap_or((asked.text, ""));
+    let (name, behind) = rest.split_once('}').unwrap_or((rest, ""));
+    let there = room.text(name);
+    match &format!(in asked.alloc; "{before}{there}{behind}") {
+        Ok(text) => put_scanned(asked.alloc, out, store_of(room, asked), text.as_str()),
+        Err(_) => out.want_memory(),
+    }
+}
+
+/// What a text is by what tells licences.
+pub fn put_scanned<I: Identifier + Drop, E: Shown<Spdx> + Drop>(
     alloc: Global,
     out: &mut AnswerText,
-    files: &RowTexts,
-    group: &str,
+    by: Result<I, E>,
     text: &str,
-) -> Result<(), AllocError> {
-    let text = filled(alloc, files, text)?;
-    let store = store_of(alloc, files, group)?;
-    let found = store.scan(alloc, text.as_str())?;
-    match &found.name {
-        Some(name) => out.put(name.as_str()),
-        None => out.put("none"),
+) {
+    match &by {
+        Ok(by) => out.made::<Spdx, _, _>(by.scan(alloc, text)),
+        Err(error) => error.put(out),
     }
-    let score = found.score;
-    write!(out, " {score}");
-    Ok(())
 }
 
-/// A text with that of a file in place of the file's name, which is in braces.
-fn filled(alloc: Global, files: &RowTexts, text: &str) -> Result<String, AllocError> {
-    let (before, rest) = text.split_once('{').unwrap_or((text, ""));
-    let (name, behind) = rest.split_once('}').unwrap_or((rest, ""));
-    let there = files.text(name);
-    format!(in alloc; "{before}{there}{behind}")
+impl Shown<Spdx> for Match {
+    fn put(&self, out: &mut AnswerText) {
+        match &self.name {
+            Some(name) => out.put(name.as_str()),
+            None => out.put("none"),
+        }
+        write!(out, " {}", self.score);
+    }
 }
 
-fn store_of(alloc: Global, files: &RowTexts, group: &str) -> Result<LicenseStore, AllocError> {
-    match group {
+fn store_of(room: &Spdx, asked: &Asked<'_>) -> Result<LicenseStore, AllocError> {
+    let alloc = asked.alloc;
+    match asked.group {
         "built-in texts" => LicenseStore::from_cache(alloc),
         "no texts" => Ok(LicenseStore::default(alloc)),
-        _ => LicenseStore::new(alloc, listed(alloc, files.text("stored.txt"))?),
+        _ => {
+            let lines = room.text("stored.txt").lines();
+            let texts: Result<Vec<StoreText>, AllocError> = lines
+                .map(|line| stored(alloc, line))
+                .try_collect(alloc);
+            match texts {
+                Ok(texts) => LicenseStore::new(alloc, StoreTexts::from(texts)),
+                Err(error) => Err(error),
+            }
+        }
     }
 }
 
-/// The texts of a list, each in a line behind its name.
-fn listed(alloc: Global, list: &str) -> Result<StoreTexts, AllocError> {
-    let mut texts = StoreTexts::new(alloc);
-    for line in list.lines() {
-        let (name, body) = line.split_once(": ").unwrap_or((line, ""));
-        push_text(alloc, &mut texts, name, body)?;
+/// A text that is behind its name.
+fn stored(alloc: Global, line: &str) -> Result<StoreText, AllocError> {
+    let (name, body) = line.split_once(": ").unwrap_or((line, ""));
+    match Text::copy(alloc, name)
+        .ok()
+        .zip(Text::copy(alloc, body).ok())
+    {
+        Some((name, body)) => Ok(StoreText { name, body }),
+        None => Err(AllocError),
     }
-    Ok(texts)
-}
-
-fn push_text(
-    alloc: Global,
-    texts: &mut StoreTexts,
-    name: &str,
-    body: &str,
-) -> Result<(), AllocError> {
-    let name = Text::copy(alloc, name)?;
-    let body = Text::copy(alloc, body)?;
-    texts.push(StoreText { name, body })
 }

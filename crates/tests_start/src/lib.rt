@@ -5,13 +5,12 @@ mod named_tree;
 mod process;
 mod start;
 
-use start::{NamedRows, StartCases};
-use tests_files::{compare_cases, compare_rows};
+use start::Starts;
+use tests_files::compare_all;
+
+const FILES: [&str; 3] = ["start/starts.txt", "start/helps.txt", "start/named.txt"];
 
 /// Compares the rows and cases of the room, and returns whether nothing differs.
 pub fn compare(rt: &HostRuntime) -> bool {
-    let starts = compare_cases(rt, "start/starts.txt", &StartCases);
-    let helps = compare_cases(rt, "start/helps.txt", &StartCases);
-    let named = compare_rows(rt, "start/named.txt", &NamedRows);
-    starts & helps & named
+    compare_all(rt, &FILES, &Starts)
 }

@@ -2,7 +2,7 @@
 use std::env::{Env, FillError};
 use std::io;
 use std::io::ErrorKind;
-use tests_files::CaseEntry;
+use tests_files::{Case, CaseEntry};
 use tests_text::system::{fill, kind_named};
 
 /// The words of some entries by the key `word`, and a folder, or the name of the error that it is reported
@@ -13,10 +13,23 @@ pub struct Process<'c> {
     pub folder: &'c str,
 }
 
+/// The process of a case; its words are those of the base, where it has none of its own.
+pub fn process_of<'c>(case: &Case<'c>) -> Process<'c> {
+    let entries = if case.has_own("word") {
+        case.own
+    } else {
+        case.base
+    };
+    Process {
+        entries,
+        folder: case.word("folder"),
+    }
+}
+
 /// The bytes of a word: the text below it, or else what is behind its key.
 fn bytes_of(entry: &CaseEntry) -> &[u8] {
     if entry.text.is_empty() {
-        entry.word.as_bytes()
+        entry.word().as_bytes()
     } else {
         &entry.text
     }
@@ -26,7 +39,7 @@ fn bytes_of(entry: &CaseEntry) -> &[u8] {
 fn word_at(entries: &[CaseEntry], place: usize) -> Option<&[u8]> {
     let mut before: usize = 0;
     for entry in entries {
-        if entry.key.as_str() == "word" {
+        if entry.key() == "word" {
             if before == place {
                 return Some(bytes_of(entry));
             }

@@ -1,69 +1,29 @@
 //! How a process ends, what it writes, and the paths that its words name.
 use crate::named_tree::NamedTree;
-use crate::process::Process;
+use crate::process::{Process, process_of};
 use deny_gate::{StartError, exit_code, gate_over, named_paths};
 use deny_run::{CrateReport, Outcome, RunEnd, Verdict};
 use deny_text::PathBuf;
 use std::alloc::{AllocError, Global};
 use std::process::ExitCode;
-use tests_files::cases::is_among;
 use tests_files::tree::{number, tree_of};
-use tests_files::{AnswerText, Case, CaseEntry, Cases, KeyAnswer, Rows};
+use tests_files::{AnswerText, Asked, Case, Comparison, Room, Shown, Told};
 use tree_core::{MemSink, MemTree};
 
-fn told_verdict(verdict: &Verdict) -> &'static str {
-    match verdict {
-        Verdict::Accepted { .. } => "Accepted",
-        Verdict::Rejected { .. } => "Rejected",
-        Verdict::Skipped | Verdict::Unlicensed => "neither",
-    }
-}
+/// Cases of processes, and rows of paths that words name.
+pub struct Starts;
 
-fn expression_of(checked: &CrateReport) -> &str {
-    match &checked.expression {
-        Some(expression) => expression.as_ref(),
-        None => "none",
-    }
-}
+// ---- processes
 
-/// Puts the expression of each crate, and the verdict on it.
-fn put_crates(out: &mut AnswerText, crates: &[CrateReport]) {
-    for checked in crates {
-        let id = checked.id.as_str();
-        let expression = expression_of(checked);
-        let verdict = told_verdict(&checked.verdict);
-        write!(out, "{id}: {expression} {verdict}");
-    }
-}
-
-/// Puts how the gate over a process ended.
-fn put_ended(out: &mut AnswerText, ended_at: &Result<Outcome, StartError>) {
-    match ended_at {
-        Ok(outcome) => match &outcome.ended {
-            RunEnd::Checked(report) => put_crates(out, report.crates.items()),
-            RunEnd::Listed(_) => out.put("listed"),
-            RunEnd::Sampled(_) => out.put("sampled"),
-            RunEnd::Recorded(_) => out.put("recorded"),
-            RunEnd::Verified(_) => out.put("verified"),
-            RunEnd::Billed(_) => out.put("billed"),
-            RunEnd::Noticed(_) => out.put("noticed"),
-            RunEnd::Told(_) => out.put("told"),
-            RunEnd::Shown => out.put("shown"),
-            RunEnd::Usage => out.put("usage"),
-            RunEnd::Refused(_) => out.put("refused"),
-        },
-        Err(error) => write!(out, "{error:?}"),
-    }
-}
-
-/// Puts the status that a process ends with.
-fn put_status(out: &mut AnswerText, ended_at: &Result<Outcome, StartError>) {
-    let code = exit_code(ended_at);
-    for status in 0..=8u8 {
-        if code == ExitCode::from(status) {
-            write!(out, "{status}");
-        }
-    }
+/// What a process came to: how it ended, what it wrote, and the paths that its tree was given.
+#[derive(Drop)]
+struct ProcessEnd {
+    /// Whether the call of the tree could be let fail that the case names.
+    is_set: bool,
+    ended_at: Result<Outcome, StartError>,
+    named: Vec<PathBuf>,
+    out: MemSink,
+    err: MemSink,
 }
 
 /// The gate over a process, of which nothing is said: whoever calls this owes nothing of the gate's contract.
@@ -77,17 +37,6 @@ fn run_over(
     gate_over(&(process, alloc), tree, out, err)
 }
 
-/// What a process came to: how it ended, what it wrote, and the paths that its tree was given.
-#[derive(Drop)]
-struct ProcessEnd {
-    /// Whether the call of the tree could be let fail that the case names.
-    is_set: bool,
-    ended_at: Result<Outcome, StartError>,
-    named: Vec<PathBuf>,
-    out: MemSink,
-    err: MemSink,
-}
-
 /// Lets the call of a tree fail whose number is this word, counted from 1; without a word none. Returns whether that could be
 /// done.
 fn let_fail(tree: &mut MemTree, word: &str) -> bool {
@@ -97,6 +46,7 @@ fn let_fail(tree: &mut MemTree, word: &str) -> bool {
     }
 }
 
+/// How the process of a case ends over a tree.
 fn end_with(
     alloc: Global,
     case: &Case<'_>,
@@ -118,59 +68,40 @@ fn end_with(
     }
 }
 
-/// Whether some entries have words.
-fn has_words(entries: &[CaseEntry]) -> bool {
-    let mut has_words = false;
-    for entry in entries {
-        has_words = has_words | (entry.key.as_str() == "word");
-    }
-    has_words
-}
-
-/// The process of a case; its words are those of the base, where it has none of its own.
-fn process_of<'c>(case: &Case<'c>) -> Process<'c> {
-    let entries = if has_words(case.own) {
-        case.own
-    } else {
-        case.base
-    };
-    Process {
-        entries,
-        folder: case.word("folder"),
-    }
-}
-
 /// How the process of a case ends over its tree, with so many bytes of room on standard error; none where that can't be put.
 fn end_in(alloc: Global, case: &Case<'_>, room: usize) -> Option<ProcessEnd> {
-    let Ok(out) = MemSink::new(alloc, 1000, 1000) else {
-        return None;
-    };
-    let Ok(err) = MemSink::new(alloc, room, 1000) else {
-        return None;
-    };
-    match tree_of(alloc, case) {
-        Ok(tree) => Some(end_with(alloc, case, tree, out, err)),
-        Err(_) => None,
+    let (out, err) = (
+        MemSink::new(alloc, 1000, 1000),
+        MemSink::new(alloc, room, 1000),
+    );
+    match out.ok().zip(err.ok()).zip(tree_of(alloc, case).ok()) {
+        Some(((out, err), tree)) => Some(end_with(alloc, case, tree, out, err)),
+        None => None,
     }
 }
 
-/// Whether a process wrote this to standard error.
-fn has_written(end_at: &Option<ProcessEnd>, front: &[u8]) -> bool {
-    match end_at {
-        Some(end) => end.err.written() == front,
-        None => false,
+/// What was written.
+fn written(sink: &MemSink) -> &str {
+    str::from_utf8(sink.written()).unwrap_or("no UTF-8")
+}
+
+/// A process is shown by what it wrote to standard error.
+impl Shown<Starts> for ProcessEnd {
+    fn put(&self, out: &mut AnswerText) {
+        out.put(written(&self.err));
     }
 }
 
 /// Whether the process of a case writes the front of a text to standard error, as much as there is room for.
-fn writes_front(alloc: Global, case: &Case<'_>, room: usize, whole: &[u8]) -> bool {
-    let front = whole.get(..room).unwrap_or(whole);
-    let end_at = end_in(alloc, case, room);
-    has_written(&end_at, front)
+fn writes_front(alloc: Global, case: &Case<'_>, room: usize, whole: &str) -> bool {
+    let mut seen = AnswerText::new(alloc);
+    seen.tried::<Starts, _>(end_in(alloc, case, room));
+    let is_shown = seen.is_whole() & seen.is_tried();
+    is_shown && whole.get(..room) == Some(seen.text())
 }
 
 /// In how many of the rooms below a text's length the process of a case writes its front to standard error.
-fn fronts(alloc: Global, case: &Case<'_>, whole: &[u8]) -> u64 {
+fn fronts(alloc: Global, case: &Case<'_>, whole: &str) -> u64 {
     let mut fronts: u64 = 0;
     for room in 0..whole.len() {
         if writes_front(alloc, case, room, whole) {
@@ -180,71 +111,83 @@ fn fronts(alloc: Global, case: &Case<'_>, whole: &[u8]) -> u64 {
     fronts
 }
 
-/// What was written.
-fn written(sink: &MemSink) -> &str {
-    str::from_utf8(sink.written()).unwrap_or("no UTF-8")
-}
-
-/// The first line of what was written.
-fn first_line(sink: &MemSink) -> &str {
-    written(sink).lines().next().unwrap_or("")
-}
-
-/// Puts paths, each in brackets.
-fn put_paths(out: &mut AnswerText, paths: &[PathBuf]) {
-    for path in paths {
-        write!(out, "[{}]", path.as_path());
+fn told_verdict(verdict: &Verdict) -> &'static str {
+    match verdict {
+        Verdict::Accepted { .. } => "Accepted",
+        Verdict::Rejected { .. } => "Rejected",
+        Verdict::Skipped | Verdict::Unlicensed => "neither",
     }
 }
 
-/// Puts what a key names of the end of the process of a case.
-fn put_end(
-    alloc: Global,
-    case: &Case<'_>,
-    key: &str,
-    end: &ProcessEnd,
-    out: &mut AnswerText,
-) -> KeyAnswer {
-    match key {
-        "ended" => put_ended(out, &end.ended_at),
-        "status" => put_status(out, &end.ended_at),
-        "named" => put_paths(out, &end.named),
-        "out" => out.put(written(&end.out)),
-        "err" => out.put(written(&end.err)),
-        "err-line" => out.put(first_line(&end.err)),
-        "rooms" => write!(out, "{}", fronts(alloc, case, end.err.written())),
-        _ => return KeyAnswer::NoSuchKey,
-    }
-    KeyAnswer::Yes
-}
-
-/// The same, where the process could be tried.
-fn put_end_at(
-    alloc: Global,
-    case: &Case<'_>,
-    key: &str,
-    end_at: &Option<ProcessEnd>,
-    out: &mut AnswerText,
-) -> KeyAnswer {
-    match end_at {
-        Some(end) if end.is_set => put_end(alloc, case, key, end, out),
-        _ => KeyAnswer::CantBeTried,
+/// Puts the expression of a crate, and the verdict on it.
+impl Shown<Starts> for CrateReport {
+    fn put(&self, out: &mut AnswerText) {
+        let expression = match &self.expression {
+            Some(expression) => expression.as_ref(),
+            None => "none",
+        };
+        let verdict = told_verdict(&self.verdict);
+        write!(out, "{}: {expression} {verdict}", self.id);
     }
 }
 
-/// Cases of processes.
-pub struct StartCases;
-
-impl Cases for StartCases {
-    fn is_given(&self, key: &str) -> bool {
-        is_among(key, &["file", "folder", "word", "fail"])
-    }
-
-    fn told(&self, alloc: Global, case: &Case<'_>, key: &str, out: &mut AnswerText) -> KeyAnswer {
-        let end_at = end_in(alloc, case, 1000);
-        put_end_at(alloc, case, key, &end_at, out)
+/// Puts how a run ended.
+fn put_ended(out: &mut AnswerText, ended: &RunEnd) {
+    match ended {
+        RunEnd::Checked(report) => out.each::<Starts, _>("", report.crates.items()),
+        RunEnd::Listed(_) => out.put("listed"),
+        RunEnd::Sampled(_) => out.put("sampled"),
+        RunEnd::Recorded(_) => out.put("recorded"),
+        RunEnd::Verified(_) => out.put("verified"),
+        RunEnd::Billed(_) => out.put("billed"),
+        RunEnd::Noticed(_) => out.put("noticed"),
+        RunEnd::Told(_) => out.put("told"),
+        RunEnd::Shown => out.put("shown"),
+        RunEnd::Usage => out.put("usage"),
+        RunEnd::Refused(_) => out.put("refused"),
     }
 }
+
+impl ProcessEnd {
+    /// Puts how the gate over the process ended.
+    fn put_ended(&self, out: &mut AnswerText) {
+        match &self.ended_at {
+            Ok(outcome) => put_ended(out, &outcome.ended),
+            Err(error) => write!(out, "{error:?}"),
+        }
+    }
+
+    /// Puts the status that the process ends with.
+    fn put_status(&self, out: &mut AnswerText) {
+        let code = exit_code(&self.ended_at);
+        for status in 0..=8u8 {
+            if code == ExitCode::from(status) {
+                write!(out, "{status}");
+            }
+        }
+    }
+}
+
+impl Room for ProcessEnd {
+    fn answer(&self, asked: &Asked<'_>, out: &mut AnswerText) -> Told {
+        let err = written(&self.err);
+        match asked.group {
+            "file" | "folder" | "word" | "fail" => return Told::Given,
+            _ if !self.is_set => out.cant_be_tried(),
+            "ended" => self.put_ended(out),
+            "status" => self.put_status(out),
+            "named" => out.each::<Starts, _>("", &self.named),
+            "out" => out.put(written(&self.out)),
+            "err" => out.put(err),
+            "err-line" => out.put(err.lines().next().unwrap_or("")),
+            "rooms" => write!(out, "{}", fronts(asked.alloc, &asked.case, err)),
+            _ => return Told::NoSuchGroup,
+        }
+        Told::Answer
+    }
+}
+
+// ---- paths that words name
 
 /// The words of a text, with blanks between.
 fn words_of(alloc: Global, text: &str) -> Result<Vec<String>, AllocError> {
@@ -262,15 +205,30 @@ fn named(alloc: Global, text: &str) -> Result<Vec<PathBuf>, AllocError> {
     named_paths(alloc, &words, "/w")
 }
 
-/// Rows of paths that words name.
-pub struct NamedRows;
+/// Puts a path in brackets.
+impl Shown<Starts> for PathBuf {
+    fn put(&self, out: &mut AnswerText) {
+        write!(out, "[{self}]");
+    }
+}
 
-impl Rows for NamedRows {
-    fn answer(&self, alloc: Global, group: &str, text: &str, out: &mut AnswerText) -> bool {
-        match &named(alloc, text) {
-            Ok(paths) => put_paths(out, paths),
-            Err(_) => out.want_memory(),
+impl Shown<Starts> for Vec<PathBuf> {
+    fn put(&self, out: &mut AnswerText) {
+        out.each::<Starts, _>("", self);
+    }
+}
+
+impl Room for Starts {
+    fn answer(&self, asked: &Asked<'_>, out: &mut AnswerText) -> Told {
+        match asked.group {
+            "paths that words name" => out.made::<Starts, _, _>(named(asked.alloc, asked.text)),
+            _ => return Told::NoSuchGroup,
         }
-        group == "paths that words name"
+        Told::Answer
+    }
+
+    fn compare_runs(&self, compared: &mut Comparison<'_>, case: &Case<'_>) -> bool {
+        compared.compare_ran(end_in(compared.alloc, case, 1000), case);
+        true
     }
 }

@@ -3,13 +3,8 @@
 //! escapes.
 use std::alloc::{AllocError, Global};
 use std::fmt::Display;
-use tests_files::cases::wanted;
-use tests_files::escapes::unescaped;
-use tests_files::told::UnreadLine;
-use tests_files::{AnswerText, Case};
-
-/// Whether there was memory for something.
-pub type MemoryResult = Result<(), AllocError>;
+use tests_files::AnswerText;
+use tests_files::escapes::put_unescaped;
 
 /// A call: a word, and one or two more behind it.
 #[derive(Clone, Copy)]
@@ -22,12 +17,7 @@ pub struct CallWords<'l> {
 /// What calls are made to.
 pub trait Called {
     /// Puts an arrow and what a call answers, or nothing where nothing is to be reported.
-    fn put_answer(
-        &mut self,
-        out: &mut AnswerText,
-        alloc: Global,
-        call: CallWords<'_>,
-    ) -> MemoryResult;
+    fn put_answer(&mut self, out: &mut AnswerText, alloc: Global, call: CallWords<'_>);
 }
 
 /// A word, of which `''` has no letter.
@@ -47,41 +37,32 @@ pub fn number_in(text: &str) -> usize {
     text.parse::<usize>().unwrap_or(0)
 }
 
-fn put_call<C: Called>(
-    out: &mut AnswerText,
-    alloc: Global,
-    line: &str,
-    called: &mut C,
-) -> MemoryResult {
+fn put_call<C: Called>(out: &mut AnswerText, alloc: Global, line: &str, called: &mut C) {
     let (verb, rest) = line.split_once(' ').unwrap_or((line, ""));
     let (path, text) = rest.split_once(' ').unwrap_or((rest, ""));
     let text = letters_of(text);
-    match &unescaped(alloc, letters_of(path)) {
-        Ok(path) => {
-            let path = path.as_str();
-            called.put_answer(out, alloc, CallWords { verb, path, text })
+    let mut read = AnswerText::new(alloc);
+    match put_unescaped(alloc, &mut read, letters_of(path)) {
+        Ok(()) if read.is_whole() => {
+            let path = read.text();
+            called.put_answer(out, alloc, CallWords { verb, path, text });
         }
-        Err(UnreadLine::Line(what)) => Ok(write!(out, " => {what}")),
-        Err(UnreadLine::Memory) => Err(AllocError),
+        Ok(()) => out.want_memory(),
+        Err(why) => write!(out, " => {}", why.what()),
     }
 }
 
-/// Puts lines, each with what its call answers.
-pub fn put_answered<C: Called>(out: &mut AnswerText, alloc: Global, lines: &str, called: &mut C) {
+/// Puts lines, each with what its call answers, and lets go what was called.
+pub fn put_answered<C: Called + Drop>(
+    out: &mut AnswerText,
+    alloc: Global,
+    lines: &str,
+    mut called: C,
+) {
     for line in lines.lines() {
         let (line, _) = line.split_once(" => ").unwrap_or((line, ""));
         out.put(line);
-        if put_call(out, alloc, line, called).is_err() {
-            out.want_memory();
-        }
+        put_call(out, alloc, line, &mut called);
         out.put("\n");
-    }
-}
-
-/// The text below a key.
-pub fn lines_of<'c>(case: &Case<'c>, key: &str) -> &'c str {
-    match case.entry(key) {
-        Some(entry) => wanted(entry),
-        None => "",
     }
 }

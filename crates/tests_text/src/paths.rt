@@ -7,7 +7,7 @@ use deny_text::normal::normalize;
 use deny_text::path::{components, ends_with, file_name, is_absolute, join, parent};
 use deny_text::{HomeEnv, HomeError, PathBuf, Text};
 use std::alloc::{AllocError, Global};
-use tests_files::AnswerText;
+use tests_files::{AnswerText, Asked, Room, Told};
 
 /// What is before a bar and behind it, without blanks at their ends.
 pub fn pair_of(text: &str) -> (&str, &str) {
@@ -89,23 +89,28 @@ fn put_sample(out: &mut AnswerText, alloc: Global, length: usize) {
     }
 }
 
-/// Puts what a text comes to in a group, and returns whether there is such a group.
-pub fn put(out: &mut AnswerText, alloc: Global, group: &str, text: &str) -> bool {
-    let (one, other) = pair_of(text);
-    match group {
-        "join" => put_made(out, join(alloc, one, other)),
-        "parent" => put_option(out, parent(text)),
-        "file name" => put_option(out, file_name(text)),
-        "parts of a path" => put_parts(out, text),
-        "ends with" => write!(out, "{}", ends_with(one, other)),
-        "is absolute" => write!(out, "{}", is_absolute(text)),
-        "ancestors" => put_ancestors(out, text),
-        "normal form" => put_made(out, normalize(alloc, text)),
-        "hash of a text" => write!(out, "{:08x}", hash(text.as_bytes())),
-        "hash of a sample" => put_sample(out, alloc, number_in(text)),
-        "home" | "home of cargo" => put_home(out, alloc, group, text),
-        "home without memory" => write!(out, "{}", HomeError::Memory),
-        _ => return false,
+/// Rows of paths and texts.
+pub struct Paths;
+
+impl Room for Paths {
+    fn answer(&self, asked: &Asked<'_>, out: &mut AnswerText) -> Told {
+        let (alloc, text) = (asked.alloc, asked.text);
+        let (one, other) = pair_of(text);
+        match asked.group {
+            "join" => put_made(out, join(alloc, one, other)),
+            "parent" => put_option(out, parent(text)),
+            "file name" => put_option(out, file_name(text)),
+            "parts of a path" => put_parts(out, text),
+            "ends with" => write!(out, "{}", ends_with(one, other)),
+            "is absolute" => write!(out, "{}", is_absolute(text)),
+            "ancestors" => put_ancestors(out, text),
+            "normal form" => put_made(out, normalize(alloc, text)),
+            "hash of a text" => write!(out, "{:08x}", hash(text.as_bytes())),
+            "hash of a sample" => put_sample(out, alloc, number_in(text)),
+            "home" | "home of cargo" => put_home(out, alloc, asked.group, text),
+            "home without memory" => write!(out, "{}", HomeError::Memory),
+            _ => return Told::NoSuchGroup,
+        }
+        Told::Answer
     }
-    true
 }

@@ -1,12 +1,12 @@
 //! Trees of files, in memory and real, and sinks: what is put into them, and what their calls answer.
-use crate::calls::{CallWords, Called, MemoryResult, lines_of, number_in, put_answered};
+use crate::calls::{CallWords, Called, number_in, put_answered};
 use deny_text::Bytes;
 use deny_text::path::parent;
 use std::alloc::{AllocError, Global};
 use std::fs::{File, OpenFile};
 use std::rt::Files;
 use std::{fs, io};
-use tests_files::{AnswerText, Case, Cases, KeyAnswer};
+use tests_files::{AnswerText, Asked, Case, Room, Shown, Told};
 use tree_core::{
     Entry, FolderEntries, FolderTree, MemSink, MemTree, Sink, Tree, TreeError, write_all,
 };
@@ -40,79 +40,79 @@ fn are_many(entries: &[Entry]) -> bool {
     entries.len() == 300
 }
 
-/// Puts bytes as a text, or how many there are.
-fn put_text(out: &mut AnswerText, bytes: &[u8]) {
-    match str::from_utf8(bytes) {
-        Ok(text) => write!(out, "{text:?}"),
-        Err(_) => write!(out, "{} bytes", bytes.len()),
+/// Whether these are bytes as `counted` makes them.
+fn are_counted(bytes: &[u8]) -> bool {
+    for (place, byte) in bytes.iter().enumerate() {
+        if *byte != (place % 251) as u8 {
+            return false;
+        }
+    }
+    true
+}
+
+/// What the calls of trees answer.
+struct Answers;
+
+/// What is read: as a text, or how many bytes there are.
+impl Shown<Answers> for Bytes {
+    fn put(&self, out: &mut AnswerText) {
+        let bytes = self.items();
+        let length = bytes.len();
+        match str::from_utf8(bytes) {
+            _ if length > 100 && are_counted(bytes) => write!(out, "counted {length}"),
+            Ok(text) => write!(out, "{text:?}"),
+            Err(_) => write!(out, "{length} bytes"),
+        }
     }
 }
 
-fn put_bytes(out: &mut AnswerText, alloc: Global, bytes: &[u8]) {
-    let length = bytes.len();
-    if length <= 100 {
-        return put_text(out, bytes);
-    }
-    match &counted(alloc, length) {
-        Ok(counted) if bytes == counted.as_slice() => write!(out, "counted {length}"),
-        Ok(_) => put_text(out, bytes),
-        Err(_) => out.want_memory(),
+/// The name of an entry, of a folder with a slash behind it.
+impl Shown<Answers> for Entry {
+    fn put(&self, out: &mut AnswerText) {
+        let behind = if self.is_file { "" } else { "/" };
+        write!(out, "{}{behind}", self.name);
     }
 }
 
-/// Puts what a read answers: the bytes, or how many there are.
-fn put_read(
-    out: &mut AnswerText,
-    alloc: Global,
-    answer: Result<Bytes, TreeError>,
-    is_length: bool,
-) {
-    match &answer {
-        Ok(bytes) if is_length => write!(out, "{}", bytes.items().len()),
-        Ok(bytes) => put_bytes(out, alloc, bytes.items()),
+impl Shown<Answers> for FolderEntries {
+    fn put(&self, out: &mut AnswerText) {
+        if are_many(self.items()) {
+            return out.put("all 300");
+        }
+        out.put("[");
+        out.each::<Answers, _>(", ", self.items());
+        out.put("]");
+    }
+}
+
+impl Shown<Answers> for bool {
+    fn put(&self, out: &mut AnswerText) {
+        write!(out, "{self}");
+    }
+}
+
+impl Shown<Answers> for TreeError {
+    fn put(&self, out: &mut AnswerText) {
+        write!(out, "{self:?}");
+    }
+}
+
+/// Puts how many bytes are read.
+fn put_length(out: &mut AnswerText, read: Result<Bytes, TreeError>) {
+    match &read {
+        Ok(bytes) => write!(out, "{}", bytes.items().len()),
         Err(error) => write!(out, "{error:?}"),
     }
 }
 
-/// Puts the names of entries, each folder with a slash behind it.
-fn put_entries(out: &mut AnswerText, entries: &[Entry]) {
-    if are_many(entries) {
-        return out.put("all 300");
-    }
-    out.put("[");
-    let mut between = "";
-    for entry in entries {
-        out.put(between);
-        out.put(entry.name.as_str());
-        out.put(if entry.is_file { "" } else { "/" });
-        between = ", ";
-    }
-    out.put("]");
-}
-
-/// Puts what a listing answers.
-fn put_list(out: &mut AnswerText, answer: Result<FolderEntries, TreeError>) {
-    match &answer {
-        Ok(entries) => put_entries(out, entries.items()),
-        Err(error) => write!(out, "{error:?}"),
-    }
-}
-
-/// Puts what a look answers.
-fn put_whether(out: &mut AnswerText, whether: Result<bool, TreeError>) {
-    match whether {
-        Ok(is_so) => write!(out, "{is_so}"),
-        Err(error) => write!(out, "{error:?}"),
-    }
-}
-
+/// Puts what a call of any tree answers.
 pub fn put_one<T: Tree>(out: &mut AnswerText, alloc: Global, tree: &mut T, verb: &str, path: &str) {
     match verb {
-        "read" => put_read(out, alloc, tree.read(alloc, path), false),
-        "length" => put_read(out, alloc, tree.read(alloc, path), true),
-        "list" => put_list(out, tree.list(alloc, path)),
-        "is_file" => put_whether(out, tree.is_file(alloc, path)),
-        "exists" => put_whether(out, tree.exists(alloc, path)),
+        "read" => out.made::<Answers, _, _>(tree.read(alloc, path)),
+        "length" => put_length(out, tree.read(alloc, path)),
+        "list" => out.made::<Answers, _, _>(tree.list(alloc, path)),
+        "is_file" => out.made::<Answers, _, _>(tree.is_file(alloc, path)),
+        "exists" => out.made::<Answers, _, _>(tree.exists(alloc, path)),
         "faults" => write!(out, "{}", tree.faults()),
         _ => out.put("no such call"),
     }
@@ -136,93 +136,113 @@ fn put_asked<T: Tree>(out: &mut AnswerText, alloc: Global, tree: &mut T, call: C
     }
 }
 
+/// Where files are put: in memory, or in a real folder.
+trait Store {
+    /// Puts a file, and tells why it can't be.
+    fn put_file(&mut self, out: &mut AnswerText, path: &str, bytes: &[u8]);
+}
+
+impl Store for MemTree {
+    fn put_file(&mut self, out: &mut AnswerText, path: &str, bytes: &[u8]) {
+        if let Err(error) = self.put(path, bytes) {
+            write!(out, " => {error:?}");
+        }
+    }
+}
+
+/// The folder that the program runs in.
+#[derive(Drop)]
+struct Folder<'r> {
+    rt: &'r HostRuntime,
+    tree: FolderTree<HostRuntime>,
+}
+
 /// Writes a file, and makes the folder that it is in.
 fn write_file(rt: &HostRuntime, path: &str, bytes: &[u8]) -> io::Result<()> {
     fs::create_dir_all(rt, parent(path).unwrap_or("."))?;
     fs::write(rt, path, bytes)
 }
 
-/// Where files are: in memory, or in the folder that the program runs in.
-#[derive(Drop)]
-enum Store<'r> {
-    Memory(MemTree),
-    Folder(&'r HostRuntime, FolderTree<HostRuntime>),
-}
-
-impl<'r> Store<'r> {
-    /// Puts a file, and tells why it can't be.
-    fn put(&mut self, out: &mut AnswerText, path: &str, bytes: &[u8]) {
-        match self {
-            Store::Memory(tree) => match tree.put(path, bytes) {
-                Ok(()) => (),
-                Err(error) => write!(out, " => {error:?}"),
-            },
-            Store::Folder(rt, _) => match write_file(*rt, path, bytes) {
-                Ok(()) => (),
-                Err(error) => write!(out, " => {error}"),
-            },
+impl Store for Folder<'_> {
+    fn put_file(&mut self, out: &mut AnswerText, path: &str, bytes: &[u8]) {
+        if let Err(error) = write_file(self.rt, path, bytes) {
+            write!(out, " => {error}");
         }
-    }
-
-    /// Makes or removes something real, and returns whether the call does so.
-    fn is_made(&self, call: CallWords<'_>) -> io::Result<bool> {
-        let Store::Folder(rt, _) = self else {
-            return Ok(false);
-        };
-        match call.verb {
-            "make" => fs::create_dir_all(*rt, call.path)?,
-            "link" => rt.symlink(call.text, call.path)?,
-            "set_length" => File::create(*rt, call.path)?.set_len(number_in(call.text) as u64)?,
-            "remove" => fs::remove_dir_all(*rt, call.path)?,
-            _ => return Ok(false),
-        }
-        Ok(true)
-    }
-
-    /// Puts the files of the folder with 300 entries, in another order than that of their names.
-    fn put_many(&mut self, out: &mut AnswerText, alloc: Global) -> MemoryResult {
-        for step in 0..300 {
-            let path = path_among_many(alloc, step * 7 % 300)?;
-            self.put(out, path.as_str(), b"many");
-        }
-        Ok(())
-    }
-
-    fn ask(&mut self, out: &mut AnswerText, alloc: Global, call: CallWords<'_>) -> MemoryResult {
-        match self {
-            Store::Memory(tree) if call.verb == "fail" => {
-                return tree.fail_call((number_in(call.path) as u64).max(1));
-            }
-            Store::Memory(tree) => put_asked(out, alloc, tree, call),
-            Store::Folder(_, tree) => put_asked(out, alloc, tree, call),
-        }
-        Ok(())
     }
 }
 
-impl<'r> Called for Store<'r> {
-    fn put_answer(
-        &mut self,
-        out: &mut AnswerText,
-        alloc: Global,
-        call: CallWords<'_>,
-    ) -> MemoryResult {
-        match call.verb {
-            "put" => self.put(out, call.path, call.text.as_bytes()),
-            "counted" => self.put(out, call.path, &counted(alloc, number_in(call.text))?),
-            "many" => self.put_many(out, alloc)?,
-            _ => match self.is_made(call) {
-                Ok(true) => (),
-                Ok(false) => self.ask(out, alloc, call)?,
-                Err(error) => write!(out, " => {error}"),
-            },
+/// Puts the files of the folder with 300 entries, in another order than that of their names.
+fn put_many<S: Store>(out: &mut AnswerText, alloc: Global, store: &mut S) {
+    for step in 0..300 {
+        match &path_among_many(alloc, step * 7 % 300) {
+            Ok(path) => store.put_file(out, path.as_str(), b"many"),
+            Err(_) => out.want_memory(),
         }
-        Ok(())
+    }
+}
+
+/// Puts the files that a call names, and returns whether it does so.
+fn is_put<S: Store>(
+    out: &mut AnswerText,
+    alloc: Global,
+    store: &mut S,
+    call: CallWords<'_>,
+) -> bool {
+    match call.verb {
+        "put" => store.put_file(out, call.path, call.text.as_bytes()),
+        "counted" => match &counted(alloc, number_in(call.text)) {
+            Ok(bytes) => store.put_file(out, call.path, bytes),
+            Err(_) => out.want_memory(),
+        },
+        "many" => put_many(out, alloc, store),
+        _ => return false,
+    }
+    true
+}
+
+impl Called for MemTree {
+    fn put_answer(&mut self, out: &mut AnswerText, alloc: Global, call: CallWords<'_>) {
+        if is_put(out, alloc, self, call) {
+            return;
+        }
+        if call.verb != "fail" {
+            put_asked(out, alloc, self, call);
+        } else if self
+            .fail_call((number_in(call.path) as u64).max(1))
+            .is_err()
+        {
+            out.want_memory();
+        }
+    }
+}
+
+/// Makes or removes something real, and returns whether the call does so.
+fn is_made(rt: &HostRuntime, call: CallWords<'_>) -> io::Result<bool> {
+    match call.verb {
+        "make" => fs::create_dir_all(rt, call.path)?,
+        "link" => rt.symlink(call.text, call.path)?,
+        "set_length" => File::create(rt, call.path)?.set_len(number_in(call.text) as u64)?,
+        "remove" => fs::remove_dir_all(rt, call.path)?,
+        _ => return Ok(false),
+    }
+    Ok(true)
+}
+
+impl Called for Folder<'_> {
+    fn put_answer(&mut self, out: &mut AnswerText, alloc: Global, call: CallWords<'_>) {
+        if is_put(out, alloc, self, call) {
+            return;
+        }
+        match is_made(self.rt, call) {
+            Ok(true) => {}
+            Ok(false) => put_asked(out, alloc, &mut self.tree, call),
+            Err(error) => write!(out, " => {error}"),
+        }
     }
 }
 
 impl Called for MemSink {
-    fn put_answer(&mut self, out: &mut AnswerText, _: Global, call: CallWords<'_>) -> MemoryResult {
+    fn put_answer(&mut self, out: &mut AnswerText, _: Global, call: CallWords<'_>) {
         let bytes = call.path.as_bytes();
         match call.verb {
             "write" => write!(out, " => {:?}", self.write(bytes)),
@@ -231,7 +251,6 @@ impl Called for MemSink {
         }
         let held = str::from_utf8(self.written()).unwrap_or("no UTF-8");
         write!(out, " {held:?} {}", self.faults());
-        Ok(())
     }
 }
 
@@ -247,25 +266,23 @@ pub struct Trees<'r> {
     pub rt: &'r HostRuntime,
 }
 
-impl<'r> Cases for Trees<'r> {
-    fn is_given(&self, key: &str) -> bool {
-        key == "sink"
-    }
-
-    fn told(&self, alloc: Global, case: &Case<'_>, key: &str, out: &mut AnswerText) -> KeyAnswer {
-        let lines = lines_of(case, key);
-        match key {
-            "memory" => put_answered(out, alloc, lines, &mut Store::Memory(MemTree::new(alloc))),
+impl Room for Trees<'_> {
+    fn answer(&self, asked: &Asked<'_>, out: &mut AnswerText) -> Told {
+        let (alloc, rt) = (asked.alloc, self.rt);
+        let lines = asked.case.given(asked.group);
+        match asked.group {
+            "memory" => put_answered(out, alloc, lines, MemTree::new(alloc)),
             "folder" => {
-                let tree = FolderTree::new(*self.rt);
-                put_answered(out, alloc, lines, &mut Store::Folder(self.rt, tree));
+                let tree = FolderTree::new(*rt);
+                put_answered(out, alloc, lines, Folder { rt, tree });
             }
-            "writes" => match sink_of(alloc, case) {
-                Ok(mut sink) => put_answered(out, alloc, lines, &mut sink),
+            "writes" => match sink_of(alloc, &asked.case) {
+                Ok(sink) => put_answered(out, alloc, lines, sink),
                 Err(_) => out.want_memory(),
             },
-            _ => return KeyAnswer::NoSuchKey,
+            "sink" => return Told::Given,
+            _ => return Told::NoSuchGroup,
         }
-        KeyAnswer::Yes
+        Told::Answer
     }
 }

@@ -1,5 +1,6 @@
 //! The words of a command line, what they are answered with, and the names that options list.
-use crate::calls::{MemoryResult, letters_of};
+use crate::calls::letters_of;
+use clap::Command;
 use deny_text::{PathBuf, Texts};
 use diag_core::LevelFilter;
 use diag_print::{Color, Format};
@@ -10,7 +11,10 @@ use run_request::{
     Subcommand, WhichCheck, check, list,
 };
 use std::alloc::{AllocError, Global};
-use tests_files::AnswerText;
+use tests_files::{AnswerText, Asked, Room, Shown, Told};
+
+/// The program's name.
+const NAME: &str = "cargo-deny";
 
 /// The words of a text, which are with a blank between, behind the program's name.
 fn words_of(alloc: Global, name: &str, text: &str) -> Result<Vec<String>, AllocError> {
@@ -31,20 +35,26 @@ fn given(alloc: Global, name: &str, text: &str) -> Result<CliAnswer, AllocError>
     read(alloc, &words, "/w")
 }
 
-/// Puts what words are answered with, or the text of it.
-fn put_answer(out: &mut AnswerText, given: &Result<CliAnswer, AllocError>, is_text: bool) {
-    match given {
-        Ok(CliAnswer::Asked(request)) => put_request(out, request),
-        Ok(CliAnswer::Shown(text) | CliAnswer::Usage(text)) if is_text => out.put(text.as_str()),
-        Ok(CliAnswer::Shown(text)) if text.as_str() == "cargo-deny 0.20.2\n" => out.put("version"),
-        Ok(CliAnswer::Shown(_)) => out.put("help"),
-        Ok(CliAnswer::Usage(_)) => out.put("usage"),
-        Err(_) => out.want_memory(),
+/// Puts what words are answered with.
+impl Shown<Words> for CliAnswer {
+    fn put(&self, out: &mut AnswerText) {
+        match self {
+            CliAnswer::Asked(request) => put_request(out, request),
+            CliAnswer::Shown(text) if text.as_str() == "cargo-deny 0.20.2\n" => out.put("version"),
+            CliAnswer::Shown(_) => out.put("help"),
+            CliAnswer::Usage(_) => out.put("usage"),
+        }
     }
 }
 
-fn put_given(out: &mut AnswerText, alloc: Global, name: &str, text: &str, is_text: bool) {
-    put_answer(out, &given(alloc, name, text), is_text);
+/// Puts the text that words are answered with.
+impl Shown<Help> for CliAnswer {
+    fn put(&self, out: &mut AnswerText) {
+        match self {
+            CliAnswer::Asked(_) => out.put("asked"),
+            CliAnswer::Shown(text) | CliAnswer::Usage(text) => out.put(text.as_str()),
+        }
+    }
 }
 
 fn put_path(out: &mut AnswerText, name: &str, path: &Option<PathBuf>) {
@@ -117,17 +127,14 @@ fn put_request(out: &mut AnswerText, request: &Request) {
         Subcommand::Check(args) => put_check(out, args),
         Subcommand::List(args) => {
             out.put(" list ");
-            put_list_args(out, args);
+            args.put(out);
         }
         Subcommand::Sample(size) => write!(out, " sample {size}"),
         Subcommand::Record => out.put(" record"),
         Subcommand::Verify(path) => write!(out, " verify {path}"),
         Subcommand::Bill(args) => {
-            write!(
-                out,
-                " bill {} {} {}",
-                args.name, args.namespace, args.created
-            );
+            let (name, space) = (&args.name, &args.namespace);
+            write!(out, " bill {name} {space} {}", args.created);
             put_path(out, "against", &args.against);
         }
         Subcommand::Notice => out.put(" notice"),
@@ -138,29 +145,35 @@ fn put_request(out: &mut AnswerText, request: &Request) {
     }
 }
 
-fn put_list_args(out: &mut AnswerText, args: &list::ListArgs) {
-    write!(
-        out,
-        "{} {:?} {:?}",
-        args.threshold, args.format, args.layout
-    );
-}
-
-fn put_list(out: &mut AnswerText, parsed: &Result<list::ListArgs, ArgsError>) {
-    match parsed {
-        Ok(args) => put_list_args(out, args),
-        Err(ArgsError::BadValue { option, value }) => write!(out, "{option}: {value}"),
-        Err(_) => out.put("refused"),
+impl Shown<Words> for list::ListArgs {
+    fn put(&self, out: &mut AnswerText) {
+        let (format, layout) = (self.format, self.layout);
+        write!(out, "{} {format:?} {layout:?}", self.threshold);
     }
 }
 
-fn put_listing(out: &mut AnswerText, alloc: Global, text: &str) -> MemoryResult {
-    let words = words_of(alloc, "cargo-deny", text)?;
-    match list::ListArgs::cmd(alloc)?.try_get_matches_from(&words) {
-        Ok(matches) => put_list(out, &list::ListArgs::parse(alloc, &matches)),
+impl Shown<Words> for ArgsError {
+    fn put(&self, out: &mut AnswerText) {
+        match self {
+            ArgsError::BadValue { option, value } => write!(out, "{option}: {value}"),
+            _ => out.put("refused"),
+        }
+    }
+}
+
+fn put_listing<'w>(out: &mut AnswerText, alloc: Global, words: &'w [String], command: Command<'w>) {
+    match &command.try_get_matches_from(words) {
+        Ok(matches) => out.made::<Words, _, _>(list::ListArgs::parse(alloc, matches)),
         Err(_) => out.put("not taken"),
     }
-    Ok(())
+}
+
+/// Puts what words behind `list` ask for.
+fn put_list(out: &mut AnswerText, alloc: Global, text: &str) {
+    match (words_of(alloc, NAME, text), list::ListArgs::cmd(alloc)) {
+        (Ok(words), Ok(command)) => put_listing(out, alloc, &words, command),
+        _ => out.want_memory(),
+    }
 }
 
 /// Puts how many names an option lists, and how many of them are read as a value.
@@ -197,19 +210,34 @@ fn put_option(out: &mut AnswerText, option: &str) {
     }
 }
 
-/// Puts what a text comes to in a group, and returns whether there is such a group.
-pub fn put(out: &mut AnswerText, alloc: Global, group: &str, text: &str) -> bool {
-    match group {
-        "words" => put_given(out, alloc, "cargo-deny", text, false),
-        "words without the program's name" => put_given(out, alloc, "", text, false),
-        "words behind list" => {
-            if put_listing(out, alloc, text).is_err() {
-                out.want_memory();
-            }
+/// Rows of words, and of the names of options.
+pub struct Words;
+
+impl Room for Words {
+    fn answer(&self, asked: &Asked<'_>, out: &mut AnswerText) -> Told {
+        let (alloc, text) = (asked.alloc, asked.text);
+        match asked.group {
+            "words" => out.made::<Words, _, _>(given(alloc, NAME, text)),
+            "words without the program's name" => out.made::<Words, _, _>(given(alloc, "", text)),
+            "words behind list" => put_list(out, alloc, text),
+            "names of an option that are read" => put_option(out, text),
+            _ => return Told::NoSuchGroup,
         }
-        "names of an option that are read" => put_option(out, text),
-        "text" => put_given(out, alloc, "cargo-deny", text, true),
-        _ => return false,
+        Told::Answer
     }
-    true
+}
+
+/// Cases of the texts that words are answered with.
+pub struct Help;
+
+impl Room for Help {
+    fn answer(&self, asked: &Asked<'_>, out: &mut AnswerText) -> Told {
+        let words = asked.case.word("words");
+        match asked.group {
+            "text" => out.made::<Help, _, _>(given(asked.alloc, NAME, words)),
+            "words" => return Told::Given,
+            _ => return Told::NoSuchGroup,
+        }
+        Told::Answer
+    }
 }

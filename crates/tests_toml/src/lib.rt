@@ -7,15 +7,29 @@ mod texts;
 mod tokens;
 mod typed;
 
-use specs::Specs;
-use tests_files::compare_rows;
-use texts::TomlRows;
+use tests_files::{AnswerText, Asked, Room, Told, compare_all};
+
+/// Tokens, values, whole texts, the types that are read from them, and package specs.
+pub struct Toml;
+
+impl Room for Toml {
+    fn answer(&self, asked: &Asked<'_>, out: &mut AnswerText) -> Told {
+        if tokens::put(asked, out) || specs::put(asked, out) || texts::put(asked, out) {
+            Told::Answer
+        } else {
+            Told::NoSuchGroup
+        }
+    }
+}
+
+const FILES: [&str; 4] = [
+    "toml/tokens.txt",
+    "toml/toml.txt",
+    "toml/typed.txt",
+    "toml/specs.txt",
+];
 
 /// Compares the rows of the room, and returns whether nothing differs.
 pub fn compare(rt: &HostRuntime) -> bool {
-    let tokens = compare_rows(rt, "toml/tokens.txt", &TomlRows);
-    let toml = compare_rows(rt, "toml/toml.txt", &TomlRows);
-    let typed = compare_rows(rt, "toml/typed.txt", &TomlRows);
-    let specs = compare_rows(rt, "toml/specs.txt", &Specs);
-    tokens & toml & typed & specs
+    compare_all(rt, &FILES, &Toml)
 }

@@ -1,8 +1,10 @@
 //! Values of TOML and faults as rows show them: each value with its place behind an `@`.
+use crate::Toml;
 use deny_text::{Span, Texts};
 use std::alloc::Global;
-use tests_files::AnswerText;
-use toml_subset::shapes::DeserError;
+use std::fmt::Debug;
+use tests_files::{AnswerText, Shown, let_go};
+use toml_subset::shapes::{DeserError, ShapeError};
 use toml_subset::{Key, Str, SyntaxError, TomlError};
 use toml_value::{Entries, Value, ValueInner};
 
@@ -14,36 +16,50 @@ pub fn put_span(out: &mut AnswerText, before: &str, span: Span) {
     write!(out, "{before}{start}..{end}");
 }
 
-pub fn put_fault(out: &mut AnswerText, fault: &SyntaxError) {
-    let reason = fault.reason;
-    write!(out, "{reason:?}");
-    put_span(out, " ", fault.span);
+impl Shown<Toml> for SyntaxError {
+    fn put(&self, out: &mut AnswerText) {
+        let reason = self.reason;
+        write!(out, "{reason:?}");
+        put_span(out, " ", self.span);
+    }
 }
 
-pub fn put_error(out: &mut AnswerText, error: &TomlError) {
-    match error {
-        TomlError::Syntax(fault) => put_fault(out, fault),
-        TomlError::Memory => out.want_memory(),
+impl Shown<Toml> for TomlError {
+    fn put(&self, out: &mut AnswerText) {
+        match self {
+            TomlError::Syntax(fault) => fault.put(out),
+            TomlError::Memory => out.want_memory(),
+        }
+    }
+}
+
+impl Shown<Toml> for ShapeError {
+    fn put(&self, out: &mut AnswerText) {
+        put_span(out, "", self.span);
+        write!(out, " {self}");
     }
 }
 
 /// The faults of a shape in order, each behind its place.
-pub fn put_faults(out: &mut AnswerText, error: &DeserError) {
-    match error {
-        DeserError::Faults(errors) => {
-            let mut between = "";
-            for error in errors.items() {
-                put_span(out, between, error.span);
-                write!(out, " {error}");
-                between = "; ";
-            }
+impl Shown<Toml> for DeserError {
+    fn put(&self, out: &mut AnswerText) {
+        match self {
+            DeserError::Faults(faults) => out.each::<Toml, _>("; ", faults.items()),
+            DeserError::Memory => out.want_memory(),
         }
-        DeserError::Memory => out.want_memory(),
+    }
+}
+
+/// What was seen, as it is told where code is searched for faults, or why nothing was.
+pub fn put_seen<T: Debug + Drop, E: Shown<Toml> + Drop>(out: &mut AnswerText, seen: Result<T, E>) {
+    match &seen {
+        Ok(seen) => write!(out, "{seen:?}"),
+        Err(error) => error.put(out),
     }
 }
 
 /// A string between these, behind a mark where it was written with escapes.
-pub fn put_string(out: &mut AnswerText, string: &Str<'_>, quote: &str) {
+fn put_string(out: &mut AnswerText, string: &Str<'_>, quote: &str) {
     if string.has_escapes() {
         out.put("!");
     }
@@ -52,62 +68,80 @@ pub fn put_string(out: &mut AnswerText, string: &Str<'_>, quote: &str) {
     out.put(quote);
 }
 
-pub fn put_key(out: &mut AnswerText, key: &Key<'_>) {
-    put_string(out, &key.name, "");
-    put_span(out, "@", key.span);
-    out.put(": ");
+impl Shown<Toml> for Str<'_> {
+    fn put(&self, out: &mut AnswerText) {
+        put_string(out, self, "'");
+    }
+}
+
+impl Shown<Toml> for Key<'_> {
+    fn put(&self, out: &mut AnswerText) {
+        put_string(out, &self.name, "");
+        put_span(out, "@", self.span);
+        out.put(": ");
+    }
 }
 
 /// A scalar, or which other kind a value is of.
-pub fn put_inner(out: &mut AnswerText, inner: &ValueInner<'_>) {
-    match inner {
-        ValueInner::String(string) => put_string(out, string, "'"),
-        ValueInner::Integer(number) => write!(out, "{number}"),
-        ValueInner::Decimal(number) => write!(out, "{number}/100"),
-        ValueInner::Boolean(value) => write!(out, "{value}"),
-        ValueInner::Array(_) => out.put("an array"),
-        ValueInner::Table(_) => out.put("a table"),
+impl Shown<Toml> for ValueInner<'_> {
+    fn put(&self, out: &mut AnswerText) {
+        match self {
+            ValueInner::String(string) => string.put(out),
+            ValueInner::Integer(number) => write!(out, "{number}"),
+            ValueInner::Decimal(number) => write!(out, "{number}/100"),
+            ValueInner::Boolean(value) => write!(out, "{value}"),
+            ValueInner::Array(_) => out.put("an array"),
+            ValueInner::Table(_) => out.put("a table"),
+        }
     }
 }
 
-/// Lets a value go. Whoever owns one hands it on to here, since to let it go is dear to prove.
-pub fn let_go(_value: Value<'_>) {}
-
-/// A value with what is in it down to a depth, and with its place.
+/// A value with what is in it down to a depth, and with its place. What is in it is taken out.
+#[cycle(value)]
 pub fn put_value(alloc: Global, out: &mut AnswerText, depth: u32, value: &mut Value<'_>) {
-    let span = value.span();
-    if depth == 0 {
-        return put_span(out, "@", span);
+    if depth > 0 {
+        match value.take() {
+            ValueInner::Array(values) => put_items(alloc, out, depth - 1, values.into_items()),
+            ValueInner::Table(entries) => put_entries(alloc, out, depth - 1, entries),
+            inner => {
+                inner.put(out);
+                let_go(inner);
+            }
+        }
     }
+    put_span(out, "@", value.span());
+}
+
+#[cycle(value)]
+fn put_items(alloc: Global, out: &mut AnswerText, depth: u32, mut items: Vec<Value<'_>>) {
+    out.put("[");
     let mut is_behind = false;
-    match value.take() {
-        ValueInner::Array(values) => {
-            out.put("[");
-            for mut item in values.into_items() {
-                out.put(if is_behind { ", " } else { "" });
-                put_value(alloc, out, depth - 1, &mut item);
-                let_go(item);
-                is_behind = true;
-            }
-            out.put("]");
-        }
-        ValueInner::Table(mut entries) => {
-            out.put("{");
-            let names = names_of(alloc, out, &entries);
-            for name in names.items() {
-                if let Some((key, mut value)) = entries.remove(name.as_str()) {
-                    out.put(if is_behind { ", " } else { "" });
-                    put_key(out, &key);
-                    put_value(alloc, out, depth - 1, &mut value);
-                    let_go(value);
-                    is_behind = true;
-                }
-            }
-            out.put("}");
-        }
-        inner => put_inner(out, &inner),
+    for item in items.iter_mut() {
+        out.put(if is_behind { ", " } else { "" });
+        put_value(alloc, out, depth, item);
+        is_behind = true;
     }
-    put_span(out, "@", span);
+    out.put("]");
+    let_go(items);
+}
+
+#[cycle(value)]
+fn put_entries(alloc: Global, out: &mut AnswerText, depth: u32, mut entries: Entries<'_>) {
+    let names = names_of(alloc, out, &entries);
+    out.put("{");
+    let mut is_behind = false;
+    for name in names.items() {
+        if let Some((key, mut value)) = entries.remove(name.as_str()) {
+            out.put(if is_behind { ", " } else { "" });
+            key.put(out);
+            put_value(alloc, out, depth, &mut value);
+            let_go(value);
+            is_behind = true;
+        }
+    }
+    out.put("}");
+    let_go(names);
+    let_go(entries);
 }
 
 /// The names of the keys of a table, in order.

@@ -1,248 +1,193 @@
 //! Package specs: how they are read and printed, their order, and the crates that they match.
-ghost use Rattle.std.specs.Prelude.{◌≤◌, length};
-
-use crate::printed::{let_go, put_error, put_faults, put_span};
+use crate::Toml;
+use crate::printed::put_span;
+use crate::tokens::put_read;
 use crate::typed::put_table;
 use deny_text::{PathBuf, Span, Spanned, Text, TextMap, Texts};
 use graph_core::Krate;
-use policy_parts::spec::{PackageSpec, PackageSpecOrExtended, SpecIndex, match_krate};
+use policy_parts::spec::{PackageSpec, PackageSpecOrExtended, Places, SpecIndex, match_krate};
 use policy_toml::{Deserialize, Value};
 use semver::{Version, VersionReq};
 use std::alloc::{AllocError, Global};
-use tests_files::{AnswerText, Rows};
-use toml_value::read_value;
+use tests_files::{AnswerText, Asked, Shown, let_go};
 
-pub struct Specs;
-
-impl Rows for Specs {
-    fn answer(&self, alloc: Global, group: &str, text: &str, out: &mut AnswerText) -> bool {
-        match group {
-            "specs in strings" => match format!(in alloc; "         \"{text}\"") {
-                Ok(text) => put_read(alloc, out, group, text.as_str(), 9),
-                Err(_) => out.want_memory(),
-            },
-            "specs in values" | "specs in values with further keys" => put_read(
-                alloc, out, group, text, 0,
-            ),
-            "widened" | "narrowed" | "order of specs" | "printed specs" | "matches" | "index" => {
-                if put_made(alloc, out, group, text).is_err() {
-                    out.want_memory();
-                }
-            }
-            _ => return false,
+/// Puts what a group makes of specs, and returns whether there is such a group.
+pub fn put(asked: &Asked<'_>, out: &mut AnswerText) -> bool {
+    let alloc = asked.alloc;
+    let (text, behind) = asked.text.split_once(" | ").unwrap_or((asked.text, ""));
+    match asked.group {
+        "specs in strings" => match &format!(in alloc; "         \"{text}\" | 9") {
+            Ok(quoted) => put_read(asked, out, quoted.as_str(), None),
+            Err(_) => out.want_memory(),
+        },
+        "specs in values" | "specs in values with further keys" => put_read(asked, out, text, None),
+        "widened" | "narrowed" => out.made_or::<Toml, _, _>(converted(alloc, text), "refused"),
+        "order of specs" => {
+            let other = spec_at(alloc, behind, 8).ok();
+            out.tried::<Toml, _>(spec_at(alloc, text, 3).ok().zip(other))
         }
-        true
+        "printed specs" => match spec_at(alloc, text, 3) {
+            Ok(spec) => out.write_fmt(spec),
+            Err(_) => out.want_memory(),
+        },
+        "matches" => out.tried::<Toml, _>(among(alloc, text, behind)),
+        "index" => out.tried::<Toml, _>(Some(alloc).zip(among(alloc, text, behind))),
+        _ => return false,
     }
+    true
 }
 
-/// What a group reads of the value at a place.
-fn put_read(alloc: Global, out: &mut AnswerText, group: &str, text: &str, place: usize)
-    requires { place ≤ length text.now }
-{
-    match read_value(alloc, text, 0, place) {
-        Ok((mut value, _)) => {
-            put_specs(alloc, out, group, &mut value);
-            let_go(value);
-        }
-        Err(error) => put_error(out, &error),
+/// A spec, and in values what is left of them; or a spec, and a second one where other keys are there.
+pub fn put_specs(asked: &Asked<'_>, out: &mut AnswerText, value: &mut Value<'_>) {
+    let alloc = asked.alloc;
+    if asked.group == "specs in values with further keys" {
+        return out.made::<Toml, _, _>(TwoSpecs::deserialize(alloc, value, &()));
     }
-}
-
-fn put_specs(alloc: Global, out: &mut AnswerText, group: &str, value: &mut Value<'_>) {
-    match group {
-        "specs in strings" => put_spec(alloc, out, value),
-        "specs in values" => {
-            put_spec(alloc, out, value);
-            out.put(", left: ");
-            put_table(alloc, out, value, &["nothing"]);
-        }
-        _ => put_extended(alloc, out, value),
+    out.made::<Toml, _, _>(PackageSpec::deserialize(alloc, value, &()));
+    if asked.group == "specs in values" {
+        out.put(", left: ");
+        put_table(alloc, out, value, &["nothing"]);
     }
 }
 
 /// A spec with the place of its name.
-fn put_spec(alloc: Global, out: &mut AnswerText, value: &mut Value<'_>) {
-    match <PackageSpec as Deserialize<()>>::deserialize(alloc, value, &()) {
-        Ok(spec) => {
-            let name = &spec.name.value;
-            write!(out, "[{name}] {spec}");
-            put_span(out, " at ", spec.name.span);
-        }
-        Err(error) => put_faults(out, &error),
+impl Shown<Toml> for PackageSpec {
+    fn put(&self, out: &mut AnswerText) {
+        let name = &self.name.value;
+        write!(out, "[{name}] {self}");
+        put_span(out, " at ", self.name.span);
     }
 }
 
 type TwoSpecs = PackageSpecOrExtended<PackageSpec>;
 
-/// A spec, and a second one where other keys are there.
-fn put_extended(alloc: Global, out: &mut AnswerText, value: &mut Value<'_>) {
-    match <TwoSpecs as Deserialize<()>>::deserialize(alloc, value, &()) {
-        Ok(extended) => {
-            let spec = &extended.spec;
-            match &extended.inner {
-                Some(inner) => write!(out, "{spec} and {inner}"),
-                None => write!(out, "{spec} alone"),
-            }
+impl Shown<Toml> for TwoSpecs {
+    fn put(&self, out: &mut AnswerText) {
+        let spec = &self.spec;
+        match &self.inner {
+            Some(inner) => write!(out, "{spec} and {inner}"),
+            None => write!(out, "{spec} alone"),
         }
-        Err(error) => put_faults(out, &error),
     }
 }
 
 /// The spec of a name and, behind a blank, a requirement.
 fn spec_at(alloc: Global, text: &str, start: usize) -> Result<PackageSpec, AllocError> {
     let (name, requirement) = text.split_once(' ').unwrap_or((text, ""));
-    let value = Text::copy(alloc, name)?;
-    let span = Span { start, end: start };
-    Ok(PackageSpec {
-        name: Spanned { value, span },
-        version_req: VersionReq::parse(alloc, requirement).ok(),
-    })
-}
-
-fn specs_of(alloc: Global, text: &str) -> Result<Vec<PackageSpec>, AllocError> {
-    let mut specs = Vec::new(alloc);
-    for piece in text.split(';') {
-        let spec = spec_at(alloc, piece.trim(), 0)?;
-        specs.push(spec)?;
-    }
-    Ok(specs)
-}
-
-/// What comes of a number, or of a list of specs and a spec or a crate behind a bar.
-fn put_made(
-    alloc: Global,
-    out: &mut AnswerText,
-    group: &str,
-    text: &str,
-) -> Result<(), AllocError> {
-    let (text, behind) = text.split_once(" | ").unwrap_or((text, ""));
-    match group {
-        "widened" | "narrowed" => put_converted(alloc, out, text),
-        "order of specs" | "printed specs" => put_compared(alloc, out, text, behind),
-        _ => put_found(alloc, out, group, text, behind),
+    match Text::copy(alloc, name) {
+        Ok(value) => Ok(PackageSpec {
+            name: Spanned {
+                value,
+                span: Span { start, end: start },
+            },
+            version_req: VersionReq::parse(alloc, requirement).ok(),
+        }),
+        Err(error) => Err(error),
     }
 }
 
-/// A number beside a spec, converted to a smaller type and back.
-fn put_converted(alloc: Global, out: &mut AnswerText, text: &str) -> Result<(), AllocError> {
+type WithNumber = PackageSpecOrExtended<u32>;
+
+/// A number beside a spec, converted to a smaller type and back; nothing where that is too small.
+fn converted(alloc: Global, text: &str) -> Result<Option<WithNumber>, AllocError> {
     let inner = text.parse::<u32>().ok();
-    let spec = spec_at(alloc, "a", 3)?;
-    match (PackageSpecOrExtended { spec, inner }).try_convert::<u8, _>() {
-        Ok(narrow) => put_number(out, &narrow.convert()),
-        Err(_) => out.put("refused"),
-    }
-    Ok(())
-}
-
-fn put_number(out: &mut AnswerText, wide: &PackageSpecOrExtended<u32>) {
-    let spec = &wide.spec;
-    let place = spec.name.span.start;
-    let number = wide.inner;
-    write!(out, "{spec} at {place}, {number:?}");
-}
-
-/// A spec, or how two specs compare, both ways, and whether they are equal.
-fn put_compared(
-    alloc: Global,
-    out: &mut AnswerText,
-    one: &str,
-    other: &str,
-) -> Result<(), AllocError> {
-    let one = spec_at(alloc, one, 3)?;
-    match other {
-        "" => {
-            write!(out, "{one}");
-            Ok(())
-        }
-        _ => put_order(alloc, out, &one, other),
+    match spec_at(alloc, "a", 3) {
+        Ok(spec) => match (WithNumber { spec, inner }).try_convert::<u8, _>() {
+            Ok(narrow) => Ok(Some(narrow.convert())),
+            Err(_) => Ok(None),
+        },
+        Err(error) => Err(error),
     }
 }
 
-fn put_order(
-    alloc: Global,
-    out: &mut AnswerText,
-    one: &PackageSpec,
-    other: &str,
-) -> Result<(), AllocError> {
-    let other = spec_at(alloc, other, 8)?;
-    let there = one.cmp(&other);
-    let back = other.cmp(one);
-    let equal = *one == other;
-    write!(out, "{there:?}, {back:?}, {equal}");
-    Ok(())
+impl Shown<Toml> for WithNumber {
+    fn put(&self, out: &mut AnswerText) {
+        let spec = &self.spec;
+        let place = spec.name.span.start;
+        let number = self.inner;
+        write!(out, "{spec} at {place}, {number:?}");
+    }
+}
+
+/// How two specs compare, both ways, and whether they are equal.
+impl Shown<Toml> for (PackageSpec, PackageSpec) {
+    fn put(&self, out: &mut AnswerText) {
+        let (one, other) = self;
+        let there = one.cmp(other);
+        let back = other.cmp(one);
+        let equal = *one == *other;
+        write!(out, "{there:?}, {back:?}, {equal}");
+    }
 }
 
 /// The crate of a name and, behind a blank, a version.
-fn krate_of(alloc: Global, text: &str) -> Result<Krate, AllocError> {
+fn krate_of(alloc: Global, text: &str) -> Option<Krate> {
     let (text, version) = text.split_once(' ').unwrap_or((text, ""));
-    let name = Text::copy(alloc, text)?;
-    let Ok(id) = Text::copy(alloc, text) else {
-        return Err(AllocError);
-    };
-    let Ok(manifest_path) = PathBuf::copy(alloc, "Cargo.toml") else {
-        return Err(AllocError);
-    };
-    Ok(Krate {
-        name,
-        id,
-        manifest_path,
-        version: Version::parse(alloc, version).unwrap_or(Version::new(0, 0, 0)),
-        source: None,
-        authors: Texts::new(alloc),
-        repository: None,
-        description: None,
-        license: None,
-        license_file: None,
-        features: TextMap::new(alloc),
-        publish: None,
-        rust_version: None,
-    })
+    let names = Text::copy(alloc, text)
+        .ok()
+        .zip(Text::copy(alloc, text).ok());
+    match names.zip(PathBuf::copy(alloc, "Cargo.toml").ok()) {
+        Some(((name, id), manifest_path)) => Some(Krate {
+            name,
+            id,
+            manifest_path,
+            version: Version::parse(alloc, version).unwrap_or(Version::new(0, 0, 0)),
+            source: None,
+            authors: Texts::new(alloc),
+            repository: None,
+            description: None,
+            license: None,
+            license_file: None,
+            features: TextMap::new(alloc),
+            publish: None,
+            rust_version: None,
+        }),
+        None => None,
+    }
 }
 
-/// What a list of specs finds for a crate.
-fn put_found(
-    alloc: Global,
-    out: &mut AnswerText,
-    group: &str,
-    specs: &str,
-    krate: &str,
-) -> Result<(), AllocError> {
-    let specs = specs_of(alloc, specs)?;
-    match (group, &krate_of(alloc, krate)) {
-        ("index", Ok(krate)) => put_places(alloc, out, &specs, krate),
-        (_, Ok(krate)) => {
-            put_matches(out, &specs, krate);
-            Ok(())
+/// Specs, and the crate that is looked for among them.
+type Among = (Vec<PackageSpec>, Krate);
+
+fn among(alloc: Global, specs: &str, krate: &str) -> Option<Among> {
+    let specs: Result<Vec<PackageSpec>, AllocError> = specs
+        .split(';')
+        .map(|piece| spec_at(alloc, piece.trim(), 0))
+        .try_collect(alloc);
+    specs.ok().zip(krate_of(alloc, krate))
+}
+
+/// Whether each spec matches the crate.
+impl Shown<Toml> for Among {
+    fn put(&self, out: &mut AnswerText) {
+        let (specs, krate) = self;
+        for spec in specs {
+            let is_match = match_krate(krate, spec);
+            write!(out, "{is_match}");
         }
-        (_, Err(_)) => Err(AllocError),
     }
 }
 
-fn put_matches(out: &mut AnswerText, specs: &[PackageSpec], krate: &Krate) {
-    for spec in specs {
-        let is_match = match_krate(krate, spec);
-        write!(out, "{is_match}");
-    }
-}
-
-/// The places of the specs that match a crate, and the first of them.
-fn put_places(
-    alloc: Global,
-    out: &mut AnswerText,
-    specs: &[PackageSpec],
-    krate: &Krate,
-) -> Result<(), AllocError> {
-    let index = SpecIndex::of(alloc, specs)?;
-    let places = index.matches(alloc, specs, krate);
-    let first = index.first(specs, krate);
-    match &places {
-        Ok(places) => {
-            for place in places.items() {
-                write!(out, "{place} ");
+/// The places of the specs that match the crate, by their index, and the first of them.
+impl Shown<Toml> for (Global, Among) {
+    fn put(&self, out: &mut AnswerText) {
+        let (alloc, (specs, krate)) = self;
+        match SpecIndex::of(*alloc, specs) {
+            Ok(index) => {
+                out.made::<Toml, _, _>(index.matches(*alloc, specs, krate));
+                let first = index.first(specs, krate);
+                write!(out, "first {first:?}");
+                let_go(index);
             }
+            Err(_) => out.want_memory(),
         }
-        Err(_) => out.want_memory(),
     }
-    write!(out, "first {first:?}");
-    Ok(())
+}
+
+impl Shown<Toml> for Places {
+    fn put(&self, out: &mut AnswerText) {
+        for place in self.items() {
+            write!(out, "{place} ");
+        }
+    }
 }

@@ -1,69 +1,42 @@
 //! Whole texts of TOML: their values, what is at a path, and the types that are read from them.
-use crate::printed::{DEPTH, let_go, names_of, put_error, put_inner, put_span, put_value};
-use crate::tokens;
+use crate::printed::{DEPTH, names_of, put_span, put_value};
 use crate::typed::{FIVE, put_at_a, put_table};
 use std::alloc::Global;
-use tests_files::{AnswerText, Rows};
-use toml_value::{Value, parse};
+use tests_files::{AnswerText, Asked, Shown, let_go};
+use toml_value::{Value, ValueInner, parse};
 
-/// Tokens, values, whole texts, and the types that are read from them.
-pub struct TomlRows;
-
-impl Rows for TomlRows {
-    fn answer(&self, alloc: Global, group: &str, text: &str, out: &mut AnswerText) -> bool {
-        tokens::put(alloc, out, group, text) || put(alloc, out, group, text)
-    }
-}
-
-/// A text and, in groups that have them, the words behind its bar.
-fn parts_of<'t>(group: &str, text: &'t str) -> (&'t str, &'t str) {
-    match group {
-        "at paths" | "kinds at `a`" => text.split_once(" | ").unwrap_or((text, "")),
-        _ => (text, ""),
-    }
-}
-
-/// Puts what a group makes of a text.
-fn put(alloc: Global, out: &mut AnswerText, group: &str, text: &str) -> bool {
-    let (text, word) = parts_of(group, text);
-    match parse(alloc, text) {
+/// Puts what a group makes of a text, and of the words behind its bar, and returns whether there is such a group.
+pub fn put(asked: &Asked<'_>, out: &mut AnswerText) -> bool {
+    let (text, words) = asked.text.split_once(" | ").unwrap_or((asked.text, ""));
+    match parse(asked.alloc, text) {
         Ok(mut root) => {
-            let is_group = put_root(alloc, out, group, word, &mut root);
+            let is_group = put_root(asked, out, words, &mut root);
             let_go(root);
             is_group
         }
         Err(error) => {
-            put_error(out, &error);
+            error.put(out);
             true
         }
     }
 }
 
-fn put_root(
-    alloc: Global,
-    out: &mut AnswerText,
-    group: &str,
-    word: &str,
-    root: &mut Value<'_>,
-) -> bool {
-    match group {
+fn put_root(asked: &Asked<'_>, out: &mut AnswerText, words: &str, root: &mut Value<'_>) -> bool {
+    let alloc = asked.alloc;
+    match asked.group {
         "texts" | "texts with faults" | "examples" | "examples with faults" | "refused keys" => {
             put_value(alloc, out, DEPTH, root)
         }
         "deep texts" => put_value(alloc, out, 0, root),
-        "at paths" => put_paths(out, root, word),
+        "at paths" => put_paths(out, root, words),
         "names" => put_names(alloc, out, root),
         "taken twice" => {
             put_taken(out, root);
             put_taken(out, root);
         }
         "a type of two keys" => {
-            put_table(
-                alloc,
-                out,
-                root,
-                &["ignore ", "ignore", ", registries", "registries"],
-            )
+            let keys = ["ignore ", "ignore", ", registries", "registries"];
+            put_table(alloc, out, root, &keys)
         }
         "a type of five keys" => put_table(alloc, out, root, &FIVE),
         "a name behind a count" => put_table(alloc, out, root, &["count", ", ", "name"]),
@@ -73,7 +46,7 @@ fn put_root(
             put_table(alloc, out, root, &[", ", "name, if any", ".."]);
             put_table(alloc, out, root, &[", ", "on", ", ", "zz"]);
         }
-        _ => return put_at_a(alloc, out, group, word, root),
+        _ => return put_at_a(asked, out, words, root),
     }
     true
 }
@@ -83,33 +56,36 @@ fn put_paths(out: &mut AnswerText, root: &Value<'_>, paths: &str) {
     let mut is_behind = false;
     for path in paths.split_whitespace() {
         out.put(if is_behind { " " } else { "" });
-        put_at_path(out, root, path);
+        match root.pointer(path) {
+            Some(value) => put_found(out, value),
+            None => out.put("none"),
+        }
         is_behind = true;
     }
 }
 
-fn put_at_path(out: &mut AnswerText, root: &Value<'_>, path: &str) {
-    let Some(value) = root.pointer(path) else {
-        return out.put("none");
-    };
+fn put_found(out: &mut AnswerText, value: &Value<'_>) {
     if let Some(text) = value.as_str() {
         write!(out, "'{text}'");
     }
     put_span(out, "@", value.span());
 }
 
-fn put_names(alloc: Global, out: &mut AnswerText, root: &mut Value<'_>) {
-    if let Some(table) = root.take_table() {
-        let names = names_of(alloc, out, &table);
+fn put_names(alloc: Global, out: &mut AnswerText, root: &Value<'_>) {
+    if let ValueInner::Table(entries) = root.inner() {
+        let names = names_of(alloc, out, entries);
         for name in names.items() {
             write!(out, "{name};");
         }
+        let_go(names);
     }
 }
 
 /// Takes a value out, and puts what it was and whether it had keys.
 fn put_taken(out: &mut AnswerText, value: &mut Value<'_>) {
     let keys = if value.has_keys() { "keys" } else { "no keys" };
-    put_inner(out, &value.take());
+    let taken = value.take();
+    taken.put(out);
+    let_go(taken);
     write!(out, " with {keys};");
 }

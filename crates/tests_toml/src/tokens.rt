@@ -1,21 +1,19 @@
 //! What is at a place of a text: numbers, strings, keys, values, blanks, comments and commas.
 ghost use Rattle.std.specs.Prelude.{◌≤◌, length};
 
-use crate::printed::{
-    DEPTH, let_go, put_error, put_fault, put_key, put_span, put_string, put_value,
-};
+use crate::Toml;
+use crate::printed::{DEPTH, put_seen, put_span, put_value};
+use crate::specs::put_specs;
 use deny_text::Span;
-use std::alloc::Global;
-use std::fmt;
-use tests_files::AnswerText;
+use tests_files::{AnswerText, Asked, Shown, let_go};
 use toml_subset::frames::{
     Scalar, behind_entry, behind_item, entry_place, item_place, read_scalar,
 };
 use toml_subset::{
-    Keys, Number, Str, SyntaxError, TomlError, after_blanks, after_comment, after_white, char_end,
-    classify, line_end, next_line, read_keys, read_left, read_number, read_string, space_from,
+    Keys, Number, Str, after_blanks, after_comment, after_white, char_end, classify, line_end,
+    next_line, read_keys, read_left, read_number, read_string, space_from,
 };
-use toml_value::{Value, read_value};
+use toml_value::read_value;
 
 /// A text and the place behind its bar; the whole text and its start where no place is there.
 fn placed(text: &str) -> (&str, usize)
@@ -29,33 +27,35 @@ fn placed(text: &str) -> (&str, usize)
 }
 
 /// Puts what a group reads at a place, and returns whether there is such a group.
-pub fn put(alloc: Global, out: &mut AnswerText, group: &str, text: &str) -> bool {
-    let (text, place) = placed(text);
-    match group {
-        "numbers" => put_seen(out, Ok(classify(text.as_bytes()))),
-        "numbers in a text" => put_number(out, read_number(text, place)),
-        "keys" => put_keys(out, &read_keys(alloc, text, place)),
-        "keys before a value" => put_keys(out, &read_left(alloc, text, place)),
-        "strings" => put_first_string(out, &read_string(alloc, text, place)),
-        "scalars" => put_scalar(out, &read_scalar(alloc, text, place)),
-        "values" | "values with faults" | "deep values" => {
-            put_first(alloc, out, group, read_value(alloc, text, 0, place))
-        }
+pub fn put(asked: &Asked<'_>, out: &mut AnswerText) -> bool {
+    let alloc = asked.alloc;
+    let (text, place) = placed(asked.text);
+    match asked.group {
+        "numbers" => write!(out, "{:?}", classify(text.as_bytes())),
+        "numbers in a text" => match read_number(text, place) {
+            Ok((number, end)) => write!(out, "{number:?} to {end}"),
+            Err(fault) => fault.put(out),
+        },
+        "keys" => out.made::<Toml, _, _>(read_keys(alloc, text, place)),
+        "keys before a value" => out.made::<Toml, _, _>(read_left(alloc, text, place)),
+        "strings" => out.made::<Toml, _, _>(read_string(alloc, text, place)),
+        "scalars" => out.made::<Toml, _, _>(read_scalar(alloc, text, place)),
+        "values" | "values with faults" => put_read(asked, out, asked.text, Some(DEPTH)),
+        "deep values" => put_read(asked, out, asked.text, Some(0)),
         "behind the opening of an array" => put_seen(out, item_place(text, place)),
         "behind an item" => put_seen(out, behind_item(text, place)),
-        "behind the opening of an inline table" => put_seen(out, Ok(entry_place(text, place))),
+        "behind the opening of an inline table" => write!(out, "{:?}", entry_place(text, place)),
         "behind an entry" => put_seen(out, behind_entry(text, place)),
-        _ => return put_scanned(out, group, text, place),
+        _ => return put_scanned(asked, out),
     }
     true
 }
 
 /// The place that a scanner comes to from a place. Returns whether there is such a scanner.
-fn put_scanned(out: &mut AnswerText, group: &str, text: &str, place: usize) -> bool
-    requires { place ≤ length text.now }
-{
+fn put_scanned(asked: &Asked<'_>, out: &mut AnswerText) -> bool {
+    let (text, place) = placed(asked.text);
     let bytes = text.as_bytes();
-    let found = match group {
+    let found = match asked.group {
         "behind blanks" => Some(after_blanks(bytes, place)),
         "behind a comment" => Some(after_comment(bytes, place)),
         "behind a line end" => line_end(bytes, place),
@@ -69,75 +69,49 @@ fn put_scanned(out: &mut AnswerText, group: &str, text: &str, place: usize) -> b
     true
 }
 
-fn put_seen<T: fmt::Debug + Drop>(out: &mut AnswerText, seen: Result<T, SyntaxError>) {
-    match seen {
-        Ok(seen) => write!(out, "{seen:?}"),
-        Err(fault) => put_fault(out, &fault),
+impl Shown<Toml> for (Keys<'_>, usize) {
+    fn put(&self, out: &mut AnswerText) {
+        out.each::<Toml, _>("", self.0.items());
+        write!(out, "to {}", self.1);
     }
 }
-
-fn put_number(out: &mut AnswerText, read: Result<(Number, usize), SyntaxError>) {
-    match read {
-        Ok((number, end)) => write!(out, "{number:?} to {end}"),
-        Err(fault) => put_fault(out, &fault),
-    }
-}
-
-fn put_keys(out: &mut AnswerText, read: &Result<(Keys<'_>, usize), TomlError>) {
-    match read {
-        Ok((keys, end)) => {
-            for key in keys.items() {
-                put_key(out, key);
-            }
-            write!(out, "to {end}");
-        }
-        Err(error) => put_error(out, error),
-    }
-}
-
-type ReadString<'de> = Result<(Str<'de>, Span, usize), TomlError>;
 
 /// A string, and its place.
-fn put_first_string(out: &mut AnswerText, read: &ReadString<'_>) {
-    match read {
-        Ok((string, span, _)) => {
-            put_string(out, string, "'");
-            put_span(out, "@", *span);
-        }
-        Err(error) => put_error(out, error),
+impl Shown<Toml> for (Str<'_>, Span, usize) {
+    fn put(&self, out: &mut AnswerText) {
+        self.0.put(out);
+        put_span(out, "@", self.1);
     }
 }
-
-type ReadScalar<'de> = Result<(Scalar<'de>, Span, usize), TomlError>;
 
 /// A scalar, its place, and the place behind it.
-fn put_scalar(out: &mut AnswerText, read: &ReadScalar<'_>) {
-    match read {
-        Ok((scalar, span, next)) => {
-            match scalar {
-                Scalar::String(string) => put_string(out, string, "'"),
-                Scalar::Number(Number::Integer(number)) => write!(out, "{number}"),
-                Scalar::Number(Number::Decimal(number)) => write!(out, "{number}/100"),
-                Scalar::Boolean(value) => write!(out, "{value}"),
-            }
-            put_span(out, "@", *span);
-            write!(out, " to {next}");
+impl Shown<Toml> for (Scalar<'_>, Span, usize) {
+    fn put(&self, out: &mut AnswerText) {
+        match &self.0 {
+            Scalar::String(string) => string.put(out),
+            Scalar::Number(Number::Integer(number)) => write!(out, "{number}"),
+            Scalar::Number(Number::Decimal(number)) => write!(out, "{number}/100"),
+            Scalar::Boolean(value) => write!(out, "{value}"),
         }
-        Err(error) => put_error(out, error),
+        put_span(out, "@", self.1);
+        write!(out, " to {}", self.2);
     }
 }
 
-type ReadValue<'de> = Result<(Value<'de>, usize), TomlError>;
-
-/// A value, and the place behind it. Of a deep value the place alone is put.
-fn put_first(alloc: Global, out: &mut AnswerText, group: &str, read: ReadValue<'_>) {
-    let depth = if group == "deep values" { 0 } else { DEPTH };
-    match read {
+/// The value at a place down to a depth, and the place behind it; without a depth what a group reads of it as specs.
+pub fn put_read(asked: &Asked<'_>, out: &mut AnswerText, text: &str, depth: Option<u32>) {
+    let (text, place) = placed(text);
+    match read_value(asked.alloc, text, 0, place) {
         Ok((mut value, next)) => {
-            put_value(alloc, out, depth, &mut value);
+            match depth {
+                Some(depth) => {
+                    put_value(asked.alloc, out, depth, &mut value);
+                    write!(out, " to {next}");
+                }
+                None => put_specs(asked, out, &mut value),
+            }
             let_go(value);
-            write!(out, " to {next}");
         }
-        Err(error) => put_error(out, &error),
+        Err(error) => error.put(out),
     }
 }

@@ -1,10 +1,11 @@
 //! Types that are read from values, key by key.
-use crate::printed::{let_go, put_faults, put_span, put_string};
+use crate::Toml;
+use crate::printed::{put_seen, put_span};
 use deny_text::{Spanned, Text, Texts};
 use policy_toml::{DeserError, Deserialize, Hundredths, TableHelper, Value, deserialize_name};
 use std::alloc::Global;
-use std::fmt;
-use tests_files::AnswerText;
+use std::fmt::Display;
+use tests_files::{AnswerText, Asked, Shown, let_go};
 
 /// The type that most groups read.
 pub const FIVE: [&str; 9] = [
@@ -13,100 +14,88 @@ pub const FIVE: [&str; 9] = [
 
 static LEVELS: [(&str, u32); 3] = [("allow", 0), ("warn", 1), ("deny", 2)];
 
-/// What a group reads of the value at the key `a`. Returns whether there is such a group.
-pub fn put_at_a(
-    alloc: Global,
-    out: &mut AnswerText,
-    group: &str,
-    kind: &str,
-    root: &mut Value<'_>,
-) -> bool {
-    let Some(mut value) = taken_a(alloc, root) else {
-        return false;
+/// Puts what a group reads of the value at the key `a`, and returns whether there is such a group.
+pub fn put_at_a(asked: &Asked<'_>, out: &mut AnswerText, kind: &str, root: &mut Value<'_>) -> bool {
+    let mut taken = root
+        .take_table()
+        .and_then(|mut entries| entries.remove("a"));
+    let is_group = match &mut taken {
+        Some((_, value)) => put_of_a(asked, out, kind, value),
+        None => false,
     };
-    let is_group = put_value_at_a(alloc, out, group, kind, &mut value);
-    let_go(value);
+    let_go(taken);
     is_group
 }
 
-fn put_value_at_a(
-    alloc: Global,
-    out: &mut AnswerText,
-    group: &str,
-    kind: &str,
-    value: &mut Value<'_>,
-) -> bool {
-    match group {
+fn put_of_a(asked: &Asked<'_>, out: &mut AnswerText, kind: &str, value: &mut Value<'_>) -> bool {
+    let alloc = asked.alloc;
+    match asked.group {
         "kinds at `a`" => put_kind(alloc, out, kind, value),
         "five keys at `a`" => put_table(alloc, out, value, &FIVE),
         "a list at `a`" => put_list(alloc, out, value),
         "a string at `a`, twice" => put_string_twice(alloc, out, value),
-        "a name of a table at `a`" => put_level(alloc, out, value),
+        "a name of a table at `a`" => {
+            put_seen(out, deserialize_name(alloc, value, "LintLevel", &LEVELS))
+        }
         _ => return false,
     }
     true
 }
 
-fn taken_a<'de>(alloc: Global, root: &mut Value<'de>) -> Option<Value<'de>> {
-    let mut table = TableHelper::new(alloc, root).ok()?;
-    match table.take("a") {
-        Some((_, value)) => Some(value),
-        None => None,
-    }
-}
-
-/// Whether a value is of a kind, or its faults.
+/// A value as one of a kind, or its faults.
 fn put_kind(alloc: Global, out: &mut AnswerText, kind: &str, value: &mut Value<'_>) {
     match kind {
-        "bool" => put_whether::<bool>(alloc, out, value),
-        "Text" => put_whether::<Text>(alloc, out, value),
-        "i64" => put_whether::<i64>(alloc, out, value),
-        "u32" => put_whether::<u32>(alloc, out, value),
-        "Hundredths" => put_whether::<Hundredths>(alloc, out, value),
-        "Texts" => put_whether::<Texts>(alloc, out, value),
-        _ => out.put("no such kind"),
+        "bool" => put_as::<bool>(alloc, out, value),
+        "Text" => put_as::<Text>(alloc, out, value),
+        "i64" => put_as::<i64>(alloc, out, value),
+        "u32" => put_as::<u32>(alloc, out, value),
+        "Hundredths" => put_as::<Hundredths>(alloc, out, value),
+        "Texts" => put_as::<Texts>(alloc, out, value),
+        _ => out.cant_be_tried(),
     }
 }
 
-fn put_whether<T: Deserialize<()> + Drop>(
-    alloc: Global,
-    out: &mut AnswerText,
-    value: &mut Value<'_>,
-) {
+fn put_as<T: Deserialize<()> + Drop>(alloc: Global, out: &mut AnswerText, value: &mut Value<'_>) {
     match T::deserialize(alloc, value, &()) {
         Ok(_) => out.put("read"),
-        Err(error) => put_faults(out, &error),
+        Err(error) => error.put(out),
     }
 }
 
 /// What the keys of a table are, which are read in this order, or what is wrong with it. A last `..` gives others back.
 pub fn put_table(alloc: Global, out: &mut AnswerText, value: &mut Value<'_>, keys: &[&str]) {
     let mut read = AnswerText::new(alloc);
-    match put_keys(alloc, &mut read, value, keys) {
-        Ok(()) => match read.into_text() {
-            Ok(text) => out.put(text.as_str()),
-            Err(_) => out.want_memory(),
-        },
-        Err(error) => put_faults(out, &error),
+    match read_table(alloc, &mut read, value, keys) {
+        Ok(()) => out.put_whole(&read),
+        Err(error) => {
+            error.put(out);
+            let_go(error);
+        }
     }
 }
 
 type TypedRead = Result<(), DeserError>;
 
-fn put_keys(
+fn read_table(
     alloc: Global,
     out: &mut AnswerText,
     value: &mut Value<'_>,
     keys: &[&str],
 ) -> TypedRead {
-    let mut table = TableHelper::new(alloc, value)?;
-    for key in keys {
-        if *key == ".." {
-            return table.finalize(alloc, Some(value));
+    match TableHelper::new(alloc, value) {
+        Ok(mut table) => {
+            let mut left = keys.iter();
+            match left.try_for_each(|key| put_key(alloc, out, &mut table, key)) {
+                Ok(()) if keys.contains(&"..") => table.finalize(alloc, Some(value)),
+                Ok(()) => table.finalize(alloc, None),
+                Err(error) => {
+                    let_go(table);
+                    Err(error)
+                }
+            }
         }
-        put_key(alloc, out, &mut table, key)?;
+        Err(error) => Err(error),
     }
-    table.finalize(alloc, None)
 }
 
 /// What a key is. A word that is none stands for itself.
@@ -117,110 +106,78 @@ fn put_key(
     key: &str,
 ) -> TypedRead {
     match key {
-        "count" => put_optional::<u32>(alloc, out, table, "count"),
-        "level" => put_optional::<i32>(alloc, out, table, "level"),
-        "part" => put_optional::<Hundredths>(alloc, out, table, "part"),
-        "zz" => put_optional::<i64>(alloc, out, table, "zz"),
-        "ignore" => put_optional::<bool>(alloc, out, table, "ignore"),
-        "registries" => put_texts(alloc, out, table, "registries"),
-        "tags" => put_texts(alloc, out, table, "tags"),
-        "name" | "on" => put_required(alloc, out, table, key),
-        "name, if any" => put_name(alloc, out, table),
-        _ => {
-            out.put(key);
+        "count" => put_seen(out, table.optional::<u32, ()>(alloc, "count", &())),
+        "level" => put_seen(out, table.optional::<i32, ()>(alloc, "level", &())),
+        "part" => put_seen(out, table.optional::<Hundredths, ()>(alloc, "part", &())),
+        "zz" => put_seen(out, table.optional::<i64, ()>(alloc, "zz", &())),
+        "ignore" => put_seen(out, table.optional::<bool, ()>(alloc, "ignore", &())),
+        "registries" => {
+            out.made_or::<Toml, Texts, _>(table.optional(alloc, "registries", &()), "")
+        }
+        "tags" => { out.made_or::<Toml, Spanned<Texts>, _>(table.optional(alloc, "tags", &()), "") }
+        "name, if any" => {
+            out.made_or::<Toml, Spanned<Text>, _>(table.optional(alloc, "name", &()), "none")
+        }
+        "name" => return put_required::<Text>(out, table.required(alloc, "name", &())),
+        "on" => return put_required::<bool>(out, table.required(alloc, "on", &())),
+        ".." => {}
+        _ => out.put(key),
+    }
+    Ok(())
+}
+
+fn put_required<T: Display + Drop>(out: &mut AnswerText, read: Result<T, DeserError>) -> TypedRead {
+    match read {
+        Ok(read) => {
+            out.write_fmt(read);
             Ok(())
         }
+        Err(error) => Err(error),
     }
 }
 
-fn put_optional<T: Deserialize<()> + fmt::Debug + Drop>(
-    alloc: Global,
-    out: &mut AnswerText,
-    table: &mut TableHelper<'_>,
-    key: &'static str,
-) -> TypedRead {
-    let read: Option<T> = table.optional(alloc, key, &())?;
-    write!(out, "{read:?}");
-    Ok(())
-}
-
-fn put_required(
-    alloc: Global,
-    out: &mut AnswerText,
-    table: &mut TableHelper<'_>,
-    key: &str,
-) -> TypedRead {
-    if key == "on" {
-        let flag: bool = table.required(alloc, "on", &())?;
-        write!(out, "{flag}");
-    } else {
-        let name: Text = table.required(alloc, "name", &())?;
-        write!(out, "{name}");
+impl Shown<Toml> for Text {
+    fn put(&self, out: &mut AnswerText) {
+        out.put(self.as_str());
     }
-    Ok(())
 }
 
-fn put_name(alloc: Global, out: &mut AnswerText, table: &mut TableHelper<'_>) -> TypedRead {
-    let name: Option<Spanned<Text>> = table.optional_s(alloc, "name", &())?;
-    match &name {
-        Some(name) => {
-            out.put(name.value.as_str());
-            put_span(out, "@", name.span);
-        }
-        None => out.put("none"),
-    }
-    Ok(())
-}
-
-/// The texts of a list, and of `tags` the place too.
-fn put_texts(
-    alloc: Global,
-    out: &mut AnswerText,
-    table: &mut TableHelper<'_>,
-    key: &'static str,
-) -> TypedRead {
-    let read: Option<Spanned<Texts>> = table.optional_s(alloc, key, &())?;
-    if let Some(texts) = &read {
-        for text in texts.value.items() {
+/// Each text behind a blank.
+impl Shown<Toml> for Texts {
+    fn put(&self, out: &mut AnswerText) {
+        for text in self.items() {
             write!(out, " {text}");
         }
-        if key == "tags" {
-            put_span(out, "@", texts.span);
-        }
     }
-    Ok(())
+}
+
+impl<T: Shown<Toml>> Shown<Toml> for Spanned<T> {
+    fn put(&self, out: &mut AnswerText) {
+        self.value.put(out);
+        put_span(out, "@", self.span);
+    }
 }
 
 /// What is read of each item of a list.
 fn put_list(alloc: Global, out: &mut AnswerText, value: &mut Value<'_>) {
     if let Some(values) = value.take_array() {
-        for mut item in values.into_items() {
+        let mut items = values.into_items();
+        for item in items.iter_mut() {
             out.put("[");
-            put_table(alloc, out, &mut item, &FIVE);
-            let_go(item);
+            put_table(alloc, out, item, &FIVE);
             out.put("]");
         }
+        let_go(items);
     }
 }
 
 /// A string, what is reported where it is taken again, and where it is to be a table.
 fn put_string_twice(alloc: Global, out: &mut AnswerText, value: &mut Value<'_>) {
-    for _ in 0..2u32 {
-        out.put("[");
-        match value.take_string(alloc, "a crate spec") {
-            Ok(string) => put_string(out, &string, "'"),
-            Err(error) => put_faults(out, &error),
-        }
-        out.put("]");
-    }
     out.put("[");
+    out.made::<Toml, _, _>(value.take_string(alloc, "a crate spec"));
+    out.put("][");
+    out.made::<Toml, _, _>(value.take_string(alloc, "a crate spec"));
+    out.put("][");
     put_table(alloc, out, value, &["a table"]);
     out.put("]");
-}
-
-fn put_level(alloc: Global, out: &mut AnswerText, value: &mut Value<'_>) {
-    match deserialize_name(alloc, value, "LintLevel", &LEVELS) {
-        Ok(level) => write!(out, "{level}"),
-        Err(error) => put_faults(out, &error),
-    }
 }
