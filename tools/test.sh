@@ -1,8 +1,9 @@
 #!/bin/sh
 # Compares rows and cases with what the code answers, without a proof: what one runs between two changes. NAME is a folder of
 # crates/tests_rows/data: text, spdx, diag, toml, graph, policy, check, start, run or hostile. Without a name it compares all
-# folders, and runs the tests of crates/tests_code: four programs side by side. What differs is printed with its file and line, and so
-# is each count of rows, cases, lines or runs that the stored `stdout` does not have.
+# folders, and runs the tests of crates/tests_code, two programs side by side: a program of whole runs takes 8 GB to build. What differs
+# is printed with its file and line, and so is each count of rows, cases, lines or runs that the stored `stdout` does not have. An
+# unproved program checks each access, and is some forty times as slow as the gate's: run and hostile take ten minutes and more.
 #
 # Where tools/build.sh or `rt ci` has built tests_rows and no code is newer, that program is run for a folder, which takes a second;
 # --unproved asks for the other way all the same: a program of the folder that is built without a proof, in a copy.
@@ -79,7 +80,7 @@ try_folders() {
             set -- "$@" --data "$folder/$(basename "$file")=$file"
         done
     done
-    (cd "$try/crates/folders" && rt try --steps 1 --seconds 600 "$@" >"$try/said" 2>&1) || true
+    (cd "$try/crates/folders" && rt try --steps 1 --seconds 3600 "$@" >"$try/said" 2>&1) || true
 }
 
 # Tries the tests that no row can be.
@@ -129,11 +130,11 @@ if [ -n "$name" ]; then
     echo "$name: $(grep -Ec "$counted" "$room/$name/said") counts, all as wanted. Nothing was proved."
     exit 0
 fi
-for group in 'text spdx diag toml graph policy check start' run hostile; do
-    # shellcheck disable=SC2086
-    (try_folders $group) &
-done
 (try_tests) &
+try_folders text spdx diag toml graph policy check start
+wait
+(try_folders run) &
+try_folders hostile
 wait
 is_right=0
 for first in text run hostile; do
