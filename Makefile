@@ -7,7 +7,7 @@ METADATA = $(CURDIR)/crates/cargo_deny/out/metadata.json
 
 FIRST = ../../examples/first
 
-.PHONY: try build run sample test prove examples map wrong starve stack calls bench dist install
+.PHONY: try build run sample test prove examples map read wrong starve stack calls bench dist install
 
 # A first answer in minutes, by an unproved build.
 try:
@@ -45,6 +45,11 @@ examples: build
 # Prints what each crate depends on and which crates use it, or of one crate: make map NAME=gather_license
 map:
 	@sh tools/map.sh $(NAME)
+
+# Prints each definition that a statement rests on, from the top, with its file and line, and how many there are: make read
+# NAME=Headline
+read:
+	@sh tools/read.sh $(NAME)
 
 # Tries the wrong bodies of a crate that the gate leaves out: make wrong NAME=gather_license
 wrong:
