@@ -2,7 +2,7 @@
 # Runs while memory is wanting. Nothing but want of memory may be reported: each run says what it came to.
 #
 # starve.sh NAME [FIRST] compares the rows and cases of a folder of crates/tests_rows/data with one allocation that fails, at twenty
-# numbers from the first on, each about twice the one before. A run takes one to three minutes.
+# numbers from the first on, each about twice the one before. A row whose input finds no memory can't be tried. A run takes minutes.
 #
 # starve.sh program [PROGRAM] runs the built program over the two workspaces of crates/tests_rows/data/hostile/failures.txt
 # with less and less memory, in steps of 16 KiB, from enough down to where the system cannot start it. Each run answers as with
@@ -162,7 +162,7 @@ for turn in 1 2 3 4 5 6 7 8 9 10 11 12 13 14 15 16 17 18 19 20; do
     rt try --fail-alloc "$number" "$@" -- "$name" >"$answer" 2>&1 || true
     ended=$(grep '^run=' "$answer" || echo 'run=none')
     told=$(grep -c "^$name/[a-z_]*\.txt:[0-9]*:" "$answer" || true)
-    of_memory=$(grep -ci 'memory' "$answer" || true)
+    of_memory=$(grep -ci "memory\|can't be tried" "$answer" || true)
     echo "$name, allocation $number fails: $ended; lines printed: $told; lines that speak of memory: $of_memory"
     if [ "$told" -gt 0 ] && [ "$of_memory" -eq 0 ]; then
         cat "$answer"
