@@ -28,7 +28,7 @@ sample: build
 	@$(PROGRAM) sample 20000
 
 # Compares all rows and cases without a proof, in minutes, and prints what differs with its file and line; or those of a folder of
-# crates/tests_rows/data: make test NAME=spdx. NAME=run and NAME=hostile are whole runs.
+# crates/tests_rows/data: make test NAME=spdx. NAME=run, start and hostile are whole runs.
 test:
 	@sh tools/test.sh $(NAME)
 

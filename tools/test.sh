@@ -28,13 +28,13 @@ trap 'rm -rf "$room"' EXIT
 # The library that answers a folder, and its call.
 library() {
     case $1 in
-    run | hostile) echo tests_runner ;;
+    run | start | hostile) echo tests_runner ;;
     *) echo "tests_$1" ;;
     esac
 }
 call() {
     case $1 in
-    hostile) echo 'tests_runner::compare_hostile(&rt)' ;;
+    start | hostile) echo "tests_runner::compare_$1(&rt)" ;;
     *) echo "$(library "$1")::compare(&rt)" ;;
     esac
 }
@@ -131,10 +131,10 @@ if [ -n "$name" ]; then
     exit 0
 fi
 (try_tests) &
-try_folders text spdx diag toml graph policy check start
+try_folders text spdx diag toml graph policy check
 wait
 (try_folders run) &
-try_folders hostile
+try_folders hostile start
 wait
 is_right=0
 for first in text run hostile; do

@@ -1,9 +1,9 @@
 //! The table of files: paths that are added and looked up, and places in a text.
-use crate::failed::BenchFailure;
 use crate::meter::Meter;
 use deny_text::{PathBuf, Text};
 use diag_core::{AddError, Files};
 use std::alloc::Global;
+use std::test::Fail;
 
 /// A table of empty files whose paths are the lines of a text.
 fn filled(alloc: Global, text: &str) -> Result<Files, AddError> {
@@ -16,7 +16,7 @@ fn filled(alloc: Global, text: &str) -> Result<Files, AddError> {
 }
 
 /// Adds the paths of a text, and tells the number of the last one.
-pub(crate) fn added(alloc: Global, text: &str) -> Result<usize, BenchFailure> {
+pub(crate) fn added(alloc: Global, text: &str) -> Result<usize, Fail> {
     let files = filled(alloc, text)?;
     let last = text.lines().last().unwrap_or("");
     Ok(files.id_for_path(last).unwrap_or(0))
@@ -24,43 +24,31 @@ pub(crate) fn added(alloc: Global, text: &str) -> Result<usize, BenchFailure> {
 
 /// How many lines, each without an end, are paths in a table.
 fn found(files: &Files, text: &str, end: &str) -> usize {
-    let mut found: usize = 0;
-    for line in text.lines() {
-        let path = line.strip_suffix(end).unwrap_or(line);
-        if files.id_for_path(path).is_some() {
-            found = found.saturating_add(1);
-        }
-    }
-    found
+    let paths = text
+        .lines()
+        .map(|line| line.strip_suffix(end).unwrap_or(line));
+    paths
+        .filter(|path| files.id_for_path(*path).is_some())
+        .count()
 }
 
-/// How many paths are found in a table of all of them.
+/// How many paths are found in a table of all of them, each without an end: with one of `/Cargo.toml` none.
 pub(crate) fn looked_up(
     meter: &mut Meter<'_>,
     alloc: Global,
     text: &str,
-) -> Result<usize, BenchFailure> {
+    end: &str,
+) -> Result<usize, Fail> {
     let files = filled(alloc, text)?;
     meter.start();
-    Ok(found(&files, text, ""))
-}
-
-/// How many folders of manifests are found there: none.
-pub(crate) fn looked_up_absent(
-    meter: &mut Meter<'_>,
-    alloc: Global,
-    text: &str,
-) -> Result<usize, BenchFailure> {
-    let files = filled(alloc, text)?;
-    meter.start();
-    Ok(found(&files, text, "/Cargo.toml"))
+    Ok(found(&files, text, end))
 }
 
 /// The bytes of an entry.
 const ENTRY: usize = 14;
 
 /// The sum of the columns of all entries of a file.
-fn columns(files: &Files, text: &str, file: usize) -> Result<usize, BenchFailure> {
+fn columns(files: &Files, text: &str, file: usize) -> Result<usize, Fail> {
     let mut sum: usize = 0;
     for place in (0..text.len()).step_by(ENTRY) {
         let location = files.location(file, place)?;
@@ -70,11 +58,7 @@ fn columns(files: &Files, text: &str, file: usize) -> Result<usize, BenchFailure
 }
 
 /// The same of a text that is one of the table before.
-pub(crate) fn placed(
-    meter: &mut Meter<'_>,
-    alloc: Global,
-    text: &str,
-) -> Result<usize, BenchFailure> {
+pub(crate) fn placed(meter: &mut Meter<'_>, alloc: Global, text: &str) -> Result<usize, Fail> {
     let mut files = Files::new(alloc);
     let name = Text::copy(alloc, "deny.toml")?;
     let source = Text::copy(alloc, text)?;

@@ -20,12 +20,7 @@ impl<'r> Meter<'r> {
 
     /// The nanoseconds since the start; 0 where the clock can't be read.
     pub(crate) fn nanoseconds(&self) -> u128 {
-        match self.begun {
-            Some(begun) => match begun.elapsed(self.rt) {
-                Ok(took) => took.as_nanos(),
-                Err(_) => 0,
-            },
-            None => 0,
-        }
+        let took = self.begun.and_then(|begun| begun.elapsed(self.rt).ok());
+        took.map_or(0, |took| took.as_nanos())
     }
 }

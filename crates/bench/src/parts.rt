@@ -1,11 +1,11 @@
 //! The parts that are measured, each over one text. bench/yardstick.rs does the work of most in plain Rust.
-use crate::failed::BenchFailure;
 use crate::files;
 use crate::meter::Meter;
-use crate::texts::{ENTRY_LINE, ENTRY_LINES, LICENCE, PATHS, RETURNS, Recipe};
+use crate::texts::{ENTRY_LINE, ENTRY_LINES, LICENCE, PATHS, RETURNS};
 use deny_text::hash::hash;
 use deny_text::normal::normalize;
 use std::alloc::{AllocError, Global};
+use std::test::Fail;
 
 /// What is done with a text.
 #[derive(Clone, Copy)]
@@ -18,22 +18,22 @@ pub(crate) enum Work {
     Places,
 }
 
-/// A part: its name, the text that it takes, and how large that is where no size is given.
+/// A part: its name, what the text has again and again that it takes, and how often where no size is given.
 pub(crate) struct BenchPart {
     pub(crate) name: &'static str,
     work: Work,
-    pub(crate) recipe: Recipe,
+    pub(crate) piece: &'static str,
     pub(crate) small: usize,
 }
 
 /// The parts: beside the name of each its work, its text and the size of that.
 macro_rules! parts {
-    ($($name:literal: $work:ident of $recipe:ident, $small:literal;)*) => {
+    ($($name:literal: $work:ident of $piece:ident, $small:literal;)*) => {
         [
             $(BenchPart {
                 name: $name,
                 work: Work::$work,
-                recipe: $recipe,
+                piece: $piece,
                 small: $small,
             },)*
         ]
@@ -62,13 +62,13 @@ impl BenchPart {
         meter: &mut Meter<'_>,
         alloc: Global,
         text: &str,
-    ) -> Result<usize, BenchFailure> {
+    ) -> Result<usize, Fail> {
         match self.work {
             Work::Hash => Ok(hash(text.as_bytes()) as usize),
             Work::Normal => Ok(normal_length(alloc, text)?),
             Work::AddPaths => files::added(alloc, text),
-            Work::LookUp => files::looked_up(meter, alloc, text),
-            Work::LookUpAbsent => files::looked_up_absent(meter, alloc, text),
+            Work::LookUp => files::looked_up(meter, alloc, text, ""),
+            Work::LookUpAbsent => files::looked_up(meter, alloc, text, "/Cargo.toml"),
             Work::Places => files::placed(meter, alloc, text),
         }
     }

@@ -1,51 +1,30 @@
-//! Texts that are made in memory, of any size.
+//! Texts that are made in memory, of any size, and what each has again and again.
 use std::alloc::{AllocError, Global};
 
-/// What a text has so many times: a piece; behind it, in some texts, the number of the time and a further piece.
-pub(crate) struct Recipe {
-    piece: &'static str,
-    numbered: Option<&'static str>,
-}
+/// A line of 64 bytes.
+pub(crate) const LICENCE: &str =
+    "Permission is hereby granted, free of charge, to any person who\n";
 
-/// Lines of 64 bytes.
-pub(crate) const LICENCE: Recipe = Recipe {
-    piece: "Permission is hereby granted, free of charge, to any person who\n",
-    numbered: None,
-};
+/// A line with a CR before the LF.
+pub(crate) const RETURNS: &str = "Permission is hereby granted, free of charge, to any person\r\n";
 
-/// Lines with a CR before the LF.
-pub(crate) const RETURNS: Recipe = Recipe {
-    piece: "Permission is hereby granted, free of charge, to any person\r\n",
-    numbered: None,
-};
+/// A path in a line.
+pub(crate) const PATHS: &str =
+    "/home/user/.cargo/registry/src/index.crates.io-1949cf8c6b5b557f/crate-#/Cargo.toml\n";
 
-/// A path in each line.
-pub(crate) const PATHS: Recipe = Recipe {
-    piece: "/home/user/.cargo/registry/src/index.crates.io-1949cf8c6b5b557f/crate-",
-    numbered: Some("/Cargo.toml\n"),
-};
+/// An entry of 14 bytes, on a line and without a line end.
+pub(crate) const ENTRY_LINES: &str = "\"licence-é\",\n";
 
-/// Entries of 14 bytes, on a line each and on one line.
-pub(crate) const ENTRY_LINES: Recipe = Recipe {
-    piece: "\"licence-é\",\n",
-    numbered: None,
-};
+pub(crate) const ENTRY_LINE: &str = "\"licence-é\", ";
 
-pub(crate) const ENTRY_LINE: Recipe = Recipe {
-    piece: "\"licence-é\", ",
-    numbered: None,
-};
-
-impl Recipe {
-    /// The text that has its pieces so many times.
-    pub(crate) fn made(&self, alloc: Global, count: usize) -> Result<String, AllocError> {
-        let mut out = String::new(alloc);
-        for number in 0..count {
-            out.push_str(self.piece)?;
-            if let Some(end) = self.numbered {
-                write!(out, "{number}{end}")?;
-            }
+/// The text that has a piece so many times, with the number of the time in place of a `#`.
+pub(crate) fn repeated(alloc: Global, piece: &str, count: usize) -> Result<String, AllocError> {
+    let mut out = String::new(alloc);
+    for number in 0..count {
+        match piece.split_once('#') {
+            Some((front, back)) => write!(out, "{front}{number}{back}")?,
+            None => out.push_str(piece)?,
         }
-        Ok(out)
     }
+    Ok(out)
 }

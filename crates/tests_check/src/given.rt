@@ -8,23 +8,8 @@ use policy_parts::{FileSources, LintLevel, Private, SpannedTexts};
 use semver::Version;
 use spdx_core::{Expression, ParseMode, Table};
 use std::alloc::Global;
+use tests_files::tree::number_in;
 use url::Url;
-
-/// The two texts beside a bar.
-pub fn beside_bar(text: &str) -> (&str, &str) {
-    let (one, other) = text.split_once('|').unwrap_or((text, ""));
-    (one.trim(), other.trim())
-}
-
-/// The first word of a text, and the others.
-pub fn first_word(text: &str) -> (&str, &str) {
-    text.split_once(' ').unwrap_or((text, ""))
-}
-
-/// A number; 0 where the word is none.
-pub fn number(word: &str) -> usize {
-    word.parse::<usize>().unwrap_or(0)
-}
 
 /// What a piece of a text may be read as.
 pub trait Piece: Drop {
@@ -46,7 +31,7 @@ pub fn list_of<T: Piece>(alloc: Global, text: &str, mark: char) -> Option<ListOf
 
 impl Piece for usize {
     fn read(_alloc: Global, piece: &str) -> Option<usize> {
-        Some(number(piece))
+        Some(number_in(piece))
     }
 }
 
@@ -62,18 +47,16 @@ impl Piece for Url {
     }
 }
 
-/// Where all names are that rows have.
-const NOWHERE: Span = Span { start: 0, end: 0 };
+/// What a row names, which is nowhere.
+fn nowhere<T>(value: T) -> Spanned<T> {
+    let span = Span { start: 0, end: 0 };
+    Spanned { value, span }
+}
 
 impl Piece for Licensee {
     fn read(alloc: Global, piece: &str) -> Option<Licensee> {
-        match spdx_core::Licensee::parse_mode(alloc, piece, ParseMode::STRICT, &Table) {
-            Ok(value) => Some(Licensee(Spanned {
-                value,
-                span: NOWHERE,
-            })),
-            Err(_) => None,
-        }
+        let read = spdx_core::Licensee::parse_mode(alloc, piece, ParseMode::STRICT, &Table);
+        read.ok().map(|value| Licensee(nowhere(value)))
     }
 }
 
@@ -82,21 +65,16 @@ impl Piece for ValidException {
     fn read(alloc: Global, piece: &str) -> Option<ValidException> {
         let (krate, names) = piece.split_once(':').unwrap_or((piece, ""));
         let name = Text::copy(alloc, krate.trim()).ok();
-        match name.zip(list_of::<Licensee>(alloc, names, ' ')) {
-            Some((value, allowed)) => Some(ValidException {
-                spec: PackageSpec {
-                    name: Spanned {
-                        value,
-                        span: NOWHERE,
-                    },
-                    version_req: None,
-                },
-                allowed,
-                license_files: FileSources::new(alloc),
-                file_id: 0,
-            }),
-            None => None,
-        }
+        let parts = name.zip(list_of::<Licensee>(alloc, names, ' '));
+        parts.map(|(name, allowed)| ValidException {
+            spec: PackageSpec {
+                name: nowhere(name),
+                version_req: None,
+            },
+            allowed,
+            license_files: FileSources::new(alloc),
+            file_id: 0,
+        })
     }
 }
 
@@ -113,24 +91,22 @@ pub fn krate_of(
 ) -> Option<Krate> {
     let names = Text::copy(alloc, "a").ok().zip(Text::copy(alloc, "a").ok());
     let path = PathBuf::copy(alloc, "/w/Cargo.toml").ok();
-    match names.zip(path).zip(publish.zip(source)) {
-        Some((((id, name), manifest_path), (publish, source))) => Some(Krate {
-            name,
-            id,
-            version: Version::new(1, 0, 0),
-            source,
-            authors: Texts::new(alloc),
-            repository: None,
-            description: None,
-            manifest_path,
-            license: None,
-            license_file: None,
-            features: TextMap::new(alloc),
-            publish,
-            rust_version: None,
-        }),
-        None => None,
-    }
+    let parts = names.zip(path).zip(publish.zip(source));
+    parts.map(|(((id, name), manifest_path), (publish, source))| Krate {
+        name,
+        id,
+        version: Version::new(1, 0, 0),
+        source,
+        authors: Texts::new(alloc),
+        repository: None,
+        description: None,
+        manifest_path,
+        license: None,
+        license_file: None,
+        features: TextMap::new(alloc),
+        publish,
+        rust_version: None,
+    })
 }
 
 /// The allowed licences, and the exceptions, in version 1. Private crates, which are passed over or not, are those of the registries
@@ -140,25 +116,23 @@ pub fn policy(alloc: Global, allow: &str, excepted: &str, ignore: bool) -> Optio
     let licences = allowed.zip(list_of::<ValidException>(alloc, excepted, ';'));
     let registries = list_of::<Text>(alloc, "mine ours", ' ');
     let private = registries.zip(list_of::<Url>(alloc, "https://h/a", ' '));
-    match licences.zip(private) {
-        Some(((allowed, exceptions), (registries, ignore_sources))) => Some(ValidConfig {
-            file_id: 0,
-            version: 1,
-            private: Private {
-                ignore,
-                ignore_sources: SpannedTexts::new(alloc),
-                registries,
-            },
-            unused_allowed_license: LintLevel::Warn,
-            unused_license_exception: LintLevel::Warn,
-            confidence_threshold: 80,
-            allowed,
-            clarifications: ValidClarifications::new(alloc),
-            exceptions,
-            ignore_sources,
-            include_dev: false,
-            include_build: true,
-        }),
-        None => None,
-    }
+    let parts = licences.zip(private);
+    parts.map(|((allowed, exceptions), (registries, ignore_sources))| ValidConfig {
+        file_id: 0,
+        version: 1,
+        private: Private {
+            ignore,
+            ignore_sources: SpannedTexts::new(alloc),
+            registries,
+        },
+        unused_allowed_license: LintLevel::Warn,
+        unused_license_exception: LintLevel::Warn,
+        confidence_threshold: 80,
+        allowed,
+        clarifications: ValidClarifications::new(alloc),
+        exceptions,
+        ignore_sources,
+        include_dev: false,
+        include_build: true,
+    })
 }

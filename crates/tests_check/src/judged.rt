@@ -2,7 +2,7 @@
 ghost use Rattle.std.specs.Prelude.{◌≡◌, ◌<◌};
 
 use crate::Check;
-use crate::given::{beside_bar, expression, krate_of, list_of, policy};
+use crate::given::{expression, krate_of, list_of, policy};
 use check_core::evaluate::{Evaluator, Hit, TermPlaces, Verdict};
 use deny_text::{Steps, Text, Texts};
 use graph_core::{Krate, Source};
@@ -12,6 +12,7 @@ use spdx_core::Expression;
 use std::alloc::Global;
 use std::marker::Brand;
 use std::sync::ledger::{Blank, Ledger};
+use tests_files::tree::pair_of;
 use tests_files::{AnswerText, Shown};
 
 fn put_places(out: &mut AnswerText, of: &str, places: &TermPlaces) {
@@ -94,20 +95,18 @@ impl Shown<Check> for Judged {
 }
 
 fn judged_of(alloc: Global, text: &str) -> Option<Judged> {
-    let (text, lists) = beside_bar(text);
-    let (allow, lists) = beside_bar(lists);
-    let (exceptions, counted) = beside_bar(lists);
+    let (text, lists) = pair_of(text);
+    let (allow, lists) = pair_of(lists);
+    let (exceptions, counted) = pair_of(lists);
     let counted = list_of::<usize>(alloc, counted, ' ');
     let policy = policy(alloc, allow, exceptions, true);
-    match expression(alloc, text).zip(counted).zip(policy) {
-        Some(((expression, counted), policy)) => Some(Judged {
-            alloc,
-            expression,
-            counted,
-            policy,
-        }),
-        None => None,
-    }
+    let parts = expression(alloc, text).zip(counted).zip(policy);
+    parts.map(|((expression, counted), policy)| Judged {
+        alloc,
+        expression,
+        counted,
+        policy,
+    })
 }
 
 /// The verdict on an expression; behind bars are the allowed licences, the exceptions, and the places of those that count.
@@ -120,20 +119,16 @@ fn registries(alloc: Global, words: &str) -> Option<Option<Texts>> {
     match words {
         "anywhere" => Some(None),
         "nowhere" => Some(Some(Texts::new(alloc))),
-        _ => match list_of::<Text>(alloc, words, ' ') {
-            Some(names) => Some(Some(names)),
-            None => None,
-        },
+        _ => list_of::<Text>(alloc, words, ' ').map(Some),
     }
 }
 
 fn source_of(alloc: Global, from: &str) -> Option<Option<Source>> {
     match from {
         "" => Some(None),
-        _ => match Source::from_metadata(alloc, from, None, "index") {
-            Ok(source) => Some(Some(source)),
-            Err(_) => None,
-        },
+        _ => Source::from_metadata(alloc, from, None, "index")
+            .ok()
+            .map(Some),
     }
 }
 
@@ -146,17 +141,15 @@ struct PassedOver {
 }
 
 fn passed_over(alloc: Global, text: &str) -> Option<PassedOver> {
-    let (words, from) = beside_bar(text);
+    let (words, from) = pair_of(text);
     let krate = krate_of(alloc, registries(alloc, words), source_of(alloc, from));
     let policies = policy(alloc, "", "", true).zip(policy(alloc, "", "", false));
-    match krate.zip(policies) {
-        Some((krate, (ignoring, judging))) => Some(PassedOver {
-            krate,
-            ignoring,
-            judging,
-        }),
-        None => None,
-    }
+    let parts = krate.zip(policies);
+    parts.map(|(krate, (ignoring, judging))| PassedOver {
+        krate,
+        ignoring,
+        judging,
+    })
 }
 
 fn yes_or_no(is_so: bool) -> &'static str {

@@ -1,9 +1,8 @@
 //! Where a field stands: what each `locate` of a case comes to, one after another, over one tree and one table.
-use crate::given::{first_word, number};
 use deny_text::{PathBuf, Text};
 use diag_core::Files;
 use gather_license::location::{LocatedField, locate};
-use tests_files::tree::tree_of;
+use tests_files::tree::{fail_call, first_word, tree_of};
 use tests_files::{AnswerText, Asked};
 use tree_core::MemTree;
 
@@ -16,12 +15,8 @@ fn put_located(out: &mut AnswerText, located: &LocatedField, files: &Files) {
     if let Some(read) = &located.read {
         write!(out, "; {} {:?}", read.path, read.answer);
     }
-    let mut count: usize = 0;
-    for id in 0..4 {
-        if files.name(id).is_ok() {
-            count = count.saturating_add(1);
-        }
-    }
+    let ids = 0..4usize;
+    let count = ids.filter(|id| files.name(*id).is_ok()).count();
     write!(out, "; {count} files\n");
 }
 
@@ -29,11 +24,7 @@ fn put_located(out: &mut AnswerText, located: &LocatedField, files: &Files) {
 fn add_file(asked: &Asked<'_>, out: &mut AnswerText, files: &mut Files, path: &str, text: &str) {
     let path = PathBuf::copy(asked.alloc, path).ok();
     match path.zip(Text::copy(asked.alloc, text).ok()) {
-        Some((path, text)) => {
-            if files.add(path, text).is_err() {
-                out.cant_be_tried();
-            }
-        }
+        Some((path, text)) => out.needs(files.add(path, text)),
         None => out.want_memory(),
     }
 }
@@ -61,31 +52,18 @@ fn put_all(asked: &Asked<'_>, out: &mut AnswerText, tree: &mut MemTree) {
     let mut files = Files::new(asked.alloc);
     for entry in asked.case.own {
         match entry.key() {
-            "table" => {
-                let text = str::from_utf8(&entry.text).unwrap_or("no UTF-8");
-                add_file(asked, out, &mut files, entry.word(), text);
-            }
+            "table" => add_file(asked, out, &mut files, entry.word(), entry.below()),
             "locate" => put_field(asked, out, tree, &mut files, entry.word()),
             _ => {}
         }
     }
 }
 
-/// Lets the call of the tree fail that the case names, counted from 1.
-fn fail_call(asked: &Asked<'_>, out: &mut AnswerText, tree: &mut MemTree) {
-    let failing = number(asked.case.word("fail")) as u64;
-    if failing > 0 && tree.fail_call(failing).is_err() {
-        out.want_memory();
-    }
-}
-
-/// Where each field by the key `locate` is.
+/// Where each field by the key `locate` is, in the tree of the case, of which the call fails that it names.
 pub fn put_each(asked: &Asked<'_>, out: &mut AnswerText) {
-    match tree_of(asked.alloc, &asked.case) {
-        Ok(mut tree) => {
-            fail_call(asked, out, &mut tree);
-            put_all(asked, out, &mut tree);
-        }
-        Err(_) => out.cant_be_tried(),
-    }
+    let Ok(mut tree) = tree_of(asked.alloc, &asked.case) else {
+        return out.cant_be_tried();
+    };
+    out.tries(fail_call(&mut tree, asked.case.word("fail")));
+    put_all(asked, out, &mut tree);
 }

@@ -2,7 +2,7 @@
 ghost use Rattle.std.specs.Prelude.{◌≡◌, ◌<◌};
 
 use crate::Check;
-use crate::given::{beside_bar, expression, krate_of, list_of, policy};
+use crate::given::{expression, krate_of, list_of, policy};
 use check_record::{Record, RecordError, decode, encode};
 use check_verify::{NoReason, VerifyAnswer, verify};
 use deny_text::{Bytes, ListOf, Steps, Texts};
@@ -15,6 +15,7 @@ use policy_core::valid::{CountedPolicy, ValidConfig};
 use std::alloc::{AllocError, Global};
 use std::marker::Brand;
 use std::sync::ledger::{Blank, Ledger};
+use tests_files::tree::{first_word, pair_of};
 use tests_files::{AnswerText, Shown};
 use tree_core::Reads;
 
@@ -42,7 +43,7 @@ fn record_in(alloc: Global, lines: &str) -> Option<Record> {
     file.put("deny-record 1\n");
     for line in lines.split_terminator(';') {
         let line = line.trim();
-        let (id, verdict) = line.split_once(' ').unwrap_or((line, ""));
+        let (id, verdict) = first_word(line);
         let count = id.len();
         write!(file, "c {count}:{id} {verdict}\n");
     }
@@ -66,10 +67,10 @@ struct Words<'w> {
 }
 
 fn words_of(text: &str) -> Words<'_> {
-    let (expression, rest) = beside_bar(text);
-    let (allow, rest) = beside_bar(rest);
-    let (exceptions, rest) = beside_bar(rest);
-    let (counted, lines) = beside_bar(rest);
+    let (expression, rest) = pair_of(text);
+    let (allow, rest) = pair_of(rest);
+    let (exceptions, rest) = pair_of(rest);
+    let (counted, lines) = pair_of(rest);
     Words {
         expression,
         allow,
@@ -102,16 +103,14 @@ fn krate_named(alloc: Global, expression: &str) -> Option<Krate> {
 fn recorded_of<'w>(alloc: Global, words: Words<'w>) -> Option<Recorded<'w>> {
     let policy = policy(alloc, words.allow, words.exceptions, true);
     let krate = krate_named(alloc, words.expression);
-    match policy.zip(krate).zip(record_in(alloc, words.lines)) {
-        Some(((policy, krate), verdicts)) => Some(Recorded {
-            alloc,
-            words,
-            policy,
-            krate,
-            verdicts,
-        }),
-        None => None,
-    }
+    let parts = policy.zip(krate).zip(record_in(alloc, words.lines));
+    parts.map(|((policy, krate), verdicts)| Recorded {
+        alloc,
+        words,
+        policy,
+        krate,
+        verdicts,
+    })
 }
 
 /// The licence of a crate; there is none of one that is private or has none.
@@ -119,27 +118,22 @@ fn license(alloc: Global, text: &str) -> Option<LicenseInfo> {
     if text == "none" || text == "private" {
         return Some(LicenseInfo::Unlicensed);
     }
-    match expression(alloc, text) {
-        Some(expr) => Some(LicenseInfo::SpdxExpression {
-            expr,
-            nfo: LicenseExprInfo {
-                file_id: 0,
-                offset: 0,
-                whole: None,
-                source: LicenseExprSource::UserOverride,
-            },
-        }),
-        None => None,
-    }
+    expression(alloc, text).map(|expr| LicenseInfo::SpdxExpression {
+        expr,
+        nfo: LicenseExprInfo {
+            file_id: 0,
+            offset: 0,
+            whole: None,
+            source: LicenseExprSource::UserOverride,
+        },
+    })
 }
 
 /// A list of one item.
 fn one_of<T: Drop>(alloc: Global, item: T) -> Option<ListOf<T>> {
     let mut list = ListOf::new(alloc);
-    match list.push(item) {
-        Ok(()) => Some(list),
-        Err(_) => None,
-    }
+    list.push(item).ok()?;
+    Some(list)
 }
 
 /// What was gathered of the crate.
@@ -158,28 +152,21 @@ fn gathered_of<'r>(recorded: &'r Recorded<'r>) -> Option<Gathered<'r>> {
     } = recorded;
     let alloc = *alloc;
     let counted = list_of::<usize>(alloc, words.counted, ' ');
-    let license = match license(alloc, words.expression).zip(counted) {
-        Some((lic_info, exceptions)) => one_of(
-            alloc,
-            KrateLicense {
-                krate,
-                lic_info,
-                notes: Notes::new(alloc),
-                diags: Diags::new(alloc),
-                reads: Reads::new(alloc),
-                exceptions,
-                kept: KeptFiles::new(alloc),
-            },
-        ),
-        None => None,
-    };
-    match license {
-        Some(nfos) => Some(Gathered {
-            recorded,
-            summary: Summary { nfos },
-        }),
-        None => None,
-    }
+    let parts = license(alloc, words.expression).zip(counted);
+    let license = parts.map(|(lic_info, exceptions)| KrateLicense {
+        krate,
+        lic_info,
+        notes: Notes::new(alloc),
+        diags: Diags::new(alloc),
+        reads: Reads::new(alloc),
+        exceptions,
+        kept: KeptFiles::new(alloc),
+    });
+    let licenses = license.and_then(|license| one_of(alloc, license));
+    licenses.map(|nfos| Gathered {
+        recorded,
+        summary: Summary { nfos },
+    })
 }
 
 /// Whether a record is right about what was gathered.

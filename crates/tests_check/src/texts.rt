@@ -1,12 +1,12 @@
 //! Fields, their places in manifests and in expressions with slashes, thresholds, and texts that are written in place of a manifest.
 use crate::Check;
-use crate::given::{first_word, number};
 use deny_text::Span;
 use diag_core::texts::{FileNote, Synthetic, TextPiece, correct_span, license_span};
 use gather_core::cut_threshold;
 use gather_license::expression::field;
 use spdx_core::{Expression, Table};
 use std::alloc::{AllocError, Global};
+use tests_files::tree::{first_word, number_in};
 use tests_files::{AnswerText, Asked, CaseEntry, Shown};
 
 /// How many terms an expression has.
@@ -34,8 +34,8 @@ pub fn put_place(words: &str, out: &mut AnswerText) {
     let (start, rest) = first_word(words);
     let (end, text) = first_word(rest);
     let mut span = Span {
-        start: number(start),
-        end: number(end),
+        start: number_in(start),
+        end: number_in(end),
     };
     correct_span(text, &mut span);
     write!(out, "{} {}", span.start, span.end);
@@ -68,7 +68,7 @@ fn note_of(words: &str) -> FileNote<'_> {
 /// Writes what an entry names.
 fn write_entry(alloc: Global, text: &mut Synthetic, entry: &CaseEntry) -> Result<(), AllocError> {
     let (first, rest) = first_word(entry.word());
-    let piece = str::from_utf8(&entry.text).unwrap_or("no UTF-8");
+    let piece = entry.below();
     match entry.key() {
         "plain" => text.write(TextPiece::Plain(piece)),
         "marked" => text.write(TextPiece::Marked(piece)),
@@ -100,9 +100,7 @@ fn put_spans(out: &mut AnswerText, text: &Synthetic, is_cut: bool) {
 pub fn put_written(asked: &Asked<'_>, out: &mut AnswerText) {
     let mut text = Synthetic::new(asked.alloc);
     for entry in asked.case.own {
-        if write_entry(asked.alloc, &mut text, entry).is_err() {
-            out.want_memory();
-        }
+        out.needs(write_entry(asked.alloc, &mut text, entry));
     }
     match asked.group {
         "text" => out.put(text.text()),

@@ -71,9 +71,8 @@ fn keeps_the_last_value(rt: HostRuntime) {
     let mut out = AnswerText::new(rt.alloc());
     let mut map = TextMap::new(rt.alloc());
     for (key, value) in [("b", 1), ("a", 2), ("b", 3), ("", 4)] {
-        if put_inserted(rt.alloc(), &mut out, &mut map, key, value).is_err() {
-            out.want_memory();
-        }
+        let inserted = put_inserted(rt.alloc(), &mut out, &mut map, key, value);
+        out.needs(inserted);
     }
     put_map(&mut out, &map);
     let wanted = "None None Some(1) None []=4 [a]=2 [b]=3 Some(2) None 3 false";

@@ -8,9 +8,8 @@ use diag_core::{
 };
 use run_request::FromWord;
 use std::alloc::{AllocError, Global};
+use tests_files::tree::{first_word, number_in, pair_of};
 use tests_files::{AnswerText, Asked, Room, Shown, Told};
-use tests_text::calls::{number_in, put_made};
-use tests_text::paths::pair_of;
 use tree_core::TreeError;
 
 pub fn severity_named(name: &str) -> Severity {
@@ -108,16 +107,14 @@ fn overrides_of(out: &mut AnswerText, alloc: Global, words: &str) -> DiagnosticO
         level_overrides: LevelPairs::new(alloc),
     };
     for word in words.split(' ') {
-        if take(alloc, &mut overrides, word).is_err() {
-            out.want_memory();
-        }
+        out.needs(take(alloc, &mut overrides, word));
     }
     overrides
 }
 
 /// Puts the level that overrides give to a finding that is as `CODE LEVEL`.
 pub fn put_level(out: &mut AnswerText, overrides: &DiagnosticOverrides, finding: &str) {
-    let (name, level) = finding.split_once(' ').unwrap_or((finding, ""));
+    let (name, level) = first_word(finding);
     write!(out, "{:?}", overrides.get(name, severity_named(level)));
 }
 
@@ -154,13 +151,9 @@ fn put_packs(out: &mut AnswerText, alloc: Global, words: &str, findings: &str) {
     let mut sink = ErrorSink::new(alloc, Some(overrides_of(out, alloc, words)));
     let mut pack = Pack::new(alloc, Check::Licenses);
     for text in findings.split(", ") {
-        if push(alloc, &mut pack, text).is_err() {
-            out.want_memory();
-        }
+        out.needs(push(alloc, &mut pack, text));
     }
-    if sink.push(pack).is_err() {
-        out.want_memory();
-    }
+    out.needs(sink.push(pack));
     sink.put(out);
 }
 
@@ -175,7 +168,7 @@ fn tree_error_named(name: &str) -> TreeError {
 
 fn put_qualified(out: &mut AnswerText, alloc: Global, name: &str) {
     match code_named(name) {
-        Some(code) => put_made(out, code.qualified_str(alloc)),
+        Some(code) => out.printed(code.qualified_str(alloc)),
         None => out.put("none"),
     }
 }

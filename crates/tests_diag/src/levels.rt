@@ -6,14 +6,9 @@ use diag_stats::{AllStats, Stats, print_stats};
 use run_overrides::{OverrideError, overrides_of};
 use run_request::{CodeOrLevel, CodeOrLevels, FromWord, LintLevels};
 use std::alloc::{AllocError, Global};
+use tests_files::tree::{first_word, number_in, pair_of, written};
 use tests_files::{AnswerText, Asked, Room, Told};
-use tests_text::paths::pair_of;
 use tree_core::MemSink;
-
-/// What is before the first blank and behind it.
-fn cut(text: &str) -> (&str, &str) {
-    text.split_once(' ').unwrap_or((text, ""))
-}
 
 // ---- levels
 
@@ -35,10 +30,8 @@ fn levels_of(out: &mut AnswerText, alloc: Global, words: &str) -> LintLevels {
         deny: CodeOrLevels::new(alloc),
     };
     for uses in words.split('-') {
-        let (option, word) = cut(uses.trim());
-        if take(&mut levels, option, word).is_err() {
-            out.want_memory();
-        }
+        let (option, word) = first_word(uses.trim());
+        out.needs(take(&mut levels, option, word));
     }
     levels
 }
@@ -60,20 +53,16 @@ fn put_asked(out: &mut AnswerText, alloc: Global, words: &str, finding: &str) {
 
 // ---- summaries
 
-fn number(text: &str) -> u64 {
-    text.parse::<u64>().unwrap_or(0)
-}
-
 /// The errors, warnings, notes and helps of a text of four numbers.
 fn stats_named(text: &str) -> Stats {
-    let (errors, rest) = cut(text);
-    let (warnings, rest) = cut(rest);
-    let (notes, helps) = cut(rest);
+    let (errors, rest) = first_word(text);
+    let (warnings, rest) = first_word(rest);
+    let (notes, helps) = first_word(rest);
     Stats {
-        errors: number(errors),
-        warnings: number(warnings),
-        notes: number(notes),
-        helps: number(helps),
+        errors: number_in(errors) as u64,
+        warnings: number_in(warnings) as u64,
+        notes: number_in(notes) as u64,
+        helps: number_in(helps) as u64,
     }
 }
 
@@ -81,7 +70,7 @@ fn stats_named(text: &str) -> Stats {
 fn all_named(text: &str) -> AllStats {
     let mut stats = AllStats::default();
     for check in text.split(", ") {
-        let (name, numbers) = cut(check);
+        let (name, numbers) = first_word(check);
         let counted = Some(stats_named(numbers));
         match name {
             "advisories" => stats.advisories = counted,
@@ -96,7 +85,7 @@ fn all_named(text: &str) -> AllStats {
 
 /// Puts what a sink was given, behind a name, where it was given something.
 fn put_sink(out: &mut AnswerText, name: &str, sink: &MemSink) {
-    let text = str::from_utf8(sink.written()).unwrap_or("no text");
+    let text = written(sink);
     if !text.is_empty() {
         write!(out, "{name}: {text}");
     }
@@ -104,8 +93,8 @@ fn put_sink(out: &mut AnswerText, name: &str, sink: &MemSink) {
 
 /// What is printed of checks: a format, a level, and `shown` where the full form is asked for.
 fn form_of(words: &str) -> (LogContext, bool) {
-    let (format, rest) = cut(words);
-    let (level, shown) = cut(rest);
+    let (format, rest) = first_word(words);
+    let (level, shown) = first_word(rest);
     let log_ctx = LogContext {
         format: Format::from_word(format).unwrap_or(Format::Sarif),
         color: Color::Auto,

@@ -9,9 +9,9 @@ use diag_print::{
 };
 use run_request::FromWord;
 use std::alloc::{AllocError, Global};
-use tests_files::tree::number;
+use tests_files::tree::{first_word, number, number_in, written};
 use tests_files::{AnswerText, Asked, Case, CaseEntry, Comparison, Room, Shown, Told};
-use tests_text::calls::{CallWords, Called, number_in, put_answered};
+use tests_text::calls::{CallWords, Called, put_answered};
 use tree_core::MemSink;
 
 /// The bytes that are written as `6..12`.
@@ -21,22 +21,17 @@ fn span_of(word: &str) -> Span {
     Span { start, end }
 }
 
-/// The text below a key.
-fn text_of(entry: &CaseEntry) -> &str {
-    str::from_utf8(&entry.text).unwrap_or("no UTF-8")
-}
-
 /// A label in a file, which is by its number before the bytes; `place` is a place that becomes a label.
 fn label_of(alloc: Global, entry: &CaseEntry) -> Result<Label, AllocError> {
-    let (style, place) = entry.word().split_once(' ').unwrap_or(("", ""));
-    let (file, span) = place.split_once(' ').unwrap_or((place, ""));
+    let (style, place) = first_word(entry.word());
+    let (file, span) = first_word(place);
     let (file, span) = (number_in(file), span_of(span));
     let label = match style {
         "primary" => Label::primary(alloc, file, span),
         "secondary" => Label::secondary(alloc, file, span),
         _ => Coord { file, span }.into_label(alloc),
     };
-    label.with_message(text_of(entry))
+    label.with_message(entry.below())
 }
 
 /// A finding with what an entry adds to it.
@@ -46,6 +41,7 @@ fn with_entry(
     entry: &CaseEntry,
 ) -> Result<Diagnostic, AllocError> {
     match entry.key() {
+        "finding" => Ok(Diagnostic::new(alloc, severity_named(entry.word()))),
         "code" => finding.with_code(entry.wanted()),
         "message" => finding.with_message(entry.wanted()),
         "note" => finding.with_note(entry.wanted()),
@@ -57,78 +53,19 @@ fn with_entry(
     }
 }
 
-/// Takes a finding, or what the last one has.
-fn take(
-    alloc: Global,
-    findings: &mut Vec<Diagnostic>,
-    entry: &CaseEntry,
-) -> Result<(), AllocError> {
-    if entry.key() == "finding" {
-        return Ok(findings.push(Diagnostic::new(alloc, severity_named(entry.word())))?);
-    }
-    match findings.pop() {
-        Some(finding) => Ok(findings.push(with_entry(alloc, finding, entry)?)?),
-        None => Ok(()),
-    }
-}
-
-/// The findings of a case, those of its base first.
-fn findings_of(alloc: Global, case: &Case<'_>) -> Result<Vec<Diagnostic>, AllocError> {
-    let mut findings = Vec::new(alloc);
-    for entries in [case.base, case.own] {
-        for entry in entries {
-            take(alloc, &mut findings, entry)?;
+/// The finding that begins at a place of some entries, with what those behind it add.
+fn finding_at(alloc: Global, entries: &[CaseEntry], place: usize) -> Result<Diag, AllocError> {
+    let mut finding = Diagnostic::new(alloc, Severity::Bug);
+    let mut begun: usize = 0;
+    for entry in entries.iter().skip(place) {
+        if entry.key() == "finding" {
+            begun = begun.saturating_add(1);
+        }
+        if begun == 1 {
+            finding = with_entry(alloc, finding, entry)?;
         }
     }
-    Ok(findings)
-}
-
-/// A pack without findings, about the crate of that id, if it has letters.
-fn pack_about(alloc: Global, id: &str) -> Result<Pack, AllocError> {
-    match id {
-        "" => Ok(Pack::new(alloc, Check::Licenses)),
-        _ => Ok(Pack::with_kid(alloc, Check::Licenses, Text::copy(alloc, id)?)),
-    }
-}
-
-/// A pack with findings; none where there is no memory for one.
-fn filled(mut pack: Pack, findings: Vec<Diagnostic>) -> Option<Pack> {
-    let mut is_whole = true;
-    for finding in findings {
-        match Diag::new(finding, None) {
-            Ok(finding) => is_whole = pack.push(finding).is_ok() & is_whole,
-            Err(_) => is_whole = false,
-        }
-    }
-    if is_whole { Some(pack) } else { None }
-}
-
-/// The findings of a case in a pack, about the crate that is behind the key `pack`.
-fn pack_of(alloc: Global, case: &Case<'_>) -> Option<Pack> {
-    let pack = pack_about(alloc, case.word("pack")).ok();
-    match pack.zip(findings_of(alloc, case).ok()) {
-        Some((pack, findings)) => filled(pack, findings),
-        None => None,
-    }
-}
-
-fn put_file(alloc: Global, files: &mut Files, entry: &CaseEntry) -> Result<(), AddError> {
-    let path = PathBuf::copy(alloc, entry.word())?;
-    files.add(path, Text::copy(alloc, text_of(entry))?)?;
-    Ok(())
-}
-
-/// The files of a case, those of its base first.
-fn files_of(alloc: Global, case: &Case<'_>) -> Result<Files, AddError> {
-    let mut files = Files::new(alloc);
-    for entries in [case.base, case.own] {
-        for entry in entries {
-            if entry.key() == "file" {
-                put_file(alloc, &mut files, entry)?;
-            }
-        }
-    }
-    Ok(files)
+    Diag::new(finding, None)
 }
 
 /// What a case says: its findings in a pack, and its files.
@@ -138,10 +75,43 @@ struct Given {
     files: Files,
 }
 
+/// A pack without findings, about the crate of that id, if it has letters; and no file.
+fn empty(alloc: Global, id: &str) -> Result<Given, AllocError> {
+    let pack = match id {
+        "" => Pack::new(alloc, Check::Licenses),
+        _ => Pack::with_kid(alloc, Check::Licenses, Text::copy(alloc, id)?),
+    };
+    let files = Files::new(alloc);
+    Ok(Given { pack, files })
+}
+
+impl Given {
+    fn add_file(&mut self, alloc: Global, entry: &CaseEntry) -> Result<(), AddError> {
+        let path = PathBuf::copy(alloc, entry.word())?;
+        self.files.add(path, Text::copy(alloc, entry.below())?)?;
+        Ok(())
+    }
+
+    /// Adds the findings and the files of some entries.
+    fn add(&mut self, alloc: Global, entries: &[CaseEntry]) -> Result<(), AddError> {
+        for (place, entry) in entries.iter().enumerate() {
+            match entry.key() {
+                "finding" => self.pack.push(finding_at(alloc, entries, place)?)?,
+                "file" => self.add_file(alloc, entry)?,
+                _ => {}
+            }
+        }
+        Ok(())
+    }
+}
+
+/// The findings and files of a case, those of its base first.
 fn given_of(alloc: Global, case: &Case<'_>) -> Option<Given> {
-    match pack_of(alloc, case).zip(files_of(alloc, case).ok()) {
-        Some((pack, files)) => Some(Given { pack, files }),
-        None => None,
+    let mut given = empty(alloc, case.word("pack")).ok()?;
+    if given.add(alloc, case.base).is_ok() && given.add(alloc, case.own).is_ok() {
+        Some(given)
+    } else {
+        None
     }
 }
 
@@ -163,12 +133,9 @@ impl Given {
         };
         let mut lock = printer.lock(sink);
         match pack.iter().next() {
-            Some(first) if asked.case.entry("pack").is_none() => {
-                if labels_are_inside(&first.diag, files) {
-                    Some(lock.print(alloc, &first.diag, files))
-                } else {
-                    None
-                }
+            Some(first)
+                if asked.case.entry("pack").is_none() && labels_are_inside(&first.diag, files) => {
+                Some(lock.print(alloc, &first.diag, files))
             }
             _ if pack_labels_are_inside(pack, files) => {
                 Some(lock.print_krate_pack(alloc, pack, files))
@@ -182,7 +149,7 @@ impl Given {
         match self.print(asked, &mut sink) {
             None => out.cant_be_tried(),
             Some(answer) if asked.group == "answer" => write!(out, "{answer:?}"),
-            Some(_) => out.put(str::from_utf8(sink.written()).unwrap_or("no UTF-8")),
+            Some(_) => out.put(written(&sink)),
         }
     }
 }
@@ -227,8 +194,8 @@ impl Room for Given {
         let (alloc, case, files) = (asked.alloc, &asked.case, &self.files);
         match asked.group {
             "inside" => put_answered(out, alloc, case.given("inside"), Inside { files }),
-            "kept" => match pack_of(alloc, case) {
-                Some(pack) => put_kept(out, pack),
+            "kept" => match given_of(alloc, case) {
+                Some(Given { pack, files: _ }) => put_kept(out, pack),
                 None => out.want_memory(),
             },
             "written" | "answer" => {
@@ -258,10 +225,6 @@ impl Room for Given {
 pub struct Printing;
 
 impl Room for Printing {
-    fn answer(&self, _asked: &Asked<'_>, _out: &mut AnswerText) -> Told {
-        Told::NoSuchGroup
-    }
-
     fn compare_runs(&self, compared: &mut Comparison<'_>, case: &Case<'_>) -> bool {
         compared.compare_ran(given_of(compared.alloc, case), case);
         true

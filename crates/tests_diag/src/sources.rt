@@ -2,9 +2,9 @@
 use deny_text::{PathBuf, Text};
 use diag_core::{AddError, FileId, Files};
 use std::alloc::{AllocError, Global};
+use tests_files::tree::{number_in, pair_of};
 use tests_files::{AnswerText, Asked, Told};
-use tests_text::calls::number_in;
-use tests_text::paths::{pair_of, put_option};
+use tests_text::paths::put_option;
 
 /// Adds a file with the first text, and gives it the second one later, where that has letters.
 fn put_file(alloc: Global, files: &mut Files, text: &str) -> Result<(), AllocError> {
@@ -28,7 +28,7 @@ fn put_place(out: &mut AnswerText, group: &str, files: &Files, number: usize) {
             write!(out, "{}: {source}", files.name(0).unwrap_or("no name"));
         }
         _ => match files.line_range(0, number) {
-            Ok(span) => write!(out, "{}..{}", span.start, span.end),
+            Ok(span) => out.put_span("", span),
             Err(error) => write!(out, "{error:?}"),
         },
     }
@@ -40,8 +40,8 @@ fn put_in_file(out: &mut AnswerText, asked: &Asked<'_>) {
     let (number, text) = asked.text.split_once(" in").unwrap_or(("1", asked.text));
     let mut files = Files::new(asked.alloc);
     let text = text.trim_start();
-    if text != "no file" && put_file(asked.alloc, &mut files, text).is_err() {
-        out.want_memory();
+    if text != "no file" {
+        out.needs(put_file(asked.alloc, &mut files, text));
     }
     put_place(out, asked.group, &files, number_in(number));
 }

@@ -46,10 +46,15 @@ impl CaseEntry {
         self.word.as_str()
     }
 
+    /// The text below it.
+    pub fn below(&self) -> &str {
+        str::from_utf8(&self.text).unwrap_or("no UTF-8")
+    }
+
     /// What it wants, or is given: the word behind its key, or else the text below it.
     pub fn wanted(&self) -> &str {
         if self.word().is_empty() {
-            str::from_utf8(&self.text).unwrap_or("no UTF-8")
+            self.below()
         } else {
             self.word()
         }
@@ -62,12 +67,7 @@ impl CaseEntry {
 }
 
 fn entry_among<'e>(entries: &'e [CaseEntry], key: &str) -> Option<&'e CaseEntry> {
-    for entry in entries {
-        if entry.key() == key {
-            return Some(entry);
-        }
-    }
-    None
+    entries.iter().find(|entry| entry.key() == key)
 }
 
 impl<'c> Case<'c> {
@@ -83,10 +83,7 @@ impl<'c> Case<'c> {
 
     /// The first entry of a key: of the case, or else of its base.
     pub fn entry(&self, key: &str) -> Option<&'c CaseEntry> {
-        match entry_among(self.own, key) {
-            Some(entry) => Some(entry),
-            None => entry_among(self.base, key),
-        }
+        entry_among(self.own, key).or(entry_among(self.base, key))
     }
 
     /// Whether the case says something by a key itself.
@@ -95,7 +92,7 @@ impl<'c> Case<'c> {
     }
 
     /// What is behind a key, or else this.
-    pub fn word_or(&self, key: &str, or: &'c str) -> &'c str {
+    pub fn word_or(&self, key: &str, or: &'static str) -> &'c str {
         match self.entry(key) {
             Some(entry) => entry.word(),
             None => or,
@@ -236,15 +233,11 @@ fn put(
 
 /// Whether a line begins a base or a case, and its name.
 fn beginning(line: &str) -> Option<(bool, &str)> {
-    if line == "case" || line == "base" {
-        return Some((false, ""));
-    }
-    match line.strip_prefix("case ") {
-        Some(name) => Some((false, name)),
-        None => match line.strip_prefix("base ") {
-            Some(name) => Some((true, name)),
-            None => None,
-        },
+    let (word, name) = line.split_once(' ').unwrap_or((line, ""));
+    match word {
+        "case" => Some((false, name)),
+        "base" => Some((!name.is_empty(), name)),
+        _ => None,
     }
 }
 
@@ -287,12 +280,8 @@ pub fn blocks_of(alloc: Global, compared: &mut Comparison<'_>, text: &str) -> Ve
 }
 
 fn block_named<'b>(blocks: &'b [Block], is_base: bool, name: &str) -> Option<&'b Block> {
-    for block in blocks {
-        if block.is_base == is_base && block.name.as_str() == name {
-            return Some(block);
-        }
-    }
-    None
+    let mut blocks = blocks.iter();
+    blocks.find(|block| block.is_base == is_base && block.name.as_str() == name)
 }
 
 /// The entries of a block's base; none where there is no such base.

@@ -250,12 +250,8 @@ pub fn is_read(line: &str) -> bool {
 
 /// Whether a file has rows: the first line of it that is read names a group.
 fn has_rows(text: &str) -> bool {
-    for line in text.lines() {
-        if is_read(line) {
-            return line.starts_with('[');
-        }
-    }
-    false
+    let first = text.lines().find(|line| is_read(*line));
+    first.is_some_and(|line| line.starts_with('['))
 }
 
 /// What is reported of the rows or the cases of a text.

@@ -29,8 +29,10 @@ pub enum Told {
 
 /// What answers the rows and cases of some files.
 pub trait Room {
-    /// Puts what a row or a case comes to.
-    fn answer(&self, asked: &Asked<'_>, out: &mut AnswerText) -> Told;
+    /// Puts what a row or a case comes to. A room whose files have no rows, and whose cases are run, answers nothing itself.
+    fn answer(&self, _asked: &Asked<'_>, _out: &mut AnswerText) -> Told {
+        Told::NoSuchGroup
+    }
 
     /// Runs a case, and compares what it came to, which is the room that answers (`Comparison::compare_ran`). Returns whether cases
     /// are run; where they are not, a case is asked as it is.

@@ -1,5 +1,6 @@
 //! What is written and let go piece by piece. A text keeps its own want of memory, so that those who write it have no exit for that;
 //! and a value is let go where its type is a parameter, so that nothing is proved there of what it is made of.
+use deny_text::Span;
 use std::alloc::{AllocError, Global};
 use std::fmt::Display;
 
@@ -30,23 +31,17 @@ impl AnswerText {
 
     /// Appends a piece.
     pub fn put(&mut self, piece: &str) {
-        if self.text.push_str(piece).is_err() {
-            self.is_whole = false;
-        }
+        self.is_whole = self.text.push_str(piece).is_ok() & self.is_whole;
     }
 
     /// What `write!` calls: `write!(out, "{start} {end}");`.
     pub fn write_fmt<D: Display + Drop>(&mut self, value: D) {
-        if self.text.write(value).is_err() {
-            self.is_whole = false;
-        }
+        self.is_whole = self.text.write(value).is_ok() & self.is_whole;
     }
 
     /// Appends a character.
     pub fn push(&mut self, letter: char) {
-        if self.text.push(letter).is_err() {
-            self.is_whole = false;
-        }
+        self.is_whole = self.text.push(letter).is_ok() & self.is_whole;
     }
 
     /// Begins again.
@@ -67,6 +62,27 @@ impl AnswerText {
             self.put(front);
             item.put(self);
             front = between;
+        }
+    }
+
+    /// Puts a text before each item of a list in brackets but the first, which is behind the opening one.
+    pub fn between(&mut self, between: &str) {
+        if !matches!(self.text.as_str().as_bytes().last(), Some(b'[' | b'{')) {
+            self.put(between);
+        }
+    }
+
+    /// Puts places as they are in a text, and what is before them.
+    pub fn put_span(&mut self, before: &str, span: Span) {
+        let Span { start, end } = span;
+        write!(self, "{before}{start}..{end}");
+    }
+
+    /// Puts what was made as it is printed, and lets it go.
+    pub fn printed<D: Display + Drop, E: Drop>(&mut self, made: Result<D, E>) {
+        match made {
+            Ok(value) => self.write_fmt(value),
+            Err(_) => self.want_memory(),
         }
     }
 
@@ -99,9 +115,19 @@ impl AnswerText {
         }
     }
 
+    /// Lets go what was made, and notes where there was no memory for it.
+    pub fn needs<T: Drop, E: Drop>(&mut self, made: Result<T, E>) {
+        self.is_whole = made.is_ok() & self.is_whole;
+    }
+
     /// Notes that there was no memory for something that was to be shown.
     pub fn want_memory(&mut self) {
         self.is_whole = false;
+    }
+
+    /// Notes where something that is asked can't be.
+    pub fn tries(&mut self, can_be: bool) {
+        self.is_tried = can_be & self.is_tried;
     }
 
     /// Notes that what is asked can't be: a file that can't be put, or a word that can't be read.

@@ -72,13 +72,9 @@ impl Tally {
 
 /// The line that a byte is in, counted from 1.
 fn line_at(bytes: &[u8], place: usize) -> u64 {
-    let mut line: u64 = 1;
-    for byte in bytes.iter().take(place) {
-        if *byte == b'\n' {
-            line = line.saturating_add(1);
-        }
-    }
-    line
+    let before = bytes.get(..place).unwrap_or(bytes);
+    let ends = before.iter().filter(|byte| **byte == b'\n').count() as u64;
+    ends.saturating_add(1)
 }
 
 /// The text of a file; none where it is no UTF-8, which is reported.

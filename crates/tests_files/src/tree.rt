@@ -1,16 +1,13 @@
-//! The tree of a case, and the values, words and numbers of it.
+//! The tree of a case, the values of it, and the words and numbers of texts.
 use crate::case::{Case, CaseEntry};
 use std::alloc::{AllocError, Global};
 use std::io;
-use tree_core::MemTree;
+use tree_core::{MemSink, MemTree};
 
 /// The value of an entry `let NAME = VALUE`, if it is of this name.
 fn value_in<'e>(entry: &'e CaseEntry, name: &str) -> Option<&'e str> {
-    if entry.key() != "let" {
-        return None;
-    }
     let (key, value) = entry.word().split_once(" =")?;
-    if key == name {
+    if entry.key() == "let" && key == name {
         Some(value.trim())
     } else {
         None
@@ -18,20 +15,12 @@ fn value_in<'e>(entry: &'e CaseEntry, name: &str) -> Option<&'e str> {
 }
 
 fn value_among<'e>(entries: &'e [CaseEntry], name: &str) -> Option<&'e str> {
-    for entry in entries {
-        if let Some(value) = value_in(entry, name) {
-            return Some(value);
-        }
-    }
-    None
+    entries.iter().find_map(|entry| value_in(entry, name))
 }
 
 /// A value by its name: of the case, or else of its base.
 fn value_of<'c>(case: &Case<'c>, name: &str) -> Option<&'c str> {
-    match value_among(case.own, name) {
-        Some(value) => Some(value),
-        None => value_among(case.base, name),
-    }
+    value_among(case.own, name).or(value_among(case.base, name))
 }
 
 /// Appends a piece behind a dollar sign, and returns whether it was the name of a value.
@@ -108,9 +97,39 @@ pub fn tree_of(alloc: Global, case: &Case<'_>) -> io::Result<MemTree> {
     Ok(tree)
 }
 
+/// Lets the call of a tree fail whose number is this word, counted from 1; at 0 and without a word none. Returns whether that could
+/// be done.
+pub fn fail_call(tree: &mut MemTree, word: &str) -> bool {
+    match number(word) {
+        Some(call) if call > 0 => tree.fail_call(call).is_ok(),
+        call => call.is_some() || word.is_empty(),
+    }
+}
+
+/// What was written.
+pub fn written(sink: &MemSink) -> &str {
+    str::from_utf8(sink.written()).unwrap_or("no UTF-8")
+}
+
+/// What is before a bar and behind it, without blanks at their ends.
+pub fn pair_of(text: &str) -> (&str, &str) {
+    let (one, other) = text.split_once('|').unwrap_or((text, ""));
+    (one.trim(), other.trim())
+}
+
+/// The first word of a text, and the others.
+pub fn first_word(text: &str) -> (&str, &str) {
+    text.split_once(' ').unwrap_or((text, ""))
+}
+
 /// A number, if the word is one.
 pub fn number(word: &str) -> Option<u64> {
     word.parse::<u64>().ok()
+}
+
+/// A number, or else 0.
+pub fn number_in(word: &str) -> usize {
+    word.parse::<usize>().unwrap_or(0)
 }
 
 /// The first and the last of a range of numbers, written as `7` or as `1..7`.

@@ -7,6 +7,7 @@ use graph_core::selection::{
 use graph_metadata::{Krate, MetaError, records};
 use graph_walk::{SelectingWalks, ShortestWalks, Unchecked, shortest_walks};
 use std::alloc::{AllocError, Global};
+use tests_files::tree::first_word;
 use tests_files::{AnswerText, Asked, Case, Shown};
 
 /// A line's crate without what tells of its publish list, that list, and what it depends on.
@@ -31,38 +32,31 @@ fn put_package(out: &mut AnswerText, line: &str) {
 }
 
 fn put_kinds(out: &mut AnswerText, kinds: &str) {
-    let mut is_first = true;
+    if kinds.is_empty() {
+        return out.put("}");
+    }
+    out.put(r#","dep_kinds":["#);
     for kind in kinds.split_whitespace() {
-        out.put(if is_first { r#","dep_kinds":["# } else { "," });
+        out.between(",");
         out.put(match kind {
             "none" => "",
             "dev" => r#"{"kind":"dev"}"#,
             "build" => r#"{"kind":"build"}"#,
             _ => r#"{"kind":null}"#,
         });
-        is_first = false;
     }
-    out.put(if kinds.is_empty() { "}" } else { "]}" });
-}
-
-/// Puts the comma before each item but the first.
-fn put_comma(out: &mut AnswerText, is_behind: bool) {
-    if is_behind {
-        out.put(",");
-    }
+    out.put("]}");
 }
 
 fn put_node(out: &mut AnswerText, line: &str) {
     let (plain, _, edges) = parts_of(line);
     let (id, _) = plain.split_once('=').unwrap_or((plain, ""));
     write!(out, r#"{{"id":"{id}","deps":["#);
-    let mut is_behind = false;
     for edge in edges.split_terminator(", ") {
-        let (to, kinds) = edge.split_once(' ').unwrap_or((edge, ""));
-        put_comma(out, is_behind);
+        let (to, kinds) = first_word(edge);
+        out.between(",");
         write!(out, r#"{{"pkg":"{to}""#);
         put_kinds(out, kinds);
-        is_behind = true;
     }
     out.put("]}");
 }
@@ -70,18 +64,14 @@ fn put_node(out: &mut AnswerText, line: &str) {
 /// Puts the graph of a case as `cargo metadata` would print it, with its members and its root crate.
 fn put_metadata(out: &mut AnswerText, case: &Case<'_>) {
     out.put(r#"{"packages":["#);
-    let mut is_behind = false;
     for line in case.given("graph").lines() {
-        put_comma(out, is_behind);
+        out.between(",");
         put_package(out, line);
-        is_behind = true;
     }
     out.put(r#"],"workspace_members":["#);
-    is_behind = false;
     for id in case.word("members").split_whitespace() {
-        put_comma(out, is_behind);
+        out.between(",");
         write!(out, r#""{id}""#);
-        is_behind = true;
     }
     out.put(r#"],"workspace_root":"/w","resolve":{"root":"#);
     match case.word("root") {
@@ -89,11 +79,9 @@ fn put_metadata(out: &mut AnswerText, case: &Case<'_>) {
         root => write!(out, r#""{root}""#),
     }
     out.put(r#","nodes":["#);
-    is_behind = false;
     for line in case.given("graph").lines() {
-        put_comma(out, is_behind);
+        out.between(",");
         put_node(out, line);
-        is_behind = true;
     }
     out.put("]}}");
 }
@@ -157,16 +145,14 @@ fn selection_of(asked: &Asked<'_>) -> Result<(Selection, usize), AllocError> {
 
 /// The graph of a case, and what a key selects of it.
 pub fn chosen_of<'a>(asked: &Asked<'a>) -> Option<Chosen<'a>> {
-    match graph_of(asked).ok().zip(selection_of(asked).ok()) {
-        Some((metadata, (selection, words))) => Some(Chosen {
-            alloc: asked.alloc,
-            key: asked.group,
-            metadata,
-            selection,
-            words,
-        }),
-        None => None,
-    }
+    let parts = graph_of(asked).ok().zip(selection_of(asked).ok());
+    parts.map(|(metadata, (selection, words))| Chosen {
+        alloc: asked.alloc,
+        key: asked.group,
+        metadata,
+        selection,
+        words,
+    })
 }
 
 /// The crates that are reached.

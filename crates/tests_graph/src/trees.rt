@@ -3,23 +3,10 @@ use crate::{Graph, put_made};
 use deny_text::{PathBuf, Texts};
 use run_context::{KrateContext, Krates, KratesError, gather_krates};
 use std::alloc::Global;
-use tests_files::tree::{number, tree_of};
+use tests_files::tree::{fail_call, tree_of};
 use tests_files::{AnswerText, Asked, Shown};
 use tree_core::texts::{SoughtFile, find_upwards};
 use tree_core::{MemTree, Tree};
-
-/// Makes the call with this number fail, or none where it is 0.
-fn fail_call(tree: &mut MemTree, word: &str, out: &mut AnswerText) {
-    match number(word) {
-        Some(0) => {}
-        Some(call) => {
-            if tree.fail_call(call).is_err() {
-                out.want_memory();
-            }
-        }
-        None => out.cant_be_tried(),
-    }
-}
 
 /// The crates that are gathered for a request, which is made in `/w` for the metadata at the path of a case.
 fn gathered(asked: &Asked<'_>, tree: &mut MemTree) -> Result<Krates, KratesError> {
@@ -64,7 +51,7 @@ pub fn put_gathered(asked: &Asked<'_>, out: &mut AnswerText) {
     };
     let mut is_behind = false;
     for word in asked.case.word_or("fail", "0").split_whitespace() {
-        fail_call(&mut tree, word, out);
+        out.tries(fail_call(&mut tree, word));
         out.put(if is_behind { "; " } else { "" });
         put_made(out, gathered(asked, &mut tree));
         is_behind = true;
@@ -87,13 +74,11 @@ pub fn put_searches(alloc: Global, text: &str, out: &mut AnswerText) {
     let (files, calls) = text.split_once(" | ").unwrap_or((text, ""));
     let mut tree = MemTree::new(alloc);
     for file in files.split_whitespace() {
-        if tree.put(file, b"").is_err() {
-            out.cant_be_tried();
-        }
+        out.needs(tree.put(file, b""));
     }
     let mut is_behind = false;
     for word in calls.split_whitespace() {
-        fail_call(&mut tree, word, out);
+        out.tries(fail_call(&mut tree, word));
         out.put(if is_behind { "; " } else { "" });
         put_found(alloc, &mut tree, SoughtFile::Policy, out);
         is_behind = true;

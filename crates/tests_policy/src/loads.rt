@@ -7,7 +7,7 @@ use diag_print::{Color, Format, LogContext};
 use policy_load::{LoadError, LoadedPolicy, PolicyPaths, load};
 use spdx_core::Table;
 use std::alloc::Global;
-use tests_files::tree::{number, tree_of};
+use tests_files::tree::{fail_call, tree_of, written};
 use tests_files::{AnswerText, Asked, Case, Room, Shown, Told, let_go};
 use tree_core::{MemSink, MemTree, Tree};
 
@@ -23,10 +23,7 @@ pub struct LoadEnding {
 fn path_of(alloc: Global, word: &str) -> Option<Option<PathBuf>> {
     match word {
         "" => Some(None),
-        path => match PathBuf::copy(alloc, path) {
-            Ok(path) => Some(Some(path)),
-            Err(_) => None,
-        },
+        path => PathBuf::copy(alloc, path).ok().map(Some),
     }
 }
 
@@ -57,22 +54,16 @@ fn ending_with(
 fn ending_in(alloc: Global, case: &Case<'_>, tree: &mut MemTree) -> Option<LoadEnding> {
     let policy = path_of(alloc, case.word("at"));
     let exceptions = path_of(alloc, case.word("exceptions"));
-    match policy
-        .zip(exceptions)
-        .zip(MemSink::new(alloc, 1000, 1000).ok())
-    {
-        Some(((policy, exceptions), sink)) => {
-            Some(ending_with(alloc, PolicyPaths { policy, exceptions }, tree, sink))
-        }
-        None => None,
-    }
+    let paths = policy.zip(exceptions);
+    let paths = paths.map(|(policy, exceptions)| PolicyPaths { policy, exceptions });
+    let parts = paths.zip(MemSink::new(alloc, 1000, 1000).ok());
+    parts.map(|(paths, sink)| ending_with(alloc, paths, tree, sink))
 }
 
 /// Loads the policy of a case, for a second time where the case wants that: the first read of the tree fails in both then.
 fn ending_over(alloc: Global, case: &Case<'_>, tree: &mut MemTree) -> Option<LoadEnding> {
-    match number(case.word("fail")) {
-        Some(call) if call > 0 => tree.fail_call(call).ok()?,
-        _ => {}
+    if !fail_call(tree, case.word("fail")) {
+        return None;
     }
     if case.entry("twice").is_some() {
         let_go(ending_in(alloc, case, tree));
@@ -83,10 +74,8 @@ fn ending_over(alloc: Global, case: &Case<'_>, tree: &mut MemTree) -> Option<Loa
 
 /// The same over the tree of the case; none where it can't be tried.
 pub fn ending_of(alloc: Global, case: &Case<'_>) -> Option<LoadEnding> {
-    match tree_of(alloc, case) {
-        Ok(mut tree) => ending_over(alloc, case, &mut tree),
-        Err(_) => None,
-    }
+    let mut tree = tree_of(alloc, case).ok()?;
+    ending_over(alloc, case, &mut tree)
 }
 
 /// What a policy allows, how many exceptions it has and its settings.
@@ -124,9 +113,7 @@ impl Room for LoadEnding {
             ("answer", Err(error)) => error.put(out),
             ("files", _) => put_files(out, &self.files),
             ("found", Err(LoadError::ConfigInvalid(found))) => put_findings(out, found),
-            ("printed" | "found", _) => {
-                out.put(str::from_utf8(self.sink.written()).unwrap_or("no UTF-8"));
-            }
+            ("printed" | "found", _) => out.put(written(&self.sink)),
             ("allowed", Ok(loaded)) => out.each::<Policy, _>("", loaded.licenses.allowed.items()),
             ("clarified", Ok(loaded)) => put_clarified(out, &loaded.licenses.clarifications),
             ("excepted", Ok(loaded)) => put_excepted(out, &loaded.licenses.exceptions),

@@ -146,10 +146,7 @@ pub fn put_table(asked: &Asked<'_>, out: &mut AnswerText) {
 
 /// The policy of a text, of which nothing is said: whoever calls this owes nothing of the contract.
 fn read_policy(alloc: Global, text: &str) -> Result<RootConfig, LoadError> {
-    match read_config(alloc, text, &Table) {
-        Ok(root) => Ok(root),
-        Err(error) => Err(LoadError::from(error)),
-    }
+    Ok(read_config(alloc, text, &Table)?)
 }
 
 /// A policy as it is written, and the key of what is told of it.
@@ -161,13 +158,8 @@ pub struct Written<'a> {
 
 /// The policy of a text, of which a group or a key tells.
 pub fn written_in<'a>(asked: &Asked<'a>, text: &str) -> Result<Written<'a>, LoadError> {
-    match read_policy(asked.alloc, text) {
-        Ok(root) => Ok(Written {
-            key: asked.group,
-            root,
-        }),
-        Err(error) => Err(error),
-    }
+    let key = asked.group;
+    read_policy(asked.alloc, text).map(|root| Written { key, root })
 }
 
 /// The fields of the whole policy or of its table `licenses`, or that it has no faults.
@@ -201,14 +193,10 @@ fn config_of(asked: &Asked<'_>) -> Result<Option<Config>, LoadError> {
         ),
     };
     let policy = format!(in asked.alloc; "{before}{}{behind}", asked.text)?;
-    match read_policy(asked.alloc, policy.as_str()) {
-        Ok(mut root) => {
-            let config = root.licenses.take();
-            let_go(root);
-            Ok(config)
-        }
-        Err(error) => Err(error),
-    }
+    let mut root = read_policy(asked.alloc, policy.as_str())?;
+    let config = root.licenses.take();
+    let_go(root);
+    Ok(config)
 }
 
 /// What is valid of a policy, and all that is reported of it.
@@ -235,10 +223,9 @@ fn validated(alloc: Global, config: Config) -> Result<Judged, AllocError> {
 
 /// What is valid of the policy that a row is a part of; none where that has no table `licenses`.
 pub fn judged_in(asked: &Asked<'_>) -> Result<Option<Judged>, LoadError> {
-    match config_of(asked) {
-        Ok(Some(config)) => Ok(Some(validated(asked.alloc, config)?)),
-        Ok(None) => Ok(None),
-        Err(error) => Err(error),
+    match config_of(asked)? {
+        Some(config) => Ok(Some(validated(asked.alloc, config)?)),
+        None => Ok(None),
     }
 }
 
@@ -283,10 +270,8 @@ fn words_left<'t>(
         return Ok(SpannedList::new(asked.alloc));
     }
     let mut words = words_of(asked.alloc, asked.text)?;
-    match context.dedup(asked.alloc, &mut words) {
-        Ok(()) => Ok(words),
-        Err(error) => Err(error),
-    }
+    context.dedup(asked.alloc, &mut words)?;
+    Ok(words)
 }
 
 /// The words of a row that are left, and all that is reported.

@@ -12,22 +12,18 @@ use policy_toml::DeserError;
 use std::fmt::Display;
 use tests_files::{AnswerText, Shown};
 
-pub fn put_span(out: &mut AnswerText, span: Span) {
-    write!(out, "{}..{}", span.start, span.end);
-}
-
 /// Puts places, each with a semicolon.
 pub fn put_spans(out: &mut AnswerText, spans: &[Span]) {
     for span in spans {
-        put_span(out, *span);
+        out.put_span("", *span);
         out.put(";");
     }
 }
 
 /// Puts a value and where it is there.
 fn put_at<T: Display>(out: &mut AnswerText, item: &Spanned<T>) {
-    write!(out, "{} at ", item.value);
-    put_span(out, item.span);
+    write!(out, "{}", item.value);
+    out.put_span(" at ", item.span);
 }
 
 pub fn put_texts(out: &mut AnswerText, name: &str, texts: &Texts) {
@@ -190,8 +186,7 @@ pub fn put_root(out: &mut AnswerText, root: &RootConfig) {
     out.put("\n");
     root.output.put(out);
     if let Some(span) = root.output_deprecated {
-        out.put(" at ");
-        put_span(out, span);
+        out.put_span(" at ", span);
     }
     out.put("\n");
 }
@@ -207,7 +202,7 @@ pub fn put_clarified(out: &mut AnswerText, clarifications: &ValidClarifications)
     for clarification in clarifications.items() {
         write!(out, "{} from ", clarification.expression);
         match clarification.whole {
-            Some(span) => put_span(out, span),
+            Some(span) => out.put_span("", span),
             None => write!(out, "{}", clarification.expr_offset),
         }
         put_sources(out, &clarification.license_files);
@@ -243,8 +238,8 @@ fn put_label(out: &mut AnswerText, label: &Label) {
         LabelStyle::Primary => "at",
         LabelStyle::Secondary => "and",
     };
-    let Span { start, end } = label.range;
-    write!(out, " {style} {}:{start}..{end}", label.file_id);
+    write!(out, " {style} {}", label.file_id);
+    out.put_span(":", label.range);
     if !label.message.as_str().is_empty() {
         out.put(" ");
         out.put(label.message.as_str());
@@ -277,7 +272,7 @@ pub fn put_findings(out: &mut AnswerText, found: &Diagnostics) {
 
 fn put_shape(out: &mut AnswerText, faults: &ShapeErrors) {
     for fault in faults.items() {
-        put_span(out, fault.span);
+        out.put_span("", fault.span);
         write!(out, " {fault};");
     }
 }
@@ -299,8 +294,8 @@ impl Shown<Policy> for LoadError {
             LoadError::Memory => out.want_memory(),
             LoadError::ConfigRead(fault) => write!(out, "{fault:?}"),
             LoadError::ConfigSyntax(fault) => {
-                write!(out, "{:?} ", fault.reason);
-                put_span(out, fault.span);
+                write!(out, "{:?}", fault.reason);
+                out.put_span(" ", fault.span);
             }
             LoadError::ConfigShape(faults) => put_shape(out, faults),
             LoadError::NotCarried => out.put("not carried"),

@@ -21,7 +21,7 @@ fn compare(rt: &HostRuntime, folder: &str) -> bool {
         "graph" => tests_graph::compare(rt),
         "policy" => tests_policy::compare(rt),
         "check" => tests_check::compare(rt),
-        "start" => tests_start::compare(rt),
+        "start" => tests_runner::compare_start(rt),
         "run" => tests_runner::compare(rt),
         "hostile" => tests_runner::compare_hostile(rt),
         _ => {

@@ -2,18 +2,20 @@
 ghost use Rattle.std.specs.Prelude.{◌≡◌, ◌≤◌, Some};
 ghost use Rattle.tree_core.specs.Faults.{count_after};
 
-use deny_text::Bytes;
+use deny_text::{Bytes, PathBuf};
 use std::alloc::Global;
 use tests_files::AnswerText;
-use tree_core::{FolderEntries, MemTree, Sink, SinkFailed, Tree, TreeError};
+use tree_core::{FolderEntries, MemTree, NamesPaths, Sink, SinkFailed, Tree, TreeError};
 
-/// A tree that counts its calls, and keeps a line for each: what was asked, the path, and the answer in a word.
+/// A tree that counts its calls, and keeps a line for each: what was asked, the path, and the answer in a word. It keeps the paths that
+/// it was given last.
 #[derive(Drop)]
 pub struct CountedTree {
     pub tree: MemTree,
     pub calls: u64,
     pub asked: AnswerText,
     pub failed: u64,
+    pub named: Vec<PathBuf>,
 }
 
 /// An answer in a word.
@@ -41,6 +43,7 @@ impl CountedTree {
             calls: 0,
             asked: AnswerText::new(alloc),
             failed,
+            named: Vec::new(alloc),
         }
     }
 
@@ -90,6 +93,12 @@ impl Tree for CountedTree {
 
     fn faults(&self) -> u64 {
         self.failed
+    }
+}
+
+impl NamesPaths for CountedTree {
+    fn name_paths(&mut self, paths: Vec<PathBuf>) {
+        self.named = paths;
     }
 }
 

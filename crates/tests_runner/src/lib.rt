@@ -1,13 +1,17 @@
-//! Cases of the whole run of the gate, which are in files: what a run is over, and what it comes to.
+//! Cases of the whole run of the gate, and of the process that it runs in, which are in files: what a run is over, and what it
+//! comes to.
 #![tactic(auto)]
 
 mod counted;
 mod identifiers;
+mod process;
 mod runs;
 mod seen;
 mod settings;
+mod start;
 
 use runs::RunCases;
+use start::Starts;
 use tests_files::compare_all;
 
 /// Files of cases: of the first path and failures, of what words ask for and how they are refused, of metadata, of
@@ -44,9 +48,17 @@ const HOSTILE: [&str; 5] = [
     "hostile/failures.txt",
 ];
 
+/// Files of rows and cases of the start of a process: how it ends, what it writes, and the paths that its words name.
+const STARTS: [&str; 3] = ["start/starts.txt", "start/helps.txt", "start/named.txt"];
+
 /// Compares the runs of the cases of the room, and returns whether nothing differs.
 pub fn compare(rt: &HostRuntime) -> bool {
     compare_all(rt, &FILES, &RunCases)
+}
+
+/// The same of the start of a process.
+pub fn compare_start(rt: &HostRuntime) -> bool {
+    compare_all(rt, &STARTS, &Starts)
 }
 
 /// The same of input that a stranger wrote, and of failures.

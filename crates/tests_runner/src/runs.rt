@@ -1,6 +1,6 @@
 //! The runs of a case: one for each call that fails, each length of a file that is cut, and each room of the sinks.
 use crate::settings::{Setting, calls_of, ending_of, laters_of, lengths_of, rooms_of};
-use tests_files::{AnswerText, Asked, Case, CaseEntry, Comparison, Room, Told};
+use tests_files::{Case, CaseEntry, Comparison, Room};
 
 /// Cases of whole runs.
 pub struct RunCases;
@@ -8,10 +8,8 @@ pub struct RunCases;
 /// Whether an entry may stand so: but for files and values each key stands once, and only files have a word and a text.
 fn is_right(case: &Case<'_>, entry: &CaseEntry) -> bool {
     let is_one = entry.word().is_empty() || entry.text.is_empty();
-    let is_first = match case.entry(entry.key()) {
-        Some(first) => first.line == entry.line,
-        None => false,
-    };
+    let first = case.entry(entry.key());
+    let is_first = first.is_some_and(|first| first.line == entry.line);
     match entry.key() {
         "file" => true,
         "let" => is_one,
@@ -39,54 +37,35 @@ fn compare_rooms(
     }
 }
 
-/// Compares the runs in which a call fails: one for each call behind it that fails too, and for each length of the file that is cut.
-fn compare_call(compared: &mut Comparison<'_>, whole: &Setting<'_>, call: u64) -> Option<()> {
-    let case = &whole.case;
+/// Compares the runs of a case: one for each call that fails, for each behind it that fails too, and for each length of the file
+/// that is cut. It is none where they can't be told.
+fn compare_runs(compared: &mut Comparison<'_>, case: &Case<'_>) -> Option<()> {
     let outs = rooms_of(case, "room-out", "out")?;
     let errs = rooms_of(case, "room-err", "err")?;
     let lengths = lengths_of(compared.alloc, case)?;
     let laters = laters_of(case)?;
-    for later in laters.0..=laters.1 {
-        for kept in lengths.0..lengths.1 {
-            if later == 0 || later > call {
-                let setting = Setting {
-                    call,
-                    later,
-                    kept,
-                    ..*whole
-                };
-                compare_rooms(compared, &setting, outs, errs);
+    let whole = Setting::whole(case, outs.1.saturating_sub(1), errs.1.saturating_sub(1));
+    let calls = calls_of(compared.alloc, &whole)?;
+    for call in calls.0..=calls.1 {
+        for later in laters.0..=laters.1 {
+            for kept in lengths.0..lengths.1 {
+                if later == 0 || later > call {
+                    let setting = Setting {
+                        call,
+                        later,
+                        kept,
+                        ..whole
+                    };
+                    compare_rooms(compared, &setting, outs, errs);
+                }
             }
         }
     }
     Some(())
 }
 
-/// Compares the runs of a case, and is none where they can't be told.
-fn compare_runs(compared: &mut Comparison<'_>, case: &Case<'_>) -> Option<()> {
-    let outs = rooms_of(case, "room-out", "out")?;
-    let errs = rooms_of(case, "room-err", "err")?;
-    let whole = Setting {
-        case: *case,
-        call: 0,
-        later: 0,
-        kept: usize::MAX,
-        out: outs.1.saturating_sub(1),
-        err: errs.1.saturating_sub(1),
-    };
-    let calls = calls_of(compared.alloc, &whole)?;
-    for call in calls.0..=calls.1 {
-        compare_call(compared, &whole, call)?;
-    }
-    Some(())
-}
-
+/// Its files have no rows, and of a case each run answers.
 impl Room for RunCases {
-    /// Its files have no rows, and of a case each run answers.
-    fn answer(&self, _asked: &Asked<'_>, _out: &mut AnswerText) -> Told {
-        Told::NoSuchGroup
-    }
-
     fn compare_runs(&self, compared: &mut Comparison<'_>, case: &Case<'_>) -> bool {
         for entry in case.own {
             if !is_right(case, entry) {

@@ -1,12 +1,11 @@
 //! What is seen of how a run ended, under each key.
 use crate::counted::CountedSink;
-use crate::settings::{Ending, Setting};
+use crate::settings::{Ending, Setting, Stage};
 use deny_run::{
     Color, CrateReport, DiagPrinter, Diagnostics, Error, Format, LicenseExprSource, LogContext,
     NoReason, Report, Request, RunEnd, ShapeErrors, Stats, StoreFault, SyntaxError, Verdict,
     VerifyAnswer,
 };
-use deny_text::Span;
 use diag_core::LevelFilter;
 use diag_print::pack_labels_are_inside;
 use std::alloc::Global;
@@ -21,33 +20,22 @@ fn file_in(key: &str) -> Option<usize> {
     Some(file as usize)
 }
 
-fn put_span(out: &mut AnswerText, span: Span) {
-    write!(out, "{}..{}", span.start, span.end);
-}
-
-/// Puts a text or a number behind a mark.
-fn put_marked<D: Display>(out: &mut AnswerText, mark: &str, item: &D) {
-    out.put(mark);
-    write!(out, "{item}");
-}
-
 /// Puts texts or numbers, each behind a mark.
 fn put_each<D: Display>(out: &mut AnswerText, mark: &str, items: &[D]) {
     for item in items {
-        put_marked(out, mark, item);
+        write!(out, "{mark}{item}");
     }
 }
 
 fn put_syntax(out: &mut AnswerText, fault: &SyntaxError) {
-    write!(out, "syntax: {:?} ", fault.reason);
-    put_span(out, fault.span);
+    write!(out, "syntax: {:?}", fault.reason);
+    out.put_span(" ", fault.span);
 }
 
 fn put_shape(out: &mut AnswerText, faults: &ShapeErrors) {
     out.put("shape:");
     for fault in faults.items() {
-        out.put(" ");
-        put_span(out, fault.span);
+        out.put_span(" ", fault.span);
     }
 }
 
@@ -57,7 +45,7 @@ fn put_invalid(out: &mut AnswerText, found: &Diagnostics) {
     for finding in found.items() {
         for label in finding.labels.items() {
             write!(out, " {}:", label.file_id);
-            put_span(out, label.range);
+            out.put_span("", label.range);
         }
     }
 }
@@ -171,8 +159,8 @@ fn put_source(out: &mut AnswerText, source: &LicenseExprSource) {
     match source {
         LicenseExprSource::Metadata(None) => out.put(" by the field"),
         LicenseExprSource::Metadata(Some((file, span))) => {
-            write!(out, " by the field in file {file} at ");
-            put_span(out, *span);
+            write!(out, " by the field in file {file}");
+            out.put_span(" at ", *span);
         }
         LicenseExprSource::UserOverride => out.put(" by the policy"),
         LicenseExprSource::OverlayOverride => out.put(" by the overlay"),
@@ -336,6 +324,31 @@ fn put_answer(out: &mut AnswerText, answer: &VerifyAnswer) {
     }
 }
 
+/// How a run ended, in a word.
+fn word_of(ended: &RunEnd) -> &'static str {
+    match ended {
+        RunEnd::Checked(_) => "checked",
+        RunEnd::Listed(_) => "listed",
+        RunEnd::Sampled(_) => "sampled",
+        RunEnd::Recorded(_) => "recorded",
+        RunEnd::Verified(_) => "verified",
+        RunEnd::Billed(_) => "billed",
+        RunEnd::Noticed(_) => "noticed",
+        RunEnd::Told(_) => "told",
+        RunEnd::Shown => "shown",
+        RunEnd::Usage => "usage",
+        RunEnd::Refused(_) => "refused",
+    }
+}
+
+/// Puts what the crates of a report came to, or else how a run ended.
+pub fn put_end(out: &mut AnswerText, ended: &RunEnd) {
+    match ended {
+        RunEnd::Checked(report) => put_crates(out, report, "ended"),
+        ended => out.put(word_of(ended)),
+    }
+}
+
 /// Puts what is seen of a run that ended without a report.
 fn put_unreported(out: &mut AnswerText, ended: &RunEnd, key: &str, err: &str) {
     if key == "load" {
@@ -345,28 +358,17 @@ fn put_unreported(out: &mut AnswerText, ended: &RunEnd, key: &str, err: &str) {
         out.put("no report: ");
     }
     match ended {
-        RunEnd::Shown => out.put("shown"),
-        RunEnd::Usage => out.put("usage"),
         RunEnd::Refused(error) => put_error(out, error),
-        RunEnd::Checked(_) => out.put("checked"),
-        RunEnd::Listed(_) => out.put("listed"),
-        RunEnd::Sampled(_) => out.put("sampled"),
-        RunEnd::Recorded(_) => out.put("recorded"),
         RunEnd::Verified(crates) => put_answer(out, &crates.answer),
-        RunEnd::Billed(crates) => out.put(if crates.same {
-            "billed"
-        } else {
-            "bill changed"
-        }),
-        RunEnd::Noticed(_) => out.put("noticed"),
-        RunEnd::Told(_) => out.put("told"),
+        RunEnd::Billed(crates) if !crates.same => out.put("bill changed"),
+        ended => out.put(word_of(ended)),
     }
 }
 
 impl Ending<'_> {
     /// Puts what is seen of how it ended.
     fn put_ended(&self, alloc: Global, out: &mut AnswerText, key: &str) {
-        let err = self.err.text();
+        let err = self.stage.err.text();
         match &self.outcome.ended {
             RunEnd::Checked(report) => put_report(alloc, out, report, key, err),
             ended => put_unreported(out, ended, key, err),
@@ -374,10 +376,10 @@ impl Ending<'_> {
     }
 
     /// Puts the counts of faults of the tree and of both sinks.
-    fn put_faults(&self, out: &mut AnswerText) {
-        let (out_faults, err_faults) = (self.out.refused, self.err.refused);
-        write!(out, "tree {}", self.tree.failed);
-        write!(out, ", out {out_faults}, err {err_faults}");
+    fn put_faults(&self, told: &mut AnswerText) {
+        let Stage { tree, out, err } = &self.stage;
+        write!(told, "tree {}", tree.failed);
+        write!(told, ", out {}, err {}", out.refused, err.refused);
     }
 }
 
@@ -391,10 +393,10 @@ impl Room for Ending<'_> {
             "faults-tree" | "faults-out" | "faults-err" => return Told::Given,
             "status" => write!(out, "{}", self.outcome.status),
             "request" => put_request(out, &self.outcome.request),
-            "out" | "out-begins" => out.put(self.out.text()),
-            "err" | "err-begins" => out.put(self.err.text()),
-            "calls" => write!(out, "{}", self.tree.calls),
-            "asked" => out.put_whole(&self.tree.asked),
+            "out" | "out-begins" => out.put(self.stage.out.text()),
+            "err" | "err-begins" => out.put(self.stage.err.text()),
+            "calls" => write!(out, "{}", self.stage.tree.calls),
+            "asked" => out.put_whole(&self.stage.tree.asked),
             "faults" => self.put_faults(out),
             "ended"
             | "crates"

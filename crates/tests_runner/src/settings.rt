@@ -5,8 +5,8 @@ use deny_run::Outcome;
 use deny_run::run::run;
 use spdx_terms::catalog::Table;
 use std::alloc::{AllocError, Global};
-use tests_files::tree::{number, range_of, text_of, tree_of};
-use tests_files::{Case, CaseEntry};
+use tests_files::tree::{fail_call, number, range_of, text_of, tree_of};
+use tests_files::{Case, CaseEntry, let_go};
 use tree_core::MemTree;
 
 /// One run of a case.
@@ -24,14 +24,34 @@ pub struct Setting<'c> {
     pub err: usize,
 }
 
-/// What a run came to, which run it was, and what it has written to.
+impl<'c> Setting<'c> {
+    /// The run of a case in which no call fails and no file is cut.
+    pub fn whole(case: &Case<'c>, out: usize, err: usize) -> Setting<'c> {
+        Setting {
+            case: *case,
+            call: 0,
+            later: 0,
+            kept: usize::MAX,
+            out,
+            err,
+        }
+    }
+}
+
+/// What a run is over, and what it writes to.
+#[derive(Drop)]
+pub struct Stage {
+    pub tree: CountedTree,
+    pub out: CountedSink,
+    pub err: CountedSink,
+}
+
+/// What a run came to, which run it was, and what it was over.
 #[derive(Drop)]
 pub struct Ending<'c> {
     pub setting: Setting<'c>,
     pub outcome: Outcome,
-    pub tree: CountedTree,
-    pub out: CountedSink,
-    pub err: CountedSink,
+    pub stage: Stage,
 }
 
 const WORDS: &str = "cargo-deny --metadata-path m.json --config p.toml check licenses";
@@ -43,105 +63,65 @@ fn words_of(alloc: Global, case: &Case<'_>) -> Result<Vec<String>, AllocError> {
         Some(entry) if entry.text.is_empty() => (entry.word(), ' '),
         Some(entry) => (entry.wanted(), '\n'),
     };
-    let mut words = Vec::new(alloc);
-    for word in text.split_terminator(between) {
-        words.push(String::from_str(alloc, word)?)?;
-    }
-    Ok(words)
-}
-
-/// What is behind a key, or else this.
-fn word_or<'c>(case: &Case<'c>, key: &str, or: &'static str) -> &'c str {
-    match case.entry(key) {
-        Some(entry) => entry.word(),
-        None => or,
-    }
+    text.split_terminator(between)
+        .map(|word| String::from_str(alloc, word))
+        .try_collect(alloc)
 }
 
 /// The number behind a key, or else this; none where there is another word.
 fn number_or(case: &Case<'_>, key: &str, or: u64) -> Option<u64> {
-    match case.entry(key) {
-        None => Some(or),
-        Some(entry) => number(entry.word()),
-    }
-}
-
-/// Lets calls of a tree fail, which are with blanks between.
-fn fail_calls(tree: &mut MemTree, calls: &str) -> Option<()> {
-    for call in calls.split(' ') {
-        match number(call) {
-            Some(call) if call > 0 => tree.fail_call(call).ok()?,
-            _ => return None,
-        }
-    }
-    Some(())
+    let entry = case.entry(key);
+    entry.map_or(Some(or), |entry| number(entry.word()))
 }
 
 fn file_among<'e>(entries: &'e [CaseEntry], path: &str) -> Option<&'e CaseEntry> {
-    for entry in entries {
-        if entry.key() == "file" && entry.word() == path {
-            return Some(entry);
-        }
-    }
-    None
+    let mut files = entries.iter().filter(|entry| entry.key() == "file");
+    files.find(|entry| entry.word() == path)
 }
 
-/// The entry of the file at a path: of the case, or else of its base.
-fn file_at<'c>(case: &Case<'c>, path: &str) -> Option<&'c CaseEntry> {
-    match file_among(case.own, path) {
-        Some(entry) => Some(entry),
-        None => file_among(case.base, path),
-    }
-}
-
-/// The text of the file that the case cuts, if there is one.
+/// The text of the file that the case cuts, which is its own or else its base's, if there is one.
 fn whole_file(alloc: Global, case: &Case<'_>) -> Option<Vec<u8>> {
-    let entry = file_at(case, case.word("cut"))?;
+    let path = case.word("cut");
+    let entry = file_among(case.own, path).or(file_among(case.base, path))?;
     text_of(alloc, case, entry).ok()
 }
 
-/// Puts the front of the file that the case cuts in its place.
-fn cut_file(alloc: Global, tree: &mut MemTree, setting: &Setting<'_>) -> Option<()> {
+/// Puts the front of the file that the case cuts in its place. Returns whether that could be done.
+fn cut_file(alloc: Global, tree: &mut MemTree, setting: &Setting<'_>) -> bool {
     let path = setting.case.word("cut");
-    if path.is_empty() {
-        return Some(());
+    match &whole_file(alloc, &setting.case) {
+        Some(whole) => {
+            let front = whole.get(..setting.kept).unwrap_or(whole);
+            tree.put(path, front).is_ok()
+        }
+        None => path.is_empty(),
     }
-    let whole = whole_file(alloc, &setting.case)?;
-    let front = whole.get(..setting.kept).unwrap_or(&whole);
-    tree.put(path, front).ok()
 }
 
 /// Lets a call of a tree fail; at 0 none.
-fn fail_one(tree: &mut MemTree, call: u64) -> Option<()> {
-    if call == 0 {
-        return Some(());
-    }
-    tree.fail_call(call).ok()
+fn fail_one(tree: &mut MemTree, call: u64) -> bool {
+    call == 0 || tree.fail_call(call).is_ok()
 }
 
-/// Lets the calls of a tree fail that the setting says, or else those that the case names.
-fn fail_all(tree: &mut MemTree, setting: &Setting<'_>) -> Option<()> {
-    fail_one(tree, setting.later)?;
+/// Lets the calls of a tree fail that the setting says, or else those that the case names. Returns whether that could be done.
+fn fail_all(tree: &mut MemTree, setting: &Setting<'_>) -> bool {
+    let mut is_done = fail_one(tree, setting.later) & fail_one(tree, setting.call);
     let calls = setting.case.word("fail");
     if setting.call == 0 && calls.contains(' ') {
-        fail_calls(tree, calls)
-    } else {
-        fail_one(tree, setting.call)
+        for call in calls.split(' ') {
+            is_done = fail_call(tree, call) & is_done;
+        }
     }
-}
-
-/// Changes a tree as the setting says.
-fn set(alloc: Global, tree: &mut MemTree, setting: &Setting<'_>) -> Option<()> {
-    cut_file(alloc, tree, setting)?;
-    fail_all(tree, setting)
+    is_done
 }
 
 /// The tree of a run, which begins with so many faults.
 fn tree_with(alloc: Global, setting: &Setting<'_>, failed: u64) -> Option<CountedTree> {
     let mut tree = tree_of(alloc, &setting.case).ok()?;
-    match set(alloc, &mut tree, setting) {
-        Some(()) => Some(CountedTree::new(alloc, tree, failed)),
-        None => None,
+    if cut_file(alloc, &mut tree, setting) && fail_all(&mut tree, setting) {
+        Some(CountedTree::new(alloc, tree, failed))
+    } else {
+        None
     }
 }
 
@@ -150,11 +130,10 @@ fn outcome_of(
     alloc: Global,
     words: &[String],
     cwd: &str,
-    tree: &mut CountedTree,
-    out: &mut CountedSink,
-    err: &mut CountedSink,
+    stage: &mut Stage,
     known: &CaseIdentifier,
 ) -> Outcome {
+    let Stage { tree, out, err } = stage;
     run(alloc, words, cwd, tree, out, err, &Table, known)
 }
 
@@ -171,23 +150,14 @@ fn sink_of(
     Some(CountedSink::new(alloc, room, piece, faults))
 }
 
-/// What a run is over, and what it writes to.
-#[derive(Drop)]
-struct Stage {
-    tree: CountedTree,
-    out: CountedSink,
-    err: CountedSink,
-}
-
-fn stage_of(alloc: Global, setting: &Setting<'_>) -> Option<Stage> {
+/// What a run is over; none where it can't be put.
+pub fn stage_of(alloc: Global, setting: &Setting<'_>) -> Option<Stage> {
     let case = &setting.case;
     let out = sink_of(alloc, case, setting.out, ("piece-out", 4), "faults-out");
     let err = sink_of(alloc, case, setting.err, ("piece-err", 1000), "faults-err");
     let faults = number_or(case, "faults-tree", 0)?;
-    match tree_with(alloc, setting, faults).zip(out).zip(err) {
-        Some(((tree, out), err)) => Some(Stage { tree, out, err }),
-        None => None,
-    }
+    let parts = tree_with(alloc, setting, faults).zip(out).zip(err);
+    parts.map(|((tree, out), err)| Stage { tree, out, err })
 }
 
 fn ending_over<'c>(
@@ -195,35 +165,24 @@ fn ending_over<'c>(
     setting: &Setting<'c>,
     words: &[String],
     known: &CaseIdentifier,
-    stage: Stage,
+    mut stage: Stage,
 ) -> Ending<'c> {
-    let Stage {
-        mut tree,
-        mut out,
-        mut err,
-    } = stage;
-    let cwd = word_or(&setting.case, "cwd", "/w");
-    let outcome = outcome_of(alloc, words, cwd, &mut tree, &mut out, &mut err, known);
+    let cwd = setting.case.word_or("cwd", "/w");
+    let outcome = outcome_of(alloc, words, cwd, &mut stage, known);
     Ending {
         setting: *setting,
         outcome,
-        tree,
-        out,
-        err,
+        stage,
     }
 }
 
 /// How a run of the case ends; none where it can't be tried.
 pub fn ending_of<'c>(alloc: Global, setting: &Setting<'c>) -> Option<Ending<'c>> {
-    let identifier = word_or(&setting.case, "identifier", "none");
+    let identifier = setting.case.word_or("identifier", "none");
     let words = words_of(alloc, &setting.case).ok();
     let known = known_as(alloc, identifier).ok();
-    match words.zip(known).zip(stage_of(alloc, setting)) {
-        Some(((words, known), stage)) => {
-            Some(ending_over(alloc, setting, &words, &known, stage))
-        }
-        None => None,
-    }
+    let parts = words.zip(known).zip(stage_of(alloc, setting));
+    parts.map(|((words, known), stage)| ending_over(alloc, setting, &words, &known, stage))
 }
 
 /// The rooms of a sink, from the first to the one before the last; they may be those below the text that is wanted.
@@ -238,53 +197,39 @@ pub fn rooms_of(case: &Case<'_>, key: &str, text: &str) -> Option<(usize, usize)
 
 /// The lengths of the file that the case cuts: each below its own. Without such a file there is one run.
 pub fn lengths_of(alloc: Global, case: &Case<'_>) -> Option<(usize, usize)> {
-    if case.word("cut").is_empty() {
-        return Some((0, 1));
+    match case.word("cut") {
+        "" => Some((0, 1)),
+        _ => whole_file(alloc, case).map(|whole| (0, whole.len())),
     }
-    let whole = whole_file(alloc, case)?;
-    Some((0, whole.len()))
+}
+
+/// Calls that fail, which are counted from 1, from the first to the last.
+fn failing(word: &str) -> Option<(u64, u64)> {
+    range_of(word).filter(|calls| calls.0 > 0)
 }
 
 /// The calls that fail behind the first one, from the first to the last.
 pub fn laters_of(case: &Case<'_>) -> Option<(u64, u64)> {
     match case.word("fail-too") {
         "" => Some((0, 0)),
-        word => match range_of(word) {
-            Some((first, last)) if first > 0 => Some((first, last)),
-            _ => None,
-        },
-    }
-}
-
-/// What counts the calls of a tree.
-trait Calls {
-    fn calls(&self) -> u64;
-}
-
-impl Calls for Ending<'_> {
-    fn calls(&self) -> u64 {
-        self.tree.calls
+        word => failing(word),
     }
 }
 
 /// How many calls were made in a run, which is let go.
-fn calls_in<C: Calls + Drop>(ended: Option<C>) -> Option<u64> {
-    match &ended {
-        Some(ended) => Some(ended.calls()),
-        None => None,
-    }
+fn calls_in(ended: Option<Ending<'_>>) -> Option<u64> {
+    let calls = ended.as_ref().map(|ended| ended.stage.tree.calls);
+    let_go(ended);
+    calls
 }
 
 /// The calls that fail alone in a run each, from the first to the last; `each` is of all that this run makes, in which none fails.
 pub fn calls_of(alloc: Global, whole: &Setting<'_>) -> Option<(u64, u64)> {
     match whole.case.word("fail") {
         "" => Some((0, 0)),
-        "each" => Some((1, calls_in(ending_of(alloc, whole))?)),
+        "each" => calls_in(ending_of(alloc, whole)).map(|calls| (1, calls)),
         // Several calls fail in one run.
         word if word.contains(' ') => Some((0, 0)),
-        word => match range_of(word) {
-            Some((first, last)) if first > 0 => Some((first, last)),
-            _ => None,
-        },
+        word => failing(word),
     }
 }

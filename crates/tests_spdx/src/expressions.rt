@@ -37,10 +37,7 @@ fn put_read(asked: &Asked<'_>, out: &mut AnswerText, read: &Expression, hits: &s
     let alloc = asked.alloc;
     match asked.group {
         "size" => put_size(out, read),
-        "printed expression" => match printed(alloc, read) {
-            Ok(text) => out.write_fmt(text),
-            Err(_) => out.want_memory(),
-        },
+        "printed expression" => out.printed(printed(alloc, read)),
         "certificate" => match hits_of(alloc, hits) {
             Ok(hits) => out.made::<Spdx, _, _>(certificate(alloc, read, &hits)),
             Err(_) => out.want_memory(),

@@ -4,6 +4,7 @@ use crate::texts::{Spdx, put_scanned};
 use spdx_own_names::{FileCatalog, ListingError, StoreError, StoreFault, read_catalog, read_store};
 use spdx_terms::catalog::{Catalog, LicenseEntry, Table};
 use std::alloc::{AllocError, Global};
+use tests_files::tree::{fail_call, first_word};
 use tests_files::{AnswerText, Asked, Shown, let_go};
 use tree_core::MemTree;
 
@@ -80,18 +81,16 @@ fn count_lines(file: &str, start: &str) -> usize {
 
 /// Whether a catalogue and the built-in one begin a text with all of it, and for the same licence.
 fn begin_alike(listing: &FileCatalog, text: &str) -> bool {
-    match Table.imprecise(text).zip(listing.imprecise(text)) {
-        Some((found, own)) => found.len == text.len()
-            && own.len == text.len()
-            && found.name == own.name,
-        None => false,
-    }
+    let both = Table.imprecise(text).zip(listing.imprecise(text));
+    both.is_some_and(|(found, own)| {
+        found.len == text.len() && own.len == text.len() && found.name == own.name
+    })
 }
 
 /// Whether the built-in catalogue has what a line lists, and a catalogue tells the same of it.
 fn is_as_built_in(listing: &FileCatalog, line: &str) -> bool {
-    let (kind, rest) = line.split_once(' ').unwrap_or((line, ""));
-    let (name, behind) = rest.split_once(' ').unwrap_or((rest, ""));
+    let (kind, rest) = first_word(line);
+    let (name, behind) = first_word(rest);
     match kind {
         "license" => Table.license(name).is_some() && Table.license(name) == listing.license(name),
         "exception" => Table.exception(name) && listing.exception(name),
@@ -123,20 +122,10 @@ fn put_files(alloc: Global, tree: &mut MemTree, files: &str) -> bool {
     })
 }
 
-/// Has the call of that number fail; numbers count from 1.
-fn fail_call(tree: &mut MemTree, number: &str) -> bool {
-    match number.parse::<u64>() {
-        Ok(call) if call > 0 => tree.fail_call(call).is_ok(),
-        _ => true,
-    }
-}
-
 fn put_file(alloc: Global, tree: &mut MemTree, name: &str, text: &str) -> bool {
     let path = format!(in alloc; "/w/{name}").ok();
-    match path.zip(bytes_of(alloc, text).ok()) {
-        Some((path, bytes)) => tree.put(path.as_str(), &bytes).is_ok(),
-        None => false,
-    }
+    let file = path.zip(bytes_of(alloc, text).ok());
+    file.is_some_and(|(path, bytes)| tree.put(path.as_str(), &bytes).is_ok())
 }
 
 impl Shown<Spdx> for StoreError {
@@ -158,15 +147,8 @@ impl Shown<Spdx> for StoreError {
 pub fn put_folder(asked: &Asked<'_>, out: &mut AnswerText) {
     let (files, text) = pair_of(asked.text);
     let mut tree = MemTree::new(asked.alloc);
-    if put_files(asked.alloc, &mut tree, files) {
-        put_scanned(
-            asked.alloc,
-            out,
-            read_store(asked.alloc, &mut tree, "/w/s"),
-            text,
-        );
-    } else {
-        out.cant_be_tried();
-    }
+    out.tries(put_files(asked.alloc, &mut tree, files));
+    let store = read_store(asked.alloc, &mut tree, "/w/s");
+    put_scanned(asked.alloc, out, store, text);
     let_go(tree);
 }

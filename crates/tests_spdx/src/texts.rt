@@ -15,12 +15,11 @@ pub struct Spdx {
 impl Spdx {
     /// The text of a file, or none.
     pub fn text(&self, name: &str) -> &str {
-        for (path, text) in PATHS.iter().zip(&self.texts) {
-            if path.strip_prefix("spdx/") == Some(name) {
-                return text.as_str();
-            }
+        let mut files = PATHS.iter().zip(&self.texts);
+        match files.find(|file| file.0.strip_prefix("spdx/") == Some(name)) {
+            Some((_, text)) => text.as_str(),
+            None => "",
         }
-        ""
     }
 }
 
@@ -38,10 +37,7 @@ const PATHS: [&str; 7] = [
 pub fn read(rt: &HostRuntime) -> io::Result<Spdx> {
     let texts = PATHS.iter().map(|path| fs::read_to_string(rt, path));
     let texts: io::Result<Vec<String>> = texts.try_collect(rt.alloc());
-    match texts {
-        Ok(texts) => Ok(Spdx { texts }),
-        Err(error) => Err(error),
-    }
+    texts.map(|texts| Spdx { texts })
 }
 
 /// The licence that a text is by a group's texts, and how sure that is. In the text that of a file stands for the file's name,
@@ -89,10 +85,7 @@ fn store_of(room: &Spdx, asked: &Asked<'_>) -> Result<LicenseStore, AllocError> 
             let texts: Result<Vec<StoreText>, AllocError> = lines
                 .map(|line| stored(alloc, line))
                 .try_collect(alloc);
-            match texts {
-                Ok(texts) => LicenseStore::new(alloc, StoreTexts::from(texts)),
-                Err(error) => Err(error),
-            }
+            texts.and_then(|texts| LicenseStore::new(alloc, StoreTexts::from(texts)))
         }
     }
 }
@@ -100,11 +93,7 @@ fn store_of(room: &Spdx, asked: &Asked<'_>) -> Result<LicenseStore, AllocError> 
 /// A text that is behind its name.
 fn stored(alloc: Global, line: &str) -> Result<StoreText, AllocError> {
     let (name, body) = line.split_once(": ").unwrap_or((line, ""));
-    match Text::copy(alloc, name)
-        .ok()
-        .zip(Text::copy(alloc, body).ok())
-    {
-        Some((name, body)) => Ok(StoreText { name, body }),
-        None => Err(AllocError),
-    }
+    let (name, body) = (Text::copy(alloc, name).ok(), Text::copy(alloc, body).ok());
+    let stored = name.zip(body).map(|(name, body)| StoreText { name, body });
+    stored.ok_or(AllocError)
 }

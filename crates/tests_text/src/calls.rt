@@ -1,10 +1,10 @@
 //! Texts of cases whose lines are calls, each with what it answers behind an arrow: `read a/x => "one"`. The
 //! calls are made in their order, and the same lines are printed with what was seen. Paths alone have
 //! escapes.
-use std::alloc::{AllocError, Global};
-use std::fmt::Display;
+use std::alloc::Global;
 use tests_files::AnswerText;
 use tests_files::escapes::put_unescaped;
+use tests_files::tree::first_word;
 
 /// A call: a word, and one or two more behind it.
 #[derive(Clone, Copy)]
@@ -25,31 +25,14 @@ pub fn letters_of(word: &str) -> &str {
     if word == "''" { "" } else { word }
 }
 
-/// Puts a value that was made.
-pub fn put_made<D: Display + Drop>(out: &mut AnswerText, made: Result<D, AllocError>) {
-    match made {
-        Ok(value) => write!(out, "{value}"),
-        Err(_) => out.want_memory(),
-    }
-}
-
-pub fn number_in(text: &str) -> usize {
-    text.parse::<usize>().unwrap_or(0)
-}
-
 fn put_call<C: Called>(out: &mut AnswerText, alloc: Global, line: &str, called: &mut C) {
-    let (verb, rest) = line.split_once(' ').unwrap_or((line, ""));
-    let (path, text) = rest.split_once(' ').unwrap_or((rest, ""));
-    let text = letters_of(text);
-    let mut read = AnswerText::new(alloc);
-    match put_unescaped(alloc, &mut read, letters_of(path)) {
-        Ok(()) if read.is_whole() => {
-            let path = read.text();
-            called.put_answer(out, alloc, CallWords { verb, path, text });
-        }
-        Ok(()) => out.want_memory(),
-        Err(why) => write!(out, " => {}", why.what()),
-    }
+    let (verb, rest) = first_word(line);
+    let (path, text) = first_word(rest);
+    let mut unescaped = AnswerText::new(alloc);
+    let is_read = put_unescaped(alloc, &mut unescaped, letters_of(path)).is_ok();
+    out.tries(is_read & unescaped.is_whole());
+    let (path, text) = (unescaped.text(), letters_of(text));
+    called.put_answer(out, alloc, CallWords { verb, path, text });
 }
 
 /// Puts lines, each with what its call answers, and lets go what was called.

@@ -1,5 +1,4 @@
 //! Paths, the folders above them, home folders, texts in normal form, and hashes.
-use crate::calls::{number_in, put_made};
 use deny_text::ancestors::ancestors;
 use deny_text::hash::hash;
 use deny_text::home::{cargo_home, home};
@@ -7,13 +6,8 @@ use deny_text::normal::normalize;
 use deny_text::path::{components, ends_with, file_name, is_absolute, join, parent};
 use deny_text::{HomeEnv, HomeError, PathBuf, Text};
 use std::alloc::{AllocError, Global};
+use tests_files::tree::{number_in, pair_of};
 use tests_files::{AnswerText, Asked, Room, Told};
-
-/// What is before a bar and behind it, without blanks at their ends.
-pub fn pair_of(text: &str) -> (&str, &str) {
-    let (one, other) = text.split_once('|').unwrap_or((text, ""));
-    (one.trim(), other.trim())
-}
 
 /// Puts a text in quotes, or `none`.
 pub fn put_option(out: &mut AnswerText, text: Option<&str>) {
@@ -50,13 +44,11 @@ fn sample(alloc: Global, length: usize) -> Result<Vec<u8>, AllocError> {
 
 /// What is behind a name in words `NAME=VALUE`.
 fn value_of(alloc: Global, words: &str, name: &str) -> Result<Option<Text>, AllocError> {
-    for word in words.split(' ') {
-        let (key, value) = word.split_once('=').unwrap_or((word, ""));
-        if key == name {
-            return Ok(Some(Text::copy(alloc, value)?));
-        }
+    let mut words = words.split(' ').filter_map(|word| word.split_once('='));
+    match words.find(|word| word.0 == name) {
+        Some((_, value)) => Ok(Some(Text::copy(alloc, value)?)),
+        None => Ok(None),
     }
-    Ok(None)
 }
 
 /// The variables of words.
@@ -97,14 +89,14 @@ impl Room for Paths {
         let (alloc, text) = (asked.alloc, asked.text);
         let (one, other) = pair_of(text);
         match asked.group {
-            "join" => put_made(out, join(alloc, one, other)),
+            "join" => out.printed(join(alloc, one, other)),
             "parent" => put_option(out, parent(text)),
             "file name" => put_option(out, file_name(text)),
             "parts of a path" => put_parts(out, text),
             "ends with" => write!(out, "{}", ends_with(one, other)),
             "is absolute" => write!(out, "{}", is_absolute(text)),
             "ancestors" => put_ancestors(out, text),
-            "normal form" => put_made(out, normalize(alloc, text)),
+            "normal form" => out.printed(normalize(alloc, text)),
             "hash of a text" => write!(out, "{:08x}", hash(text.as_bytes())),
             "hash of a sample" => put_sample(out, alloc, number_in(text)),
             "home" | "home of cargo" => put_home(out, alloc, asked.group, text),

@@ -1,7 +1,6 @@
 //! The real files over a system that is made up: what a tree answers, by what the system does, and which calls it makes.
 ghost use Rattle.std.specs.Prelude.{◌≤◌, length, IfSome};
 
-use crate::calls::number_in;
 use crate::trees::put_one;
 use deny_text::PathBuf;
 use std::alloc::{Alloc, AllocError, Global};
@@ -9,6 +8,7 @@ use std::cell::RefCell;
 use std::fs::Metadata;
 use std::io;
 use std::io::{ErrorKind, Read};
+use tests_files::tree::{first_word, number_in};
 use tests_files::{AnswerText, Asked, Room, Told};
 use tree_core::{FolderTree, NamesPaths, System, Tree};
 
@@ -38,7 +38,7 @@ pub fn kind_named(name: &str) -> ErrorKind {
 
 /// What the system says of a path where this is: a file of a length, a folder, a link, or an error.
 fn answer(state: &str) -> io::Result<Metadata> {
-    let (kind, length) = state.split_once(' ').unwrap_or((state, ""));
+    let (kind, length) = first_word(state);
     match kind {
         "file" => Ok(Metadata::of_file(number_in(length) as u64)),
         "folder" => Ok(Metadata::of_dir()),
@@ -82,18 +82,14 @@ impl<'w> MadeUp<'w> {
     /// What the words say under a name: `path` is the path, `name` the entry's name, `at`, `entry` and `link` what is there,
     /// `opening` and `reading` the error that it ends with, `named` the path at which the tree reads a pipe.
     fn says(&self, name: &str) -> &'w str {
-        for word in self.words.split(", ") {
-            let (key, value) = word.split_once(' ').unwrap_or((word, ""));
-            if key == name {
-                return value;
-            }
-        }
-        match name {
-            "path" => "x",
-            "name" => "a",
-            "at" => "file 5",
-            "entry" | "link" => "file 1",
-            _ => "",
+        let mut words = self.words.split(", ").map(|word| first_word(word));
+        match (words.find(|word| word.0 == name), name) {
+            (Some((_, value)), _) => value,
+            (None, "path") => "x",
+            (None, "name") => "a",
+            (None, "at") => "file 5",
+            (None, "entry" | "link") => "file 1",
+            (None, _) => "",
         }
     }
 
@@ -165,10 +161,7 @@ impl<'w> System for &MadeUp<'w> {
 
     fn open_folder(&self, path: &str) -> io::Result<OpenedBytes<'w>> {
         self.note("list", path);
-        let (there, _) = self
-            .says("at")
-            .split_once(' ')
-            .unwrap_or((self.says("at"), ""));
+        let (there, _) = first_word(self.says("at"));
         let error = match there {
             _ if path.strip_suffix('/') != Some(self.says("path")) => "NotFound",
             "folder" => self.says("opening"),
@@ -207,19 +200,14 @@ fn pipes(system: &MadeUp<'_>) -> Result<Vec<PathBuf>, AllocError> {
 /// Puts what a call at the system's path answers on a tree of its own, and how often it has failed; or, for the notes, the calls
 /// that the tree made for it.
 fn put_call(out: &mut AnswerText, system: &MadeUp<'_>, verb: &str, is_noted: bool) {
-    let mut answer = AnswerText::new(system.alloc);
+    let (alloc, path) = (system.alloc, system.says("path"));
+    let mut answer = AnswerText::new(alloc);
     let mut tree = FolderTree::new(system);
     match pipes(system) {
         Ok(pipes) => tree.name_paths(pipes),
         Err(_) => out.want_memory(),
     }
-    put_one(
-        &mut answer,
-        system.alloc,
-        &mut tree,
-        verb,
-        system.says("path"),
-    );
+    put_one(&mut answer, alloc, &mut tree, verb, path);
     write!(answer, " {}", tree.faults());
     if is_noted {
         system.put_notes(out);

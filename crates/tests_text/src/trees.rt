@@ -1,11 +1,12 @@
 //! Trees of files, in memory and real, and sinks: what is put into them, and what their calls answer.
-use crate::calls::{CallWords, Called, number_in, put_answered};
+use crate::calls::{CallWords, Called, put_answered};
 use deny_text::Bytes;
 use deny_text::path::parent;
 use std::alloc::{AllocError, Global};
 use std::fs::{File, OpenFile};
 use std::rt::Files;
 use std::{fs, io};
+use tests_files::tree::{fail_call, first_word, number_in, written};
 use tests_files::{AnswerText, Asked, Case, Room, Shown, Told};
 use tree_core::{
     Entry, FolderEntries, FolderTree, MemSink, MemTree, Sink, Tree, TreeError, write_all,
@@ -205,13 +206,9 @@ impl Called for MemTree {
         if is_put(out, alloc, self, call) {
             return;
         }
-        if call.verb != "fail" {
-            put_asked(out, alloc, self, call);
-        } else if self
-            .fail_call((number_in(call.path) as u64).max(1))
-            .is_err()
-        {
-            out.want_memory();
+        match call.verb {
+            "fail" => out.tries(fail_call(self, call.path)),
+            _ => put_asked(out, alloc, self, call),
         }
     }
 }
@@ -249,14 +246,14 @@ impl Called for MemSink {
             "write_all" => write!(out, " => {:?}", write_all(self, bytes)),
             _ => out.put(" => no such call"),
         }
-        let held = str::from_utf8(self.written()).unwrap_or("no UTF-8");
+        let held = written(self);
         write!(out, " {held:?} {}", self.faults());
     }
 }
 
 /// A sink with the room and the piece that are behind the key `sink`.
 fn sink_of(alloc: Global, case: &Case<'_>) -> Result<MemSink, AllocError> {
-    let (room, piece) = case.word("sink").split_once(' ').unwrap_or(("", ""));
+    let (room, piece) = first_word(case.word("sink"));
     MemSink::new(alloc, number_in(room), number_in(piece).max(1))
 }
 

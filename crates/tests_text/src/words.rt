@@ -182,20 +182,10 @@ fn put_names<T: FromWord + Drop>(out: &mut AnswerText, rows: &[OptionRow], optio
         if row.name == option
             && let OptionValues::Names(names) = row.values
         {
-            let read = count_read::<T>(names);
-            write!(out, "{read} of {}", names.len());
+            let read = names.iter().filter(|name| T::from_word(name).is_some());
+            write!(out, "{} of {}", read.count(), names.len());
         }
     }
-}
-
-fn count_read<T: FromWord + Drop>(names: &[&str]) -> usize {
-    let mut count: usize = 0;
-    for name in names {
-        if T::from_word(name).is_some() {
-            count = count.saturating_add(1);
-        }
-    }
-    count
 }
 
 fn put_option(out: &mut AnswerText, option: &str) {

@@ -1,6 +1,6 @@
 //! Values of TOML and faults as rows show them: each value with its place behind an `@`.
 use crate::Toml;
-use deny_text::{Span, Texts};
+use deny_text::Texts;
 use std::alloc::Global;
 use std::fmt::Debug;
 use tests_files::{AnswerText, Shown, let_go};
@@ -11,16 +11,11 @@ use toml_value::{Entries, Value, ValueInner};
 /// How deep the values of most rows are put.
 pub const DEPTH: u32 = 50;
 
-pub fn put_span(out: &mut AnswerText, before: &str, span: Span) {
-    let Span { start, end } = span;
-    write!(out, "{before}{start}..{end}");
-}
-
 impl Shown<Toml> for SyntaxError {
     fn put(&self, out: &mut AnswerText) {
         let reason = self.reason;
         write!(out, "{reason:?}");
-        put_span(out, " ", self.span);
+        out.put_span(" ", self.span);
     }
 }
 
@@ -35,7 +30,7 @@ impl Shown<Toml> for TomlError {
 
 impl Shown<Toml> for ShapeError {
     fn put(&self, out: &mut AnswerText) {
-        put_span(out, "", self.span);
+        out.put_span("", self.span);
         write!(out, " {self}");
     }
 }
@@ -77,7 +72,7 @@ impl Shown<Toml> for Str<'_> {
 impl Shown<Toml> for Key<'_> {
     fn put(&self, out: &mut AnswerText) {
         put_string(out, &self.name, "");
-        put_span(out, "@", self.span);
+        out.put_span("@", self.span);
         out.put(": ");
     }
 }
@@ -109,17 +104,15 @@ pub fn put_value(alloc: Global, out: &mut AnswerText, depth: u32, value: &mut Va
             }
         }
     }
-    put_span(out, "@", value.span());
+    out.put_span("@", value.span());
 }
 
 #[cycle(value)]
 fn put_items(alloc: Global, out: &mut AnswerText, depth: u32, mut items: Vec<Value<'_>>) {
     out.put("[");
-    let mut is_behind = false;
     for item in items.iter_mut() {
-        out.put(if is_behind { ", " } else { "" });
+        out.between(", ");
         put_value(alloc, out, depth, item);
-        is_behind = true;
     }
     out.put("]");
     let_go(items);
@@ -129,14 +122,12 @@ fn put_items(alloc: Global, out: &mut AnswerText, depth: u32, mut items: Vec<Val
 fn put_entries(alloc: Global, out: &mut AnswerText, depth: u32, mut entries: Entries<'_>) {
     let names = names_of(alloc, out, &entries);
     out.put("{");
-    let mut is_behind = false;
     for name in names.items() {
         if let Some((key, mut value)) = entries.remove(name.as_str()) {
-            out.put(if is_behind { ", " } else { "" });
+            out.between(", ");
             key.put(out);
             put_value(alloc, out, depth, &mut value);
             let_go(value);
-            is_behind = true;
         }
     }
     out.put("}");

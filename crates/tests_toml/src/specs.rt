@@ -1,6 +1,5 @@
 //! Package specs: how they are read and printed, their order, and the crates that they match.
 use crate::Toml;
-use crate::printed::put_span;
 use crate::tokens::put_read;
 use crate::typed::put_table;
 use deny_text::{PathBuf, Span, Spanned, Text, TextMap, Texts};
@@ -9,6 +8,7 @@ use policy_parts::spec::{PackageSpec, PackageSpecOrExtended, Places, SpecIndex, 
 use policy_toml::{Deserialize, Value};
 use semver::{Version, VersionReq};
 use std::alloc::{AllocError, Global};
+use tests_files::tree::first_word;
 use tests_files::{AnswerText, Asked, Shown, let_go};
 
 /// Puts what a group makes of specs, and returns whether there is such a group.
@@ -26,10 +26,7 @@ pub fn put(asked: &Asked<'_>, out: &mut AnswerText) -> bool {
             let other = spec_at(alloc, behind, 8).ok();
             out.tried::<Toml, _>(spec_at(alloc, text, 3).ok().zip(other))
         }
-        "printed specs" => match spec_at(alloc, text, 3) {
-            Ok(spec) => out.write_fmt(spec),
-            Err(_) => out.want_memory(),
-        },
+        "printed specs" => out.printed(spec_at(alloc, text, 3)),
         "matches" => out.tried::<Toml, _>(among(alloc, text, behind)),
         "index" => out.tried::<Toml, _>(Some(alloc).zip(among(alloc, text, behind))),
         _ => return false,
@@ -55,7 +52,7 @@ impl Shown<Toml> for PackageSpec {
     fn put(&self, out: &mut AnswerText) {
         let name = &self.name.value;
         write!(out, "[{name}] {self}");
-        put_span(out, " at ", self.name.span);
+        out.put_span(" at ", self.name.span);
     }
 }
 
@@ -73,17 +70,12 @@ impl Shown<Toml> for TwoSpecs {
 
 /// The spec of a name and, behind a blank, a requirement.
 fn spec_at(alloc: Global, text: &str, start: usize) -> Result<PackageSpec, AllocError> {
-    let (name, requirement) = text.split_once(' ').unwrap_or((text, ""));
-    match Text::copy(alloc, name) {
-        Ok(value) => Ok(PackageSpec {
-            name: Spanned {
-                value,
-                span: Span { start, end: start },
-            },
-            version_req: VersionReq::parse(alloc, requirement).ok(),
-        }),
-        Err(error) => Err(error),
-    }
+    let (name, requirement) = first_word(text);
+    let span = Span { start, end: start };
+    Text::copy(alloc, name).map(|value| PackageSpec {
+        name: Spanned { value, span },
+        version_req: VersionReq::parse(alloc, requirement).ok(),
+    })
 }
 
 type WithNumber = PackageSpecOrExtended<u32>;
@@ -91,13 +83,10 @@ type WithNumber = PackageSpecOrExtended<u32>;
 /// A number beside a spec, converted to a smaller type and back; nothing where that is too small.
 fn converted(alloc: Global, text: &str) -> Result<Option<WithNumber>, AllocError> {
     let inner = text.parse::<u32>().ok();
-    match spec_at(alloc, "a", 3) {
-        Ok(spec) => match (WithNumber { spec, inner }).try_convert::<u8, _>() {
-            Ok(narrow) => Ok(Some(narrow.convert())),
-            Err(_) => Ok(None),
-        },
-        Err(error) => Err(error),
-    }
+    spec_at(alloc, "a", 3).map(|spec| {
+        let narrow = (WithNumber { spec, inner }).try_convert::<u8, _>();
+        narrow.ok().map(|narrow| narrow.convert())
+    })
 }
 
 impl Shown<Toml> for WithNumber {
@@ -122,28 +111,24 @@ impl Shown<Toml> for (PackageSpec, PackageSpec) {
 
 /// The crate of a name and, behind a blank, a version.
 fn krate_of(alloc: Global, text: &str) -> Option<Krate> {
-    let (text, version) = text.split_once(' ').unwrap_or((text, ""));
-    let names = Text::copy(alloc, text)
-        .ok()
-        .zip(Text::copy(alloc, text).ok());
-    match names.zip(PathBuf::copy(alloc, "Cargo.toml").ok()) {
-        Some(((name, id), manifest_path)) => Some(Krate {
-            name,
-            id,
-            manifest_path,
-            version: Version::parse(alloc, version).unwrap_or(Version::new(0, 0, 0)),
-            source: None,
-            authors: Texts::new(alloc),
-            repository: None,
-            description: None,
-            license: None,
-            license_file: None,
-            features: TextMap::new(alloc),
-            publish: None,
-            rust_version: None,
-        }),
-        None => None,
-    }
+    let (text, version) = first_word(text);
+    let (name, id) = (Text::copy(alloc, text).ok(), Text::copy(alloc, text).ok());
+    let parts = name.zip(id).zip(PathBuf::copy(alloc, "Cargo.toml").ok());
+    parts.map(|((name, id), manifest_path)| Krate {
+        name,
+        id,
+        manifest_path,
+        version: Version::parse(alloc, version).unwrap_or(Version::new(0, 0, 0)),
+        source: None,
+        authors: Texts::new(alloc),
+        repository: None,
+        description: None,
+        license: None,
+        license_file: None,
+        features: TextMap::new(alloc),
+        publish: None,
+        rust_version: None,
+    })
 }
 
 /// Specs, and the crate that is looked for among them.

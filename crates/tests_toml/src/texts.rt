@@ -1,5 +1,5 @@
 //! Whole texts of TOML: their values, what is at a path, and the types that are read from them.
-use crate::printed::{DEPTH, names_of, put_span, put_value};
+use crate::printed::{DEPTH, names_of, put_value};
 use crate::typed::{FIVE, put_at_a, put_table};
 use std::alloc::Global;
 use tests_files::{AnswerText, Asked, Shown, let_go};
@@ -42,7 +42,7 @@ fn put_root(asked: &Asked<'_>, out: &mut AnswerText, words: &str, root: &mut Val
         "a name behind a count" => put_table(alloc, out, root, &["count", ", ", "name"]),
         "a name, and then what is left" => {
             put_table(alloc, out, root, &["name, if any", ".."]);
-            put_span(out, ", left@", root.span());
+            out.put_span(", left@", root.span());
             put_table(alloc, out, root, &[", ", "name, if any", ".."]);
             put_table(alloc, out, root, &[", ", "on", ", ", "zz"]);
         }
@@ -68,7 +68,7 @@ fn put_found(out: &mut AnswerText, value: &Value<'_>) {
     if let Some(text) = value.as_str() {
         write!(out, "'{text}'");
     }
-    put_span(out, "@", value.span());
+    out.put_span("@", value.span());
 }
 
 fn put_names(alloc: Global, out: &mut AnswerText, root: &Value<'_>) {

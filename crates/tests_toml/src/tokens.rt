@@ -2,7 +2,7 @@
 ghost use Rattle.std.specs.Prelude.{◌≤◌, length};
 
 use crate::Toml;
-use crate::printed::{DEPTH, put_seen, put_span, put_value};
+use crate::printed::{DEPTH, put_seen, put_value};
 use crate::specs::put_specs;
 use deny_text::Span;
 use tests_files::{AnswerText, Asked, Shown, let_go};
@@ -80,7 +80,7 @@ impl Shown<Toml> for (Keys<'_>, usize) {
 impl Shown<Toml> for (Str<'_>, Span, usize) {
     fn put(&self, out: &mut AnswerText) {
         self.0.put(out);
-        put_span(out, "@", self.1);
+        out.put_span("@", self.1);
     }
 }
 
@@ -93,7 +93,7 @@ impl Shown<Toml> for (Scalar<'_>, Span, usize) {
             Scalar::Number(Number::Decimal(number)) => write!(out, "{number}/100"),
             Scalar::Boolean(value) => write!(out, "{value}"),
         }
-        put_span(out, "@", self.1);
+        out.put_span("@", self.1);
         write!(out, " to {}", self.2);
     }
 }

@@ -1,6 +1,6 @@
 //! Types that are read from values, key by key.
 use crate::Toml;
-use crate::printed::{put_seen, put_span};
+use crate::printed::put_seen;
 use deny_text::{Spanned, Text, Texts};
 use policy_toml::{DeserError, Deserialize, Hundredths, TableHelper, Value, deserialize_name};
 use std::alloc::Global;
@@ -127,13 +127,7 @@ fn put_key(
 }
 
 fn put_required<T: Display + Drop>(out: &mut AnswerText, read: Result<T, DeserError>) -> TypedRead {
-    match read {
-        Ok(read) => {
-            out.write_fmt(read);
-            Ok(())
-        }
-        Err(error) => Err(error),
-    }
+    read.map(|read| out.write_fmt(read))
 }
 
 impl Shown<Toml> for Text {
@@ -154,7 +148,7 @@ impl Shown<Toml> for Texts {
 impl<T: Shown<Toml>> Shown<Toml> for Spanned<T> {
     fn put(&self, out: &mut AnswerText) {
         self.value.put(out);
-        put_span(out, "@", self.span);
+        out.put_span("@", self.span);
     }
 }
 

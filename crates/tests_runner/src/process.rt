@@ -5,26 +5,10 @@ use std::io::ErrorKind;
 use tests_files::{Case, CaseEntry};
 use tests_text::system::{fill, kind_named};
 
-/// The words of some entries by the key `word`, and a folder, or the name of the error that it is reported
-/// with.
+/// The process of a case: its words are by the key `word`, those of the base where it has none of its own, and its folder is behind
+/// the key `folder`, or the name of the error that it is reported with.
 #[derive(Clone, Copy)]
-pub struct Process<'c> {
-    pub entries: &'c [CaseEntry],
-    pub folder: &'c str,
-}
-
-/// The process of a case; its words are those of the base, where it has none of its own.
-pub fn process_of<'c>(case: &Case<'c>) -> Process<'c> {
-    let entries = if case.has_own("word") {
-        case.own
-    } else {
-        case.base
-    };
-    Process {
-        entries,
-        folder: case.word("folder"),
-    }
-}
+pub struct Process<'c>(pub Case<'c>);
 
 /// The bytes of a word: the text below it, or else what is behind its key.
 fn bytes_of(entry: &CaseEntry) -> &[u8] {
@@ -36,22 +20,16 @@ fn bytes_of(entry: &CaseEntry) -> &[u8] {
 }
 
 /// The word at a place, counted from 0.
-fn word_at(entries: &[CaseEntry], place: usize) -> Option<&[u8]> {
-    let mut before: usize = 0;
-    for entry in entries {
-        if entry.key() == "word" {
-            if before == place {
-                return Some(bytes_of(entry));
-            }
-            before = before.saturating_add(1);
-        }
-    }
-    None
+fn word_at<'c>(case: &Case<'c>, place: usize) -> Option<&'c [u8]> {
+    let is_own = case.has_own("word");
+    let entries = if is_own { case.own } else { case.base };
+    let mut words = entries.iter().filter(|entry| entry.key() == "word");
+    words.nth(place).map(|entry| bytes_of(entry))
 }
 
 impl Env for Process<'_> {
     fn arg(&self, i: usize, buf: &mut [u8]) -> Result<usize, FillError> {
-        match word_at(self.entries, i) {
+        match word_at(&self.0, i) {
             Some(word) => match fill(word, buf) {
                 Some(count) => Ok(count),
                 None => Err(FillError::TooLong),
@@ -69,10 +47,11 @@ impl Env for Process<'_> {
     }
 
     fn current_dir(&self, buf: &mut [u8]) -> io::Result<usize> {
-        if !self.folder.starts_with('/') {
-            return Err(io::Error::from(kind_named(self.folder)));
+        let folder = self.0.word("folder");
+        if !folder.starts_with('/') {
+            return Err(io::Error::from(kind_named(folder)));
         }
-        match fill(self.folder.as_bytes(), buf) {
+        match fill(folder.as_bytes(), buf) {
             Some(count) => Ok(count),
             None => Err(io::Error::from(ErrorKind::NotFound)),
         }
