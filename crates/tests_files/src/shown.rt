@@ -67,7 +67,8 @@ impl AnswerText {
 
     /// Puts a text before each item of a list in brackets but the first, which is behind the opening one.
     pub fn between(&mut self, between: &str) {
-        if !matches!(self.text.as_str().as_bytes().last(), Some(b'[' | b'{')) {
+        let last = self.text.as_str().as_bytes().last().copied();
+        if !matches!(last, Some(b'[' | b'{')) {
             self.put(between);
         }
     }

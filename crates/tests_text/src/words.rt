@@ -182,7 +182,7 @@ fn put_names<T: FromWord + Drop>(out: &mut AnswerText, rows: &[OptionRow], optio
         if row.name == option
             && let OptionValues::Names(names) = row.values
         {
-            let read = names.iter().filter(|name| T::from_word(name).is_some());
+            let read = names.iter().filter(|name| T::from_word(**name).is_some());
             write!(out, "{} of {}", read.count(), names.len());
         }
     }

@@ -83,10 +83,11 @@ type WithNumber = PackageSpecOrExtended<u32>;
 /// A number beside a spec, converted to a smaller type and back; nothing where that is too small.
 fn converted(alloc: Global, text: &str) -> Result<Option<WithNumber>, AllocError> {
     let inner = text.parse::<u32>().ok();
-    spec_at(alloc, "a", 3).map(|spec| {
-        let narrow = (WithNumber { spec, inner }).try_convert::<u8, _>();
-        narrow.ok().map(|narrow| narrow.convert())
-    })
+    let spec = spec_at(alloc, "a", 3)?;
+    match (WithNumber { spec, inner }).try_convert::<u8, _>() {
+        Ok(narrow) => Ok(Some(narrow.convert())),
+        Err(_) => Ok(None),
+    }
 }
 
 impl Shown<Toml> for WithNumber {
