@@ -97,8 +97,8 @@ pub fn tree_of(alloc: Global, case: &Case<'_>) -> io::Result<MemTree> {
     Ok(tree)
 }
 
-/// Lets the call of a tree fail whose number is this word, counted from 1; at 0 and without a word none. Returns whether that could
-/// be done.
+/// Lets the call of a tree fail whose number is this word, counted from 1; at 0 and without a word none. Returns whether that
+/// could be done.
 pub fn fail_call(tree: &mut MemTree, word: &str) -> bool {
     match number(word) {
         Some(call) if call > 0 => tree.fail_call(call).is_ok(),

@@ -7,8 +7,8 @@ use std::alloc::Global;
 use tests_files::AnswerText;
 use tree_core::{FolderEntries, MemTree, NamesPaths, Sink, SinkFailed, Tree, TreeError};
 
-/// A tree that counts its calls, and keeps a line for each: what was asked, the path, and the answer in a word. It keeps the paths that
-/// it was given last.
+/// A tree that counts its calls, and keeps a line for each: what was asked, the path, and the answer in a word. It keeps the paths
+/// that it was given last.
 #[derive(Drop)]
 pub struct CountedTree {
     pub tree: MemTree,

@@ -5,8 +5,8 @@ use std::io::ErrorKind;
 use tests_files::{Case, CaseEntry};
 use tests_text::system::{fill, kind_named};
 
-/// The process of a case: its words are by the key `word`, those of the base where it has none of its own, and its folder is behind
-/// the key `folder`, or the name of the error that it is reported with.
+/// The process of a case: its words are by the key `word`, those of the base where it has none of its own, and its folder is
+/// behind the key `folder`, or the name of the error that it is reported with.
 #[derive(Clone, Copy)]
 pub struct Process<'c>(pub Case<'c>);
 

@@ -33,8 +33,8 @@ fn end_over(alloc: Global, case: &Case<'_>, mut stage: Stage) -> ProcessEnd {
     ProcessEnd { ended_at, stage }
 }
 
-/// How the process of a case ends over its tree, with so many bytes of room on standard error; none where that can't be put. By the
-/// key `fail` is the number of a call of the tree that fails.
+/// How the process of a case ends over its tree, with so many bytes of room on standard error; none where that can't be put. By
+/// the key `fail` is the number of a call of the tree that fails.
 fn end_in(alloc: Global, case: &Case<'_>, room: usize) -> Option<ProcessEnd> {
     let setting = Setting {
         call: number_in(case.word("fail")) as u64,
