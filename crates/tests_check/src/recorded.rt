@@ -129,8 +129,9 @@ fn license(alloc: Global, text: &str) -> Option<LicenseInfo> {
     })
 }
 
-/// A list of one item.
-fn one_of<T: Drop>(alloc: Global, item: T) -> Option<ListOf<T>> {
+/// A list of an item, if there is one.
+fn one_of<T: Drop>(alloc: Global, item: Option<T>) -> Option<ListOf<T>> {
+    let item = item?;
     let mut list = ListOf::new(alloc);
     list.push(item).ok()?;
     Some(list)
@@ -162,8 +163,7 @@ fn gathered_of<'r>(recorded: &'r Recorded<'r>) -> Option<Gathered<'r>> {
         exceptions,
         kept: KeptFiles::new(alloc),
     });
-    let licenses = license.and_then(|license| one_of(alloc, license));
-    licenses.map(|nfos| Gathered {
+    one_of(alloc, license).map(|nfos| Gathered {
         recorded,
         summary: Summary { nfos },
     })
