@@ -182,7 +182,8 @@ impl Shown<Printing> for Diag {
 }
 
 /// Puts how many findings a pack has, whether it is empty, and what each has that is taken out of it.
-fn put_kept(out: &mut AnswerText, pack: Pack) {
+fn put_kept(out: &mut AnswerText, given: Given) {
+    let Given { pack, .. } = given;
     write!(out, "{} {}", pack.len(), pack.is_empty());
     for finding in pack {
         finding.put(out);
@@ -195,7 +196,7 @@ impl Room for Given {
         match asked.group {
             "inside" => put_answered(out, alloc, case.given("inside"), Inside { files }),
             "kept" => match given_of(alloc, case) {
-                Some(Given { pack, files: _ }) => put_kept(out, pack),
+                Some(given) => put_kept(out, given),
                 None => out.want_memory(),
             },
             "written" | "answer" => {

@@ -15,11 +15,12 @@ pub struct Spdx {
 impl Spdx {
     /// The text of a file, or none.
     pub fn text(&self, name: &str) -> &str {
-        let mut files = PATHS.iter().zip(&self.texts);
-        match files.find(|file| file.0.strip_prefix("spdx/") == Some(name)) {
-            Some((_, text)) => text.as_str(),
-            None => "",
+        for (path, text) in PATHS.iter().zip(&self.texts) {
+            if path.strip_prefix("spdx/") == Some(name) {
+                return text.as_str();
+            }
         }
+        ""
     }
 }
 
